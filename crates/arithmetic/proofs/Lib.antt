@@ -1,0 +1,16 @@
+pub mod SeqLaws
+pub mod RoundLaws
+pub mod RangeLaws
+pub mod PatternLaws
+pub mod NarrowLaws
+pub mod IntervalLaws
+pub mod Signed
+pub mod Error
+pub mod Units
+pub mod Quotient
+pub mod Plans
+pub mod Itself
+pub mod Steps
+pub mod Ends
+pub mod Rising
+pub mod Mono

@@ -1,0 +1,28 @@
+-- Lists that every stage uses. Definitions only.
+use Prim.Native.Nat.{ℕ, zero, suc}
+use mathlib.Core.Bool.{Bool, true, cond, _&&_}
+use mathlib.Core.List.{List, [], _∷_, _++_, map}
+
+-- i, i + 1, .., k of them
+unfoldable pub upto : ℕ → ℕ → List ℕ
+upto zero i = []
+upto (suc k) i = i ∷ upto k (suc i)
+
+-- f 0, f 1, .., n of them
+unfoldable pub tabulate : {A : Type 0} → ℕ → (ℕ → A) → List A
+tabulate n f = map f (upto n 0)
+
+-- the elements that pass a test
+unfoldable pub keep : {A : Type 0} → (A → Bool) → List A → List A
+keep p [] = []
+keep p (x ∷ xs) = cond (p x) (x ∷ keep p xs) (keep p xs)
+
+-- whether all elements pass a test
+unfoldable pub all : {A : Type 0} → (A → Bool) → List A → Bool
+all p [] = true
+all p (x ∷ xs) = p x && all p xs
+
+-- each element's list, one after another
+unfoldable pub each : {A B : Type 0} → (A → List B) → List A → List B
+each f [] = []
+each f (x ∷ xs) = f x ++ each f xs

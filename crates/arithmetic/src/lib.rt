@@ -1,0 +1,5 @@
+// Arithmetic below region finding: the float helpers and the interval limits.
+pub mod intervals;
+pub mod narrow;
+pub mod rounding;
+pub mod whole;

@@ -1,0 +1,2 @@
+// The network of regions: edges between regions that see each other, and the merges that join them.
+pub mod edges;

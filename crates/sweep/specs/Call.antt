@@ -1,0 +1,51 @@
+-- The call of the sweep entry: from the inputs and everything lent to the answer number and everything lent afterwards. Definitions only.
+use Prim.Native.Nat.{ℕ}
+use mathlib.Core.List.{List, [], _∷_, _++_}
+use mathlib.Core.Option.{Option, none, some}
+use lib.ListN.{length, drop, replicate}
+use lib.IntN.{ℤ, pos}
+use lib.Ieee.{Float}
+use Rattle.arithmetic.specs.Rounding.{real}
+use Rattle.sweep.specs.Sweep.{Sweep, unfolded}
+use Rattle.sweep.specs.Checks.{Lent, Outcome, refused, accepted, gatesIn, wordsFor, floatsFor, asked, asked9, ownLimits}
+
+-- the counts, the pair and the two work memories
+pub record Memory : Type 0 where
+  pub counts : List ℤ
+  pub pair : List ℕ
+  pub words : List ℕ
+  pub floats : List Float
+
+-- an answer number and the memory afterwards
+pub record Answer : Type 0 where
+  pub number : ℕ
+  pub memory : Memory
+
+-- how long the slices are
+unfoldable pub lengths : Memory → Lent
+lengths m = record { counts = length (m .counts); pair = length (m .pair); words = length (m .words); floats = length (m .floats) }
+
+-- k zeros at the front of a work memory, any further words as they were
+unfoldable pub cleared : {A : Type 0} → A → ℕ → List A → List A
+cleared z k l = replicate k z ++ drop k l
+
+-- the work memory that a sweep of n gates asks for is zero
+unfoldable pub clearedFor : ℕ → Memory → Memory
+clearedFor n m = record {
+  counts = m .counts;
+  pair = m .pair;
+  words = cleared 0 (wordsFor n) (m .words);
+  floats = cleared (real (pos 0)) (floatsFor n) (m .floats);
+}
+
+-- the end of a call that put question 9
+unfoldable pub ending : Outcome → Memory → Answer
+ending (refused k) m = record { number = k; memory = m }
+ending (accepted cs r k) m = record { number = 0; memory = record { counts = cs; pair = r ∷ k ∷ []; words = m .words; floats = m .floats } }
+
+-- the call: a refusal by questions 1 to 8 leaves everything; after that the work memory is cleared
+unfoldable pub call : Sweep → Memory → Answer
+call s m = elim (asked s (lengths m)) [
+  | none ↦ ending (asked9 (unfolded s (ownLimits s))) (clearedFor (gatesIn s) m)
+  | some k ↦ record { number = k; memory = m }
+]

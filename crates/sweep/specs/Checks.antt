@@ -1,0 +1,109 @@
+-- The questions put to a sweep, and the answer. Definitions only.
+use Prim.Native.Nat.{ℕ, zero, suc, _+_, _*_}
+use mathlib.Core.Bool.{Bool, true, false, _&&_}
+use mathlib.Core.List.{List, [], _∷_}
+use mathlib.Core.Option.{Option, none, some}
+use lib.Dec.{eqb, leb}
+use lib.ListN.{length}
+use lib.IntN.{ℤ, pos, negsuc}
+use lib.Ieee.{Float}
+use Rattle.arithmetic.specs.Seq.{all}
+use Rattle.arithmetic.specs.Intervals.{valid, range, numberFor, limitsFor, sized, fair}
+use Rattle.sweep.specs.Sweep.{Sweep, Unfolded, unfolded}
+
+-- a question's number and whether its answer is yes
+pub record Question : Type 0 where
+  pub number : ℕ
+  pub yes : Bool
+
+-- the same
+abbrev pub ask : ℕ → Bool → Question
+ask k b = record { number = k; yes = b }
+
+-- the number of the first question that gets a no
+unfoldable pub firstNo : List Question → Option ℕ
+firstNo [] = none
+firstNo (q ∷ qs) = elim (q .yes) [ true ↦ firstNo qs | false ↦ some (q .number) ]
+
+-- how long the slices lent are: counts, pair, work memory
+pub record Lent : Type 0 where
+  pub counts : ℕ
+  pub pair : ℕ
+  pub words : ℕ
+  pub floats : ℕ
+
+-- the gates that a sweep should have
+unfoldable pub gatesIn : Sweep → ℕ
+gatesIn s = s .shape .rays * s .shape .gates
+
+-- how many words of u32 a sweep of n gates asks for
+unfoldable pub wordsFor : ℕ → ℕ
+wordsFor n = 96 * n + 64
+
+-- and of f64
+unfoldable pub floatsFor : ℕ → ℕ
+floatsFor n = 16 * n + 16
+
+-- question 1: rays and gates per ray
+unfoldable pub inSize : ℕ → ℕ → Bool
+inSize rays gates = leb rays 720 && leb gates 2000
+
+-- question 2: the lengths
+unfoldable pub inLength : Sweep → Lent → Bool
+inLength s l = let n = gatesIn s in eqb (length (s .vel)) n && eqb (length (s .mask)) n && eqb (l .counts) n && eqb (l .pair) 2
+
+-- question 3: the mask bytes
+unfoldable pub inMask : List ℕ → Bool
+inMask mask = all (λ m. leb m 1) mask
+
+-- question 4: the work memory
+unfoldable pub inRoom : Sweep → Lent → Bool
+inRoom s l = let n = gatesIn s in leb (wordsFor n) (l .words) && leb (floatsFor n) (l .floats)
+
+-- question 6: the options
+unfoldable pub inOptions : Sweep → Bool
+inOptions s = leb 1 (s .splits) && leb (s .splits) 9999 && leb (s .shape .skipRays) 1000 && leb (s .shape .skipGates) 1000 && leb (s .centred) 1 && leb (s .shape .wrap) 1
+
+-- question 7: the valid velocities
+unfoldable pub inSpeed : List Float → List ℕ → Bool
+inSpeed vel mask = all fair (valid vel mask)
+
+-- z ≤ k
+unfoldable pub atMost : ℕ → ℤ → Bool
+atMost k (pos n) = leb n k
+atMost k (negsuc n) = true
+
+-- question 8: the number of limits
+unfoldable pub inLimits : Sweep → Bool
+inLimits s = atMost 10000 (numberFor (s .nyquist) (s .splits) (range (valid (s .vel) (s .mask))))
+
+-- a sweep's own limits
+unfoldable pub ownLimits : Sweep → List Float
+ownLimits s = limitsFor (s .nyquist) (s .splits) (range (valid (s .vel) (s .mask)))
+
+-- questions 1 to 8, in their order
+unfoldable pub asked : Sweep → Lent → Option ℕ
+asked s l = firstNo (
+    ask 1 (inSize (s .shape .rays) (s .shape .gates))
+    ∷ ask 2 (inLength s l)
+    ∷ ask 3 (inMask (s .mask))
+    ∷ ask 4 (inRoom s l)
+    ∷ ask 5 (sized (s .nyquist))
+    ∷ ask 6 (inOptions s)
+    ∷ ask 7 (inSpeed (s .vel) (s .mask))
+    ∷ ask 8 (inLimits s)
+    ∷ []
+    )
+
+-- the answer: a refusal by its number, or the counts, regions and number of merges
+pub data Outcome : Type 0 where
+  refused : ℕ → Outcome
+  accepted : List ℤ → ℕ → ℕ → Outcome
+
+-- question 9
+unfoldable pub asked9 : Unfolded → Outcome
+asked9 u = elim (u .good) [ true ↦ accepted (u .counts) (u .regions) (length (u .merges)) | false ↦ refused 9 ]
+
+-- the answer of a call
+unfoldable pub outcome : Sweep → Lent → Outcome
+outcome s l = elim (asked s l) [ none ↦ asked9 (unfolded s (ownLimits s)) | some k ↦ refused k ]

@@ -1,0 +1,10 @@
+-- A mark that opens the definitions of this crate and of those below: `unfolding evaluating` under a signature lets antt compute them.
+use Rattle.sweep.specs.Sweep
+use Rattle.sweep.specs.Checks
+use Rattle.sweep.specs.Call
+use Rattle.sweep.specs.Velocity
+use Rattle.network.specs.Evaluating as Below
+
+unfoldable pub evaluating : Unit {0}
+unfolding Below.evaluating Sweep.regionsOf Sweep.pairsOf Sweep.sizeIn Sweep.sizes Sweep.networkOf Sweep.final Sweep.none Sweep.early Sweep.weighed Sweep.gatesOf Sweep.meanOf Sweep.ended Sweep.gateCount Sweep.offsetOf Sweep.finished Sweep.unfoldedBy Sweep.unfolded Checks.firstNo Checks.gatesIn Checks.wordsFor Checks.floatsFor Checks.inSize Checks.inLength Checks.inMask Checks.inRoom Checks.inOptions Checks.inSpeed Checks.atMost Checks.inLimits Checks.ownLimits Checks.asked Checks.asked9 Checks.outcome Call.lengths Call.cleared Call.clearedFor Call.ending Call.call Velocity.unfoldedAt Velocity.velocities Velocity.fourLong Velocity.inCounts Velocity.askedVelocity Velocity.callVelocity
+evaluating = tt

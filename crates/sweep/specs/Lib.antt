@@ -1,0 +1,5 @@
+pub mod Sweep
+pub mod Checks
+pub mod Call
+pub mod Velocity
+pub mod Evaluating

@@ -1,0 +1,109 @@
+-- sweep.rs: the counts of a sweep by given limits. Definitions only.
+use Prim.Native.Nat.{ℕ, zero, suc, _+_, _*_}
+use mathlib.Core.Bool.{Bool, true, false, cond, not, _&&_, _||_}
+use mathlib.Core.List.{List, [], _∷_, map}
+use lib.Dec.{eqb, ltb}
+use lib.ListN.{length, getD}
+use lib.IntN.{ℤ, pos, _+ℤ_, _-ℤ_, _*ℤ_}
+use lib.Ieee.{Float, binary64, div}
+use Rattle.arithmetic.specs.Seq.{upto, keep, all, tabulate}
+use Rattle.arithmetic.specs.Rounding.{nearestWhole, real}
+use Rattle.arithmetic.specs.Intervals.{folded}
+use Rattle.labels.specs.Label.{Found}
+use Rattle.labels.specs.Regions.{regions}
+use Rattle.network.specs.Edges.{Shape, Pair, pairs, used}
+use Rattle.network.specs.Network.{Region, State, start, merges, replay, trace, inRange, countOf}
+
+-- the inputs of a call, but for what is lent
+pub record Sweep : Type 0 where
+  pub shape : Shape
+  pub splits : ℕ
+  pub centred : ℕ
+  pub nyquist : Float
+  pub vel : List Float
+  pub mask : List ℕ
+
+-- the regions of a sweep by these limits
+unfoldable pub regionsOf : Sweep → List Float → Found
+regionsOf s limits = regions (s .shape .gates) (s .vel) (s .mask) limits
+
+-- the pairs
+unfoldable pub pairsOf : Sweep → Found → List Pair
+pairsOf s f = pairs (s .shape) (f .labels) (s .vel)
+
+-- how many gates have label l
+unfoldable pub sizeIn : List ℕ → ℕ → ℕ
+sizeIn labels l = length (keep (eqb l) labels)
+
+-- the sizes of regions 1, 2, ..
+unfoldable pub sizes : Found → List ℕ
+sizes f = map (sizeIn (f .labels)) (upto (f .number) 1)
+
+-- the network before the first merge
+unfoldable pub networkOf : Sweep → Found → State
+networkOf s f = start (folded (s .nyquist)) (used (f .number) (pairsOf s f)) (sizes f)
+
+-- the network after the last merge
+unfoldable pub final : State → State
+final n = replay n (merges n)
+
+-- whether there are no pairs
+unfoldable pub none : List Pair → Bool
+none [] = true
+none (p ∷ ps) = false
+
+-- the early ends: below two regions, or no pairs
+unfoldable pub early : Sweep → Found → Bool
+early s f = ltb (f .number) 2 || none (pairsOf s f)
+
+-- size times count, summed
+unfoldable pub weighed : List Region → ℤ
+weighed [] = pos 0
+weighed (r ∷ rs) = (pos (r .size) *ℤ r .count) +ℤ weighed rs
+
+-- the gates of all regions
+unfoldable pub gatesOf : List Region → ℕ
+gatesOf [] = 0
+gatesOf (r ∷ rs) = r .size + gatesOf rs
+
+-- the mean count of the labelled gates, rounded
+unfoldable pub meanOf : List Region → ℤ
+meanOf rs = nearestWhole (div binary64 (real (weighed rs)) (real (pos (gatesOf rs))))
+
+-- regions found, merges in order, each region's count, the offset, the gates' counts, and whether question 9 gets a yes at each merge
+pub record Unfolded : Type 0 where
+  pub regions : ℕ
+  pub merges : List ℕ
+  pub offset : ℤ
+  pub counts : List ℤ
+  pub good : Bool
+
+-- an early end: all counts 0
+unfoldable pub ended : Sweep → Found → Unfolded
+ended s f = record { regions = f .number; merges = []; offset = pos 0; counts = tabulate (length (s .mask)) (λ g. pos 0); good = true }
+
+-- the count of a gate with mask byte m and its region's count c; a masked gate gets 0
+unfoldable pub gateCount : ℤ → ℕ → ℤ → ℤ
+gateCount off m c = cond (eqb m 1) (c -ℤ off) (pos 0)
+
+-- what centring takes away
+unfoldable pub offsetOf : Sweep → State → ℤ
+offsetOf s n = cond (eqb (s .centred) 1) (meanOf (n .regions)) (pos 0)
+
+-- the end after the last merge, n being the first network
+unfoldable pub finished : Sweep → Found → State → Unfolded
+finished s f n = record {
+  regions = f .number;
+  merges = merges n;
+  offset = offsetOf s (final n);
+  counts = tabulate (length (s .mask)) (λ g. gateCount (offsetOf s (final n)) (getD (s .mask) g 0) (countOf (final n .regions) (getD (f .labels) g 0)));
+  good = all inRange (trace n (merges n));
+}
+
+-- the sweep with these regions
+unfoldable pub unfoldedBy : Sweep → Found → Unfolded
+unfoldedBy s f = elim (early s f) [ true ↦ ended s f | false ↦ finished s f (networkOf s f) ]
+
+-- the sweep with these limits
+unfoldable pub unfolded : Sweep → List Float → Unfolded
+unfolded s limits = unfoldedBy s (regionsOf s limits)

@@ -1,0 +1,60 @@
+-- The second entry: the unfolded velocity, and its call. Definitions only.
+use Prim.Native.Nat.{ℕ, _*_}
+use mathlib.Core.Bool.{Bool, true, false, cond, not, _&&_, _||_}
+use mathlib.Core.List.{List, [], _∷_}
+use mathlib.Core.Option.{Option, none, some}
+use lib.Dec.{eqb}
+use lib.ListN.{length, getD}
+use lib.IntN.{ℤ, pos}
+use lib.Ieee.{Float, nan, binary64, add, mul}
+use Rattle.arithmetic.specs.Seq.{upto, all, tabulate}
+use Rattle.arithmetic.specs.Rounding.{real}
+use Rattle.arithmetic.specs.Intervals.{folded, sized}
+use Rattle.network.specs.Network.{bounded}
+use Rattle.sweep.specs.Checks.{ask, firstNo, inSize, inMask, inSpeed}
+
+-- the inputs of a call of the second entry
+pub record Counted : Type 0 where
+  pub rays : ℕ
+  pub gates : ℕ
+  pub nyquist : Float
+  pub vel : List Float
+  pub mask : List ℕ
+  pub counts : List ℤ
+
+-- a valid gate's velocity in f64 + count × (2 × Nyquist); 0 at a masked gate
+unfoldable pub unfoldedAt : Float → Float → ℕ → ℤ → Float
+unfoldedAt nyq v m c = cond (eqb m 1) (add binary64 v (mul binary64 (real c) (folded nyq))) (real (pos 0))
+
+-- the unfolded velocities
+unfoldable pub velocities : Counted → List Float
+velocities u = tabulate (u .rays * u .gates) (λ g. unfoldedAt (u .nyquist) (getD (u .vel) g nan) (getD (u .mask) g 0) (getD (u .counts) g (pos 0)))
+
+-- question 2, of four slices, k being the length of the one that is written
+unfoldable pub fourLong : Counted → ℕ → Bool
+fourLong u k = let n = u .rays * u .gates in eqb (length (u .vel)) n && eqb (length (u .mask)) n && eqb (length (u .counts)) n && eqb k n
+
+-- question 10: the counts at valid gates
+unfoldable pub inCounts : Counted → Bool
+inCounts u = all (λ g. not (eqb (getD (u .mask) g 0) 1) || bounded 2000 (getD (u .counts) g (pos 0))) (upto (u .rays * u .gates) 0)
+
+-- questions 1, 2, 3, 5, 7 and 10
+unfoldable pub askedVelocity : Counted → ℕ → Option ℕ
+askedVelocity u k = firstNo (
+    ask 1 (inSize (u .rays) (u .gates))
+    ∷ ask 2 (fourLong u k)
+    ∷ ask 3 (inMask (u .mask))
+    ∷ ask 5 (sized (u .nyquist))
+    ∷ ask 7 (inSpeed (u .vel) (u .mask))
+    ∷ ask 10 (inCounts u)
+    ∷ []
+    )
+
+-- an answer number and the velocities written
+pub record Written : Type 0 where
+  pub number : ℕ
+  pub unfolded : List Float
+
+-- the call: a refusal leaves what was lent
+unfoldable pub callVelocity : Counted → List Float → Written
+callVelocity u out = elim (askedVelocity u (length out)) [ none ↦ record { number = 0; unfolded = velocities u } | some k ↦ record { number = k; unfolded = out } ]

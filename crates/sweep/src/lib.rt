@@ -1,0 +1,1 @@
+// Definitions alone stand here as yet: see specs/.
