@@ -1,4 +1,5 @@
 pub mod SeqLaws
+pub mod SegLaws
 pub mod RoundLaws
 pub mod RangeLaws
 pub mod PatternLaws

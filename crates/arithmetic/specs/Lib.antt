@@ -1,4 +1,5 @@
 pub mod Seq
+pub mod Seg
 pub mod Rounding
 pub mod Intervals
 pub mod Asked

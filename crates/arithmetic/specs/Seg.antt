@@ -1,0 +1,17 @@
+-- Parts of a lent slice, as the contracts on memory have them. Definitions only.
+use Prim.Native.Nat.{ℕ, suc, _+_, _≤_, _<_}
+use mathlib.Core.List.{List, [], _∷_}
+use lib.ListN.{take, drop, set}
+
+-- the n elements of w from b
+unfoldable pub seg : {A : Type 0} → List A → ℕ → ℕ → List A
+seg w b n = take n (drop b w)
+
+-- w with vs stored from b on
+unfoldable pub put : {A : Type 0} → List A → ℕ → List A → List A
+put w b [] = w
+put w b (v ∷ vs) = put (set w b v) (suc b) vs
+
+-- no index lies in both the m elements from a and the n from b
+abbrev pub Apart : ℕ → ℕ → ℕ → ℕ → Type 0
+Apart a m b n = (j : ℕ) → a ≤ j → j < a + m → b ≤ j → j < b + n → ⊥
