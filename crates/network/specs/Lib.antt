@@ -1,3 +1,11 @@
 pub mod Edges
 pub mod Network
+pub mod Sees
+pub mod GatePairs
+pub mod Order
+pub mod Sort
+pub mod TwoKeys
+pub mod Sorts
+pub mod Gather
+pub mod Whole
 pub mod Evaluating

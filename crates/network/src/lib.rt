@@ -1,2 +1,3 @@
 // The network of regions: edges between regions that see each other, and the merges that join them.
 pub mod edges;
+pub mod sort;
