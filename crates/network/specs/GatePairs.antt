@@ -56,7 +56,7 @@ pub record Sheet (f : Frame) (n : ℕ) (w : List ℕ) : Type 0 where
   pub room : 9 * n ≤ length w
   pub small : n < 2 ^ 32
 
--- the eqb, with a gate and room for k more pairs
+-- the same, with a gate and room for k more pairs
 pub record Place (f : Frame) (n : ℕ) (w : List ℕ) (g c k : ℕ) : Type 0 where
   pub whole : n ≡ f .rays * f .gates
   pub room : 9 * n ≤ length w

@@ -1,5 +1,6 @@
 pub mod Edges
 pub mod Network
+pub mod Simple
 pub mod Sees
 pub mod GatePairs
 pub mod Order
@@ -8,4 +9,14 @@ pub mod TwoKeys
 pub mod Sorts
 pub mod Gather
 pub mod Whole
+pub mod Tree
+pub mod Mem
+pub mod Steps
+pub mod Does
+pub mod Net
+pub mod Chain
+pub mod Settle
+pub mod Rep
+pub mod TurnIs
+pub mod Begin
 pub mod Evaluating

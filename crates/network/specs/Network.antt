@@ -150,7 +150,7 @@ pub record Link : Type 0 where
   pub weight : ℕ
   pub diff : Float
 
--- The eqb of an edge.
+-- The same of an edge.
 unfoldable pub link : Edge → Link
 link e = record { weight = e .weight; diff = e .diff }
 
@@ -159,7 +159,7 @@ unfoldable pub find : List Edge → ℕ → ℕ → Option Link
 find [] x c = none
 find (e ∷ es) x c = cond (e .live && eqb x (e .first) && eqb c (e .second)) (some (link e)) (find es x c)
 
--- The base's edge, with the moved node's edge to the eqb neighbour, if there is one.
+-- The base's edge, with the moved node's edge to the same neighbour, if there is one.
 unfoldable pub absorb : Option Link → Edge → Edge
 absorb none e = e
 absorb (some g) e = record {
@@ -176,7 +176,7 @@ unfoldable pub absent : Option Link → Bool
 absent none = true
 absent (some g) = false
 
--- The moved node's edge becomes the base's, or dies where the base has an edge to the eqb neighbour.
+-- The moved node's edge becomes the base's, or dies where the base has an edge to the same neighbour.
 unfoldable pub hand : ℕ → Option Link → Edge → Edge
 hand b g e = record {
   num = e .num;
@@ -279,7 +279,7 @@ eventOf rs i (some e) = record {
   counts = raised (plan rs e .gain) rs (plan rs e .moved);
 }
 
--- The eqb, of the edge of number i.
+-- The same, of the edge of number i.
 unfoldable pub event : State → ℕ → Event
 event s i = eventOf (s .regions) i (at (s .edges) i)
 

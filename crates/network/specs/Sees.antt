@@ -29,7 +29,7 @@ pub record Inside (f : Frame) (g : ℕ) : Type 0 where
   pub inside : g < f .rays * f .gates
   pub small : f .rays * f .gates < 2 ^ 32
 
--- the eqb with the labels of all gates
+-- the same with the labels of all gates
 pub record Looks (f : Frame) (labels : List ℕ) (g : ℕ) : Type 0 where
   pub whole : length labels ≡ f .rays * f .gates
   pub inside : g < f .rays * f .gates

@@ -9,7 +9,6 @@ use Rattle.network.proofs.edges.difference.Statement.{statement}
 use Rattle.network.proofs.edges.difference.Tie as tie
 use Rattle.network.proofs.edges.difference.Reads as reads
 use Rattle.network.proofs.edges.difference.Lts as lts
-
 use Rattle.std.proofs.num.f32_to_f64_with_nan.Reads as f32-to-f64-with-nan-reads
 
 -- src/lib.rt:288:9

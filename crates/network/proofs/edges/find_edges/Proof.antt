@@ -4,7 +4,7 @@ use mathlib.Core.List.{List, [], _∷_, _++_}
 use Prim.Native.Nat.{ℕ, zero, suc, _+_, _-_, _*_, _≤_, _<_}
 use lib.ListN.{length, getD, set, take, drop, replicate, length-set}
 use borrow.Author.Needs.{needs}
-use Rattle.network.proofs.Assembly.{sheet, sorts, gathers, edged}
+use Rattle.network.proofs.edges.Assembly.{sheet, sorts, gathers, edged}
 use Rattle.network.proofs.edges.find_edges.Statement.{statement}
 use Rattle.network.proofs.edges.find_edges.Tie as tie
 use Rattle.network.proofs.edges.find_edges.Reads as reads

@@ -4,9 +4,9 @@ use mathlib.Core.Path.{_≡_, refl, sym, ap, _∙_}
 use mathlib.Core.List.{List, [], _∷_, _++_}
 use Prim.Native.Nat.{ℕ, zero, suc, _+_, _-_, _*_, _≤_, _<_}
 use lib.ListN.{length, getD, set, take, drop, replicate, length-set}
-use Rattle.network.proofs.Going.{lw, ld}
+use Rattle.network.proofs.edges.Going.{lw, ld}
 use Rattle.network.specs.Edges.{begun}
-use Rattle.network.proofs.Going.{Going, going-begin, going-ready, going-slot, going-on, going-end, none-gathered}
+use Rattle.network.proofs.edges.Going.{Going, going-begin, going-ready, going-slot, going-on, going-end, none-gathered}
 use Rattle.network.proofs.edges.gather.Statement.{statement}
 use Rattle.network.proofs.edges.gather.Tie as tie
 use Rattle.network.proofs.edges.gather.Reads as reads

@@ -4,7 +4,7 @@ use mathlib.Core.List.{List, [], _∷_, _++_}
 use Prim.Native.Nat.{ℕ, zero, suc, _+_, _-_, _*_, _≤_, _<_}
 use lib.ListN.{length, getD, set, take, drop, replicate, length-set}
 use borrow.Author.Needs.{needs}
-use Rattle.network.proofs.Going.{turned-on, turned-off}
+use Rattle.network.proofs.edges.Going.{turned-on, turned-off}
 use Rattle.network.specs.Gather.{pairAt}
 use Rattle.network.proofs.edges.gather_one.Statement.{statement}
 use Rattle.network.proofs.edges.gather_one.Tie as tie

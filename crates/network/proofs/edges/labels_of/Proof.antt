@@ -4,7 +4,7 @@ use mathlib.Core.Path.{_≡_, refl, sym, ap, _∙_}
 use mathlib.Core.List.{List, [], _∷_, _++_}
 use Prim.Native.Nat.{ℕ, zero, suc, _+_, _-_, _*_, _≤_, _<_}
 use lib.ListN.{length, getD, set, take, drop, replicate, length-set}
-use Rattle.network.proofs.Fills.{Turn, turn, labels-begin}
+use Rattle.network.proofs.edges.Fills.{Turn, turn, labels-begin}
 use Rattle.network.specs.Sorts.{labelsOf}
 use Rattle.arithmetic.specs.Seg.{put}
 use Rattle.network.proofs.edges.labels_of.Statement.{statement}

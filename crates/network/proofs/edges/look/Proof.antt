@@ -5,8 +5,8 @@ use mathlib.Core.List.{List, [], _∷_, _++_}
 use Prim.Native.Nat.{ℕ, zero, suc, _+_, _-_, _*_, _≤_, _<_}
 use lib.ListN.{length, getD, set, take, drop, replicate, length-set}
 use mathlib.Core.Option.{some, none}
-use Rattle.network.proofs.Looking.{none-on, seen-on, skip-on, last-on, begins}
-use Rattle.network.proofs.Next.{next-in}
+use Rattle.network.proofs.edges.Looking.{none-on, seen-on, skip-on, last-on, begins}
+use Rattle.network.proofs.edges.Next.{next-in}
 use Rattle.network.specs.Sees.{shape, way, answer}
 use Rattle.network.specs.Edges.{sees, next}
 use Rattle.network.specs.Edges as edges

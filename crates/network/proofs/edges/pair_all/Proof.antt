@@ -4,8 +4,8 @@ use mathlib.Core.Path.{_≡_, refl, sym, ap, _∙_}
 use mathlib.Core.List.{List, [], _∷_, _++_}
 use Prim.Native.Nat.{ℕ, zero, suc, _+_, _-_, _*_, _≤_, _<_}
 use lib.ListN.{length, getD, set, take, drop, replicate, length-set}
-use Rattle.network.proofs.Stored.{adds-length}
-use Rattle.network.proofs.PairTurn.{scan-begin, scan-place, scan-on, scan-most, scan-end}
+use Rattle.network.proofs.edges.Stored.{adds-length}
+use Rattle.network.proofs.edges.PairTurn.{scan-begin, scan-place, scan-on, scan-most, scan-end}
 use Rattle.network.specs.GatePairs.{Adds, gatePairsAt, gatePairs}
 use Rattle.network.specs.Sees.{shape}
 use Rattle.arithmetic.specs.Seg.{seg}

@@ -4,7 +4,7 @@ use mathlib.Core.List.{List, [], _∷_, _++_}
 use Prim.Native.Nat.{ℕ, zero, suc, _+_, _-_, _*_, _≤_, _<_}
 use lib.ListN.{length, getD, set, take, drop, replicate, length-set}
 use borrow.Author.Needs.{needs}
-use Rattle.network.proofs.Gathering.{Found, found, is-pair}
+use Rattle.network.proofs.edges.Gathering.{Found, found, is-pair}
 use Rattle.network.proofs.edges.pair_at.Statement.{statement}
 use Rattle.network.proofs.edges.pair_at.Tie as tie
 use Rattle.network.proofs.edges.pair_at.Reads as reads

@@ -4,7 +4,7 @@ use mathlib.Core.List.{List, [], _∷_, _++_}
 use Prim.Native.Nat.{ℕ, zero, suc, _+_, _-_, _*_, _≤_, _<_}
 use lib.ListN.{length, getD, set, take, drop, replicate, length-set}
 use borrow.Author.Needs.{needs}
-use Rattle.network.proofs.PairTurn.{place-less, place-on, four, unlabelled}
+use Rattle.network.proofs.edges.PairTurn.{place-less, place-on, four, unlabelled}
 use Rattle.network.specs.Edges.{left, right, top, bottom}
 use Rattle.network.proofs.edges.pair_gate.Statement.{statement}
 use Rattle.network.proofs.edges.pair_gate.Tie as tie

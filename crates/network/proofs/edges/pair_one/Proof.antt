@@ -5,7 +5,7 @@ use Prim.Native.Nat.{ℕ, zero, suc, _+_, _-_, _*_, _≤_, _<_}
 use lib.ListN.{length, getD, set, take, drop, replicate, length-set}
 use borrow.Author.Needs.{needs}
 use mathlib.Core.Option.{some, none}
-use Rattle.network.proofs.PairTurn.{saw-none, saw-other, saw-less, seen-in}
+use Rattle.network.proofs.edges.PairTurn.{saw-none, saw-other, saw-less, seen-in}
 use Rattle.network.specs.Sees.{shape, way, answer}
 use Rattle.network.specs.Edges.{sees}
 use Rattle.arithmetic.specs.Seg.{seg}

@@ -4,7 +4,7 @@ use mathlib.Core.List.{List, [], _∷_, _++_}
 use Prim.Native.Nat.{ℕ, zero, suc, _+_, _-_, _*_, _≤_, _<_}
 use lib.ListN.{length, getD, set, take, drop, replicate, length-set}
 use borrow.Author.Needs.{needs}
-use Rattle.network.proofs.SortSteps.{reads-one, reads-two, sort-lay, sort-done}
+use Rattle.network.proofs.edges.SortSteps.{reads-one, reads-two, sort-lay, sort-done}
 use Rattle.network.proofs.edges.sort_pairs.Statement.{statement}
 use Rattle.network.proofs.edges.sort_pairs.Tie as tie
 use Rattle.network.proofs.edges.sort_pairs.Reads as reads

@@ -7,7 +7,7 @@ use borrow.Author.Needs.{needs}
 use mathlib.Core.Option.{some}
 use native.Mathlib.Numerals.{add-one}
 use Rattle.network.specs.Sees.{shape}
-use Rattle.network.proofs.Next.{holds, bottom-none, bottom-on}
+use Rattle.network.proofs.edges.Next.{holds, bottom-none, bottom-on}
 use Rattle.network.proofs.edges.to_bottom.Statement.{statement}
 use Rattle.network.proofs.edges.to_bottom.Tie as tie
 use Rattle.network.proofs.edges.to_bottom.Reads as reads

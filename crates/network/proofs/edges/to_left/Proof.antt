@@ -4,7 +4,7 @@ use mathlib.Core.Path.{_≡_, refl, sym, ap, _∙_}
 use mathlib.Core.List.{List, [], _∷_, _++_}
 use Prim.Native.Nat.{ℕ, zero, suc, _+_, _-_, _*_, _≤_, _<_}
 use lib.ListN.{length, getD, set, take, drop, replicate, length-set}
-use Rattle.network.proofs.Next.{holds, left-back, left-none, left-wrap}
+use Rattle.network.proofs.edges.Next.{holds, left-back, left-none, left-wrap}
 use Rattle.network.specs.Sees.{shape}
 use Rattle.network.proofs.edges.to_left.Statement.{statement}
 use Rattle.network.proofs.edges.to_left.Tie as tie

@@ -5,7 +5,7 @@ use Prim.Native.Nat.{ℕ, zero, suc, _+_, _-_, _*_, _≤_, _<_}
 use lib.ListN.{length, getD, set, take, drop, replicate, length-set}
 use borrow.Author.Needs.{needs}
 use Rattle.network.specs.Sees.{shape}
-use Rattle.network.proofs.Next.{holds, right-on, right-none, right-wrap}
+use Rattle.network.proofs.edges.Next.{holds, right-on, right-none, right-wrap}
 use Rattle.network.proofs.edges.to_right.Statement.{statement}
 use Rattle.network.proofs.edges.to_right.Tie as tie
 use Rattle.network.proofs.edges.to_right.Reads as reads

@@ -6,7 +6,7 @@ use Prim.Native.Nat.{ℕ, zero, suc, _+_, _-_, _*_, _%_, _≤_, _<_}
 use lib.ListN.{length, getD, set, take, drop, replicate, length-set}
 use native.Mathlib.Nat.{zero-mod}
 use Rattle.network.specs.Sees.{shape}
-use Rattle.network.proofs.Next.{holds, top-none, top-back}
+use Rattle.network.proofs.edges.Next.{holds, top-none, top-back}
 use Rattle.network.proofs.edges.to_top.Statement.{statement}
 use Rattle.network.proofs.edges.to_top.Tie as tie
 use Rattle.network.proofs.edges.to_top.Reads as reads

@@ -1,0 +1,13 @@
+pub mod Next
+pub mod Looking
+pub mod Going
+pub mod GatePairLaws
+pub mod Stored
+pub mod PairTurn
+pub mod Fills
+pub mod Runs
+pub mod Sorting
+pub mod SortSteps
+pub mod Gathering
+pub mod Assembly
+pub mod Weights

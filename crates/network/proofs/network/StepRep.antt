@@ -1,0 +1,365 @@
+-- A merge of the code keeps the invariant and is the network's step. Assumes nothing.
+use mathlib.Core.Path.{_≡_, refl, sym, ap, _∙_, subst}
+use mathlib.Core.Logic.{_⊎_, inl, inr, ⊎-elim}
+use mathlib.Core.Bool.{Bool, true, false, not, _&&_, cond, true≢false}
+use mathlib.Core.List.{List, [], _∷_, map}
+use mathlib.Core.Option.{Option, none, some}
+use Prim.Native.Nat.{ℕ, zero, suc, _+_, _*_, _-_, _/_, _≤_, _<_, _^_}
+use native.Mathlib.Omega.{arith}
+use lib.IntN.{ℤ, _+ℤ_}
+use lib.ListN.{length, getD, set, length-set}
+use Rattle.network.specs.Network.{Edge, Region, State, Plan, Link, sizeOf, at, plan, planFor, kill, prepare, find, absorb, absent, hand, combine, joinAll, mergeEdges, move, merge, stepTo, step, raised, bounded}
+use Rattle.network.proofs.Restrict.{prepare-num, combine-num}
+use Rattle.network.proofs.Ends.{combine-live}
+use Rattle.network.proofs.Choice.{size-base}
+use Rattle.network.proofs.SimpleLaws.{Turned, step-simple}
+use Rattle.network.specs.Mem.{Mem, Sound, weight-set}
+use Rattle.network.specs.Steps.{unbias, accepts, walkRaise, walkMoved, splice, grow, readied, handed, then, merged}
+use Rattle.network.specs.Net.{rows, edgeOf, regionOf, Like}
+use Rattle.network.specs.Chain.{cur, Chains, own-joined, pos-joined, len-joined}
+use Rattle.network.specs.Rep.{Rep, Ends, gatesOf}
+use Rattle.network.proofs.network.SoundSet.{eq-or-ne}
+use Rattle.network.proofs.network.Rows.{map-rows, rows-ext}
+use Rattle.network.proofs.network.TableEdges.{like-at}
+use Rattle.network.proofs.network.Frames.{Frame, frame-walk-moved}
+use Rattle.network.proofs.network.Moved.{same-no, same-yes, Setting}
+use Rattle.network.proofs.network.Counts.{Counted, Gained, Gives, raise}
+use Rattle.network.proofs.network.Sums.{accepts-is, accepted-sum, size-else, gates-move}
+use Rattle.network.proofs.network.After.{swap, swapped, chains-len, after, after-edges, after-mark, after-count, after-rnext, after-enext, after-size, after-elen, after-rlen, sound-after, sum-there, all-yes, all-no}
+use Rattle.network.proofs.network.Prepared.{at-rows, setting}
+use Rattle.network.proofs.network.StepEdges.{prep-ends, prep-live, ends-in, base-in, moved-in, base-leads, moved-leads, apart, frame₂, sound₂, same₁, sound₄, like₄, marks₄}
+use lib.Dec.{eqb}
+use borrow.Author.Tests.{eqb-true, eqb-false}
+use Rattle.arithmetic.proofs.SeqLaws.{eqb-refl}
+use Rattle.arithmetic.specs.Seq.{all}
+use Rattle.network.specs.Simple.{Simple}
+
+-- a node's new name
+abbrev to : ℕ → ℕ → ℕ → ℕ
+to b v x = cond (eqb v x) b x
+
+to-moved : (b v x : ℕ) → x ≡ v → to b v x ≡ b
+to-moved b v x e = rw (same-yes v x (sym e)) refl
+
+to-else : (b v x : ℕ) → (x ≡ v → ⊥) → to b v x ≡ x
+to-else b v x h = rw (same-no v x (λ e. h (sym e))) refl
+
+-- the ends of an edge after the nodes are joined
+combine-ends : (es : List Edge) (b v : ℕ) (e : Edge) → (e .second ≡ v → ⊥) → (combine es b v e .first ≡ to b v (e .first)) × (combine es b v e .second ≡ to b v (e .second))
+unfolding combine absorb hand
+combine-ends es b v e ns = go (eqb b (e .first)) refl (eqb v (e .first)) refl (find es v (e .second))
+  where
+    ts : e .second ≡ to b v (e .second)
+    ts = sym (to-else b v (e .second) ns)
+
+    base-to : e .first ≡ b → e .first ≡ to b v (e .first)
+    base-to w = ⊎-elim (λ q. w ∙ sym (to-moved b v (e .first) q)) (λ q. sym (to-else b v (e .first) q)) (eq-or-ne (e .first) v)
+
+    go : (x : Bool) → eqb b (e .first) ≡ x → (y : Bool) → eqb v (e .first) ≡ y → (o : Option Link)
+        → (cond x (absorb o e) (cond y (hand b (find es b (e .second)) e) e) .first ≡ cond (eqb v (e .first)) b (e .first)) × (cond x (absorb o e) (cond y (hand b (find es b (e .second)) e) e) .second ≡ to b v (e .second))
+    go true xe y ye none = (base-to (sym (eqb-true b (e .first) xe)), ts)
+    go true xe y ye (some g) = (base-to (sym (eqb-true b (e .first) xe)), ts)
+    go false xe true ye o = (rw ye refl, ts)
+    go false xe false ye o = (rw ye refl, ts)
+
+module _ (m n : ℕ) (gates : ℕ → ℕ) (last : ℕ) (s : Mem) (t : State) (R : Rep m n gates last s t) (e : ℕ) (lt : e < m) (l : R .E e .live ≡ true) where
+  abbrev rs : List Region
+  rs = rows (regionOf gates (R .node) s) 0 n
+
+  abbrev pl : Plan
+  pl = plan rs (R .E e)
+
+  abbrev b : ℕ
+  b = pl .base
+
+  abbrev v : ℕ
+  v = pl .moved
+
+  abbrev prep : ℕ → Edge
+  prep j = prepare pl (R .E j)
+
+  abbrev E' : ℕ → Edge
+  E' j = combine (rows prep 0 m) b v (prep j)
+
+  abbrev node' : ℕ → ℕ
+  node' = own-joined (R .node) b v
+
+  abbrev s₂ : Mem
+  s₂ = readied m b last (weight-set s e 0)
+
+  hb : b < n
+  hb = base-in m n gates last s t R e lt l
+
+  hv : v < n
+  hv = moved-in m n gates last s t R e lt l
+
+  lb : R .node b ≡ b
+  lb = base-leads m n gates last s t R e lt l
+
+  lv : R .node v ≡ v
+  lv = moved-leads m n gates last s t R e lt l
+
+  ne : b ≡ v → ⊥
+  ne = apart m n gates last s t R e lt l
+
+  rnext₂ : s₂ .rnext ≡ s .rnext
+  rnext₂ = frame₂ m n gates last s t R e lt l .rnext ∙ same₁ m n gates last s t R e lt l .3
+
+  count₂ : s₂ .count ≡ s .count
+  count₂ = frame₂ m n gates last s t R e lt l .count ∙ same₁ m n gates last s t R e lt l .6
+
+  node-moved : (x : ℕ) → R .node x ≡ v → node' x ≡ b
+  unfolding own-joined
+  node-moved x q = to-moved b v (R .node x) q
+
+  node-else : (x : ℕ) → (R .node x ≡ v → ⊥) → node' x ≡ R .node x
+  unfolding own-joined
+  node-else x q = to-else b v (R .node x) q
+
+  -- ---- the network's step
+  merges : step t e ≡ merge pl t
+  unfolding step stepTo
+  merges =
+      let f : at (t .edges) e ≡ some (R .E e) = ap (λ (x : List Edge). at x e) (R .edges) ∙ at-rows (R .E) (R .number) 0 m e (omega arith) (omega arith) l in
+      ap (λ (o : Option Edge). stepTo o t) f ∙ ap (λ (x : List Region). merge (plan x (R .E e)) t) (R .regions)
+
+  edges' : step t e .edges ≡ rows E' 0 m
+  unfolding merge mergeEdges joinAll
+  edges' =
+      ap (λ (x : State). x .edges) merges ∙ ap (mergeEdges pl) (R .edges)
+      ∙ ap (λ (x : List Edge). map (combine x b v) x) (map-rows (prepare pl) (R .E) 0 m) ∙ map-rows (combine (rows prep 0 m) b v) prep 0 m
+
+  -- ---- the counts
+  module _ (g : ℕ) (gain : unbias g ≡ pl .gain) (g-in : g ≤ 2000) (s₃ : Mem) (G : Gained g (s .rnext) v (getD (s .rlen) v 0) n s₂ s₃) where
+    abbrev s₄ : Mem
+    s₄ = walkMoved (getD (s₃ .elen) v 0 - 1) m b v g s₃ (getD (s₃ .enext) (2 * m + v) 0)
+
+    abbrev s₆ : Mem
+    s₆ = after m b v s₄
+
+    sound₃ : Sound m n s₃
+    sound₃ = G .sound m (sound₂ m n gates last s t R e lt l)
+
+    frame₄ : Frame s₄ s₃
+    frame₄ = frame-walk-moved (getD (s₃ .elen) v 0 - 1) m b v g s₃ (getD (s₃ .enext) (2 * m + v) 0)
+
+    rnext₄ : s₄ .rnext ≡ s .rnext
+    rnext₄ = frame₄ .rnext ∙ G .else .rnext ∙ rnext₂
+
+    enext₄ : s₄ .enext ≡ s .enext
+    enext₄ = frame₄ .enext ∙ G .else .enext ∙ frame₂ m n gates last s t R e lt l .enext ∙ same₁ m n gates last s t R e lt l .1
+
+    size₄ : s₄ .size ≡ s .size
+    size₄ = frame₄ .size ∙ G .else .size ∙ frame₂ m n gates last s t R e lt l .size ∙ same₁ m n gates last s t R e lt l .5
+
+    elen₄ : s₄ .elen ≡ s .elen
+    elen₄ = frame₄ .elen ∙ G .else .elen ∙ frame₂ m n gates last s t R e lt l .elen ∙ same₁ m n gates last s t R e lt l .2
+
+    rlen₄ : s₄ .rlen ≡ s .rlen
+    rlen₄ = frame₄ .rlen ∙ G .else .rlen ∙ frame₂ m n gates last s t R e lt l .rlen ∙ same₁ m n gates last s t R e lt l .4
+
+    count₆ : s₆ .count ≡ s₃ .count
+    count₆ = after-count m b v s₄ ∙ frame₄ .count
+
+    -- a region of the moved node stands in its chain
+    moved-count : (r : ℕ) → r < n → R .node r ≡ v → (accepts (getD (s .count) r 0 + g) ≡ true) × (getD (s₃ .count) r 0 ≡ getD (s .count) r 0 + g - 1000)
+    moved-count r h w =
+        let i : ℕ = R .rpos r in
+        let at-r : cur (s .rnext) v i ≡ r = ap (λ (x : ℕ). cur (s .rnext) x i) (sym w) ∙ R .rchains .at r h in
+        let p : i < getD (s .rlen) v 0 = subst (λ (x : ℕ). i < getD (s .rlen) x 0) w (R .rchains .here r h) in
+        let c : getD (s₂ .count) (cur (s .rnext) v i) 0 ≡ getD (s .count) r 0 = ap (λ (x : List ℕ). getD x (cur (s .rnext) v i) 0) count₂ ∙ ap (λ (x : ℕ). getD (s .count) x 0) at-r in
+        (ap (λ (x : ℕ). accepts (x + g)) (sym c) ∙ G .yes i p, ap (λ (x : ℕ). getD (s₃ .count) x 0) (sym at-r) ∙ G .here i p ∙ ap (λ (x : ℕ). x + g - 1000) c)
+
+    other-count : (r : ℕ) → (R .node r ≡ v → ⊥) → getD (s₃ .count) r 0 ≡ getD (s .count) r 0
+    other-count r w =
+        G .there r (λ i p q. w (ap (R .node) q ∙ R .rchains .owned v i hv lv p)) ∙ ap (λ (x : List ℕ). getD x r 0) count₂
+
+    region' : (r : ℕ) → r < n → move pl (regionOf gates (R .node) s r) ≡ regionOf gates node' s₆ r
+    unfolding move regionOf own-joined
+    region' r h = ⊎-elim mine other (eq-or-ne (R .node r) v)
+      where
+        c₆ : getD (s₆ .count) r 0 ≡ getD (s₃ .count) r 0
+        c₆ = ap (λ (x : List ℕ). getD x r 0) count₆
+
+        mine : R .node r ≡ v → move pl (regionOf gates (R .node) s r) ≡ regionOf gates node' s₆ r
+        mine w =
+            let q : (accepts (getD (s .count) r 0 + g) ≡ true) × (getD (s₃ .count) r 0 ≡ getD (s .count) r 0 + g - 1000) = moved-count r h w in
+            let yes : eqb v (R .node r) ≡ true = same-yes v (R .node r) (sym w) in
+            let c : cond (eqb v (R .node r)) (unbias (getD (s .count) r 0) +ℤ pl .gain) (unbias (getD (s .count) r 0)) ≡ unbias (getD (s₆ .count) r 0) =
+            ap (λ (x : Bool). cond x (unbias (getD (s .count) r 0) +ℤ pl .gain) (unbias (getD (s .count) r 0))) yes ∙ ap (λ (z : ℤ). unbias (getD (s .count) r 0) +ℤ z) (sym gain)
+            ∙ sym (accepted-sum (getD (s .count) r 0) g (q .0)) ∙ ap unbias (sym (q .1)) ∙ ap unbias (sym c₆) in
+            λ i. record { label = r; size = gates r; node = cond (eqb v (R .node r)) b (R .node r); count = c i }
+
+        other : (R .node r ≡ v → ⊥) → move pl (regionOf gates (R .node) s r) ≡ regionOf gates node' s₆ r
+        other w =
+            let no : eqb v (R .node r) ≡ false = same-no v (R .node r) (λ q. w (sym q)) in
+            let c : cond (eqb v (R .node r)) (unbias (getD (s .count) r 0) +ℤ pl .gain) (unbias (getD (s .count) r 0)) ≡ unbias (getD (s₆ .count) r 0) =
+            ap (λ (x : Bool). cond x (unbias (getD (s .count) r 0) +ℤ pl .gain) (unbias (getD (s .count) r 0))) no ∙ ap unbias (sym (other-count r w)) ∙ ap unbias (sym c₆) in
+            λ i. record { label = r; size = gates r; node = cond (eqb v (R .node r)) b (R .node r); count = c i }
+
+    moved-rows : map (move pl) rs ≡ rows (regionOf gates node' s₆) 0 n
+    moved-rows = map-rows (move pl) (regionOf gates (R .node) s) 0 n ∙ rows-ext (λ r. move pl (regionOf gates (R .node) s r)) (regionOf gates node' s₆) 0 n (λ r p q. region' r (omega arith))
+
+    regions' : step t e .regions ≡ rows (regionOf gates node' s₆) 0 n
+    unfolding merge
+    regions' = ap (λ (x : State). x .regions) merges ∙ ap (map (move pl)) (R .regions) ∙ moved-rows
+
+    -- ---- the chains
+    rchains' : Chains (s₆ .rnext) n node' (pos-joined (R .node) (R .rpos) (λ x. getD (s .rlen) x 0) b v) (λ x. getD (s₆ .rlen) x 0)
+    unfolding len-joined
+    rchains' = subst (λ (N : List ℕ). Chains N n node' (pos-joined (R .node) (R .rpos) (λ x. getD (s .rlen) x 0) b v) (λ x. getD (s₆ .rlen) x 0)) (sym (after-rnext m b v s₄ ∙ ap (λ (N : List ℕ). swap N b v) rnext₄))
+        (chains-len (swap (s .rnext) b v) n node' (pos-joined (R .node) (R .rpos) (λ x. getD (s .rlen) x 0) b v) (len-joined (λ x. getD (s .rlen) x 0) b v) (λ x. getD (s₆ .rlen) x 0)
+        (swapped (s .rnext) n (R .node) (R .rpos) (λ x. getD (s .rlen) x 0) (R .rchains) (R .sound .l-rnext) b v hb hv lb lv ne)
+        (λ h p o. sym (ap (λ (y : List ℕ). getD y h 0) (after-rlen m b v s₄ ∙ ap (λ (y : List ℕ). set y b (getD y b 0 + getD y v 0)) rlen₄) ∙ sum-there (s .rlen) n b v h (R .sound .l-rlen) hb)))
+
+    abbrev eown' : ℕ → ℕ
+    eown' = own-joined (R .eown) (2 * m + b) (2 * m + v)
+
+    lead-b : R .eown (2 * m + b) ≡ 2 * m + b
+    lead-b = R .header b hb ∙ ap (λ (x : ℕ). 2 * m + x) lb
+
+    lead-v : R .eown (2 * m + v) ≡ 2 * m + v
+    lead-v = R .header v hv ∙ ap (λ (x : ℕ). 2 * m + x) lv
+
+    -- owners by node
+    eown-to : (i x : ℕ) → R .eown i ≡ 2 * m + x → eown' i ≡ 2 * m + to b v x
+    unfolding own-joined
+    eown-to i x w = ⊎-elim
+        (λ q. let y : eqb (2 * m + v) (R .eown i) ≡ true = same-yes (2 * m + v) (R .eown i) (sym (w ∙ ap (λ (z : ℕ). 2 * m + z) q)) in
+        ap (λ (z : Bool). cond z (2 * m + b) (R .eown i)) y ∙ ap (λ (z : ℕ). 2 * m + z) (sym (to-moved b v x q)))
+        (λ q. let y : eqb (2 * m + v) (R .eown i) ≡ false = same-no (2 * m + v) (R .eown i) (λ z. q (omega arith)) in
+        ap (λ (z : Bool). cond z (2 * m + b) (R .eown i)) y ∙ w ∙ ap (λ (z : ℕ). 2 * m + z) (sym (to-else b v x q)))
+        (eq-or-ne x v)
+
+    high' : (i : ℕ) → i < 2 * m + n → 2 * m ≤ eown' i
+    unfolding own-joined
+    high' i h = go (eqb (2 * m + v) (R .eown i))
+      where
+        go : (x : Bool) → 2 * m ≤ cond x (2 * m + b) (R .eown i)
+        go true = omega arith
+        go false = R .high i h
+
+    echains' : Chains (s₆ .enext) (2 * m + n) eown' (pos-joined (R .eown) (R .epos) (λ h. getD (s .elen) (h - 2 * m) 0) (2 * m + b) (2 * m + v)) (λ h. getD (s₆ .elen) (h - 2 * m) 0)
+    unfolding len-joined
+    echains' = subst (λ (N : List ℕ). Chains N (2 * m + n) eown' (pos-joined (R .eown) (R .epos) (λ h. getD (s .elen) (h - 2 * m) 0) (2 * m + b) (2 * m + v)) (λ h. getD (s₆ .elen) (h - 2 * m) 0)) (sym (after-enext m b v s₄ ∙ ap (λ (N : List ℕ). swap N (2 * m + b) (2 * m + v)) enext₄))
+        (chains-len (swap (s .enext) (2 * m + b) (2 * m + v)) (2 * m + n) eown' (pos-joined (R .eown) (R .epos) (λ h. getD (s .elen) (h - 2 * m) 0) (2 * m + b) (2 * m + v)) (len-joined (λ h. getD (s .elen) (h - 2 * m) 0) (2 * m + b) (2 * m + v)) (λ h. getD (s₆ .elen) (h - 2 * m) 0)
+        (swapped (s .enext) (2 * m + n) (R .eown) (R .epos) (λ h. getD (s .elen) (h - 2 * m) 0) (R .echains) (R .sound .l-enext) (2 * m + b) (2 * m + v) (omega (arith, hb)) (omega (arith, hv)) lead-b lead-v (λ w. ne (omega arith)))
+        (λ h p o. sym (elen-at h (omega (arith, high' h p)))))
+      where
+        elen-at : (h : ℕ) → 2 * m ≤ h → getD (s₆ .elen) (h - 2 * m) 0 ≡ cond (eqb (2 * m + b) h) (getD (s .elen) (2 * m + b - 2 * m) 0 + getD (s .elen) (2 * m + v - 2 * m) 0) (getD (s .elen) (h - 2 * m) 0)
+        elen-at h p =
+            let zb : 2 * m + b - 2 * m ≡ b = omega arith in
+            let zv : 2 * m + v - 2 * m ≡ v = omega arith in
+            ap (λ (y : List ℕ). getD y (h - 2 * m) 0) (after-elen m b v s₄ ∙ ap (λ (y : List ℕ). set y b (getD y b 0 + getD y v 0)) elen₄) ∙ sum-there (s .elen) n b v (h - 2 * m) (R .sound .l-elen) hb
+            ∙ ap (λ (x : Bool). cond x (getD (s .elen) b 0 + getD (s .elen) v 0) (getD (s .elen) (h - 2 * m) 0)) same-h
+            ∙ ap (λ (x : ℕ). cond (eqb (2 * m + b) h) x (getD (s .elen) (h - 2 * m) 0)) (ap (λ (x : ℕ). getD (s .elen) x 0 + getD (s .elen) v 0) (sym zb) ∙ ap (λ (x : ℕ). getD (s .elen) (2 * m + b - 2 * m) 0 + getD (s .elen) x 0) (sym zv))
+          where
+            same-h : eqb b (h - 2 * m) ≡ eqb (2 * m + b) h
+            same-h = ⊎-elim (λ w. same-yes b (h - 2 * m) (omega arith) ∙ sym (same-yes (2 * m + b) h w)) (λ w. same-no b (h - 2 * m) (λ q. w (omega arith)) ∙ sym (same-no (2 * m + b) h w)) (eq-or-ne (2 * m + b) h)
+
+    header' : (x : ℕ) → x < n → eown' (2 * m + x) ≡ 2 * m + node' x
+    header' x h = eown-to (2 * m + x) (R .node x) (R .header x h) ∙ (unfold own-joined in refl)
+
+    -- ---- the edges
+    prepared-second : (j : ℕ) → j < m → prep j .live ≡ true → Turned b v (prep j)
+    prepared-second j h k = setting m (R .E) (R .number) (R .simple) e lt l rs g gain .turned j h k
+
+    lived : (j : ℕ) → E' j .live ≡ true → prep j .live ≡ true
+    lived j k = combine-live (rows prep 0 m) b v (prep j) k
+
+    was-live : (j : ℕ) → prep j .live ≡ true → R .E j .live ≡ true
+    was-live j k = unfold kill in left (R .E j .live) _ (sym (prep-live pl (R .E j)) ∙ k)
+      where
+        left : (x y : Bool) → (x && y) ≡ true → x ≡ true
+        left true y h = refl
+        left false y h = h
+
+    ends' : (j : ℕ) → j < m → E' j .live ≡ true → Ends m eown' j (E' j)
+    ends' j h k = go (prep-ends pl (R .E j)) (R .ends j h (was-live j (lived j k)))
+      where
+        c : (E' j .first ≡ to b v (prep j .first)) × (E' j .second ≡ to b v (prep j .second))
+        c = combine-ends (rows prep 0 m) b v (prep j) (prepared-second j h (lived j k) .1)
+
+        slot-to : (i x y : ℕ) → R .eown i ≡ 2 * m + x → y ≡ to b v x → eown' i ≡ 2 * m + y
+        slot-to i x y p q = eown-to i x p ∙ ap (λ (z : ℕ). 2 * m + z) (sym q)
+
+        go : ((prep j .first ≡ R .E j .first) × (prep j .second ≡ R .E j .second)) ⊎ ((prep j .second ≡ R .E j .first) × (prep j .first ≡ R .E j .second)) → Ends m (R .eown) j (R .E j) → Ends m eown' j (E' j)
+        go (inl p) (inl q) = inl (slot-to _ _ _ (q .0) (c .0 ∙ ap (to b v) (p .0)), slot-to _ _ _ (q .1) (c .1 ∙ ap (to b v) (p .1)))
+        go (inl p) (inr q) = inr (slot-to _ _ _ (q .0) (c .1 ∙ ap (to b v) (p .1)), slot-to _ _ _ (q .1) (c .0 ∙ ap (to b v) (p .0)))
+        go (inr p) (inl q) = inr (slot-to _ _ _ (q .0) (c .1 ∙ ap (to b v) (p .0)), slot-to _ _ _ (q .1) (c .0 ∙ ap (to b v) (p .1)))
+        go (inr p) (inr q) = inl (slot-to _ _ _ (q .0) (c .0 ∙ ap (to b v) (p .1)), slot-to _ _ _ (q .1) (c .1 ∙ ap (to b v) (p .0)))
+
+    second-far : (j : ℕ) → j < m → E' j .live ≡ true → E' j .second ≡ b → ⊥
+    second-far j h k w =
+        let pt : Turned b v (prep j) = prepared-second j h (lived j k) in
+        pt .0 (sym (to-else b v (prep j .second) (pt .1)) ∙ sym (combine-ends (rows prep 0 m) b v (prep j) (pt .1) .1) ∙ w)
+
+    marks' : (j : ℕ) → j < m → E' j .live ≡ true → (E' j .first ≡ b) ⊎ (E' j .second ≡ b) → (E' j .first ≡ b) × (getD (s₆ .mark) (E' j .second) 0 ≡ j)
+    marks' j h k (inl w) = (w, ap (λ (y : List ℕ). getD y (E' j .second) 0) (after-mark m b v s₄) ∙ marks₄ m n gates last s t R e lt l g gain g-in s₃ (G .else) sound₃ j h k w)
+    marks' j h k (inr w) = absurd (second-far j h k w)
+
+    -- ---- the sizes
+    sizes' : (x : ℕ) → x < n → node' x ≡ x → getD (s₆ .size) x 0 ≡ sizeOf (rows (regionOf gates node' s₆) 0 n) x
+    sizes' x h w =
+        ap (λ (y : List ℕ). getD y x 0) (after-size m b v s₄ ∙ ap (λ (y : List ℕ). set y b (getD y b 0 + getD y v 0)) size₄) ∙ sum-there (s .size) n b v x (R .sound .l-size) hb
+        ∙ ⊎-elim grown kept (eq-or-ne x b) ∙ ap (λ (y : List Region). sizeOf y x) moved-rows
+      where
+        grown : x ≡ b → cond (eqb b x) (getD (s .size) b 0 + getD (s .size) v 0) (getD (s .size) x 0) ≡ sizeOf (map (move pl) rs) x
+        grown q =
+            ap (λ (y : Bool). cond y (getD (s .size) b 0 + getD (s .size) v 0) (getD (s .size) x 0)) (same-yes b x (sym q))
+            ∙ ap (λ (y : ℕ). y + getD (s .size) v 0) (R .sizes b hb lb) ∙ ap (λ (y : ℕ). sizeOf rs b + y) (R .sizes v hv lv) ∙ sym (size-base pl (same-no b v ne) rs) ∙ ap (sizeOf (map (move pl) rs)) (sym q)
+
+        kept : (x ≡ b → ⊥) → cond (eqb b x) (getD (s .size) b 0 + getD (s .size) v 0) (getD (s .size) x 0) ≡ sizeOf (map (move pl) rs) x
+        kept q = ⊎-elim
+            (λ r. absurd (q (sym w ∙ node-moved x r)))
+            (λ r. let o : R .node x ≡ x = sym (node-else x r) ∙ w in
+            ap (λ (y : Bool). cond y (getD (s .size) b 0 + getD (s .size) v 0) (getD (s .size) x 0)) (same-no b x (λ z. q (sym z)))
+            ∙ R .sizes x h o ∙ sym (size-else pl x q (λ z. r (o ∙ z)) rs))
+            (eq-or-ne (R .node x) v)
+
+    pub rep' : Rep m n gates b s₆ (step t e)
+    rep' = record {
+      E = E';
+      node = node';
+      rpos = pos-joined (R .node) (R .rpos) (λ x. getD (s .rlen) x 0) b v;
+      eown = eown';
+      epos = pos-joined (R .eown) (R .epos) (λ h. getD (s .elen) (h - 2 * m) 0) (2 * m + b) (2 * m + v);
+      edges = edges';
+      regions = regions';
+      number = λ j. combine-num (rows prep 0 m) b v (prep j) ∙ prepare-num pl (R .E j) ∙ R .number j;
+      simple = subst (λ (x : List Edge). Simple x) edges' (step-simple t e (subst (λ (x : List Edge). Simple x) (sym (R .edges)) (R .simple)));
+      light = subst (λ (x : ℕ). x < 2 ^ 32) (sym (gates-move pl rs) ∙ ap gatesOf moved-rows) (R .light);
+      sound = sound-after m b v s₄ n hb hv (sound₄ m n gates last s t R e lt l g gain g-in s₃ (G .else) sound₃);
+      small = R .small;
+      like = λ j h. like-at _ _ _ (after-edges m b v s₄ j) (like₄ m n gates last s t R e lt l g gain g-in s₃ (G .else) sound₃ j h);
+      sizes = sizes';
+      rchains = rchains';
+      echains = echains';
+      high = high';
+      header = header';
+      ends = ends';
+      marks = marks';
+    }
+
+    yes' : all (bounded 1000) (raised (pl .gain) rs v) ≡ true
+    yes' = all-yes (regionOf gates (R .node) s) (pl .gain) v 0 n
+        (λ r p q w. ap (λ (z : ℤ). bounded 1000 (regionOf gates (R .node) s r .count +ℤ z)) (sym gain)
+        ∙ (unfold regionOf in sym (accepts-is (getD (s .count) r 0) g) ∙ moved-count r (omega arith) w .0))
+
+  -- ---- the whole merge
+  unfoldable pub MergeIs : Option Mem → Type 0
+  MergeIs none = all (bounded 1000) (raised (pl .gain) rs v) ≡ false
+  MergeIs (some s') = (all (bounded 1000) (raised (pl .gain) rs v) ≡ true) × Rep m n gates b s' (step t e)
+
+  pub merge-is : (g : ℕ) → unbias g ≡ pl .gain → g ≤ 2000 → MergeIs (merged m last e b v g s)
+  unfolding MergeIs merged then handed Gives
+  merge-is g gain g-in = go (walkRaise (getD (s .rlen) v 0) g s₂ v)
+      (raise g (s .rnext) n (getD (s .rlen) v 0) v s₂ (ap length count₂ ∙ R .sound .l-count) rnext₂ (λ i p. R .rchains .inside v i hv lv p)
+      (λ i j p q r. sym (R .rchains .placed v i hv lv p) ∙ ap (R .rpos) r ∙ R .rchains .placed v j hv lv q))
+    where
+      go : (o : Option Mem) → Gives g (s .rnext) v (getD (s .rlen) v 0) n s₂ o → MergeIs (then o (handed m b v g))
+      go none w =
+          let r : ℕ = cur (s .rnext) v (w .0) in
+          all-no (regionOf gates (R .node) s) (pl .gain) v 0 n r (omega arith) (omega (arith, R .rchains .inside v (w .0) hv lv (w .1))) (unfold regionOf in R .rchains .owned v (w .0) hv lv (w .1))
+          (ap (λ (z : ℤ). bounded 1000 (regionOf gates (R .node) s r .count +ℤ z)) (sym gain) ∙ (unfold regionOf in sym (accepts-is (getD (s .count) r 0) g) ∙ ap (λ (x : List ℕ). accepts (getD x r 0 + g)) (sym count₂) ∙ w .2))
+      go (some s₃) w = (yes' g gain g-in s₃ w, rep' g gain g-in s₃ w)

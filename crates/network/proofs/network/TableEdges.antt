@@ -1,0 +1,166 @@
+-- The edges that the tables hold after each step. Assumes nothing.
+use mathlib.Core.Path.{_≡_, refl, sym, ap, _∙_, subst}
+use mathlib.Core.Logic.{_⊎_, inl, inr, ⊎-elim}
+use mathlib.Core.Bool.{Bool, true, false, not, _&&_, cond, true≢false}
+use mathlib.Core.List.{List, [], _∷_}
+use Prim.Native.Nat.{ℕ, zero, suc, _+_, _*_, _-_, _≤_, _<_}
+use native.Mathlib.Omega.{arith}
+use lib.Dec.{eqb, ltb}
+use lib.Ieee.{nan, Float, neg, binary32, add}
+use lib.ListN.{length, getD, set, length-set}
+use lib.Seq.{getD-set-same, getD-set-other}
+use borrow.Author.Tests.{eqb-true, eqb-false, eq-eqb, ne-eqb, lt-ltb}
+use Rattle.network.specs.Network.{Edge}
+use Rattle.network.specs.Mem.{Mem, Sound, weight-set, first-set, second-set, mark-set, diff-set}
+use Rattle.network.specs.Steps.{turnAt, baseEdge, absorbAt, attachAt, joinEdge, shift, movedEdge}
+use Rattle.network.specs.Net.{edgeOf, Like}
+
+pub like-refl : (x : Edge) → Like x x
+like-refl x = record { live = refl; whole = λ l. refl }
+
+pub like-of : (x y : Edge) → x ≡ y → Like x y
+like-of x y e = record { live = ap (λ (z : Edge). z .live) e; whole = λ l. e }
+
+pub like-dead : (x y : Edge) → x .live ≡ false → y .live ≡ false → Like x y
+like-dead x y p q = record { live = p ∙ sym q; whole = λ l. absurd (true≢false (sym l ∙ q)) }
+
+pub like-then : (x y z : Edge) → Like x y → y ≡ z → Like x z
+like-then x y z h e = subst (Like x) e h
+
+pub like-at : (x y z : Edge) → x ≡ y → Like y z → Like x z
+like-at x y z e h = subst (λ (t : Edge). Like t z) (sym e) h
+
+-- ---- live and dead words
+pub live-word : (s : Mem) (j : ℕ) → edgeOf s j .live ≡ true → getD (s .weight) j 0 ≡ 0 → ⊥
+unfolding edgeOf
+live-word s j h e = true≢false (sym h ∙ (rw (eq-eqb (getD (s .weight) j 0) 0 e) refl))
+
+pub word-live : (s : Mem) (j : ℕ) → (getD (s .weight) j 0 ≡ 0 → ⊥) → edgeOf s j .live ≡ true
+unfolding edgeOf
+word-live s j h = rw (ne-eqb (getD (s .weight) j 0) 0 h) refl
+
+pub dead-word : (s : Mem) (j : ℕ) → edgeOf s j .live ≡ false → getD (s .weight) j 0 ≡ 0
+unfolding edgeOf
+dead-word s j h = go (eqb (getD (s .weight) j 0) 0) refl h
+  where
+    go : (t : Bool) → eqb (getD (s .weight) j 0) 0 ≡ t → not t ≡ false → getD (s .weight) j 0 ≡ 0
+    go true e r = eqb-true (getD (s .weight) j 0) 0 e
+    go false e r = absurd (true≢false r)
+
+pub word-dead : (s : Mem) (j : ℕ) → getD (s .weight) j 0 ≡ 0 → edgeOf s j .live ≡ false
+unfolding edgeOf
+word-dead s j h = rw (eq-eqb (getD (s .weight) j 0) 0 h) refl
+
+-- an edge by its words
+pub record Words (s : Mem) (j : ℕ) (e : Edge) : Type 0 where
+  pub num-is : j ≡ e .num
+  pub live-is : edgeOf s j .live ≡ e .live
+  pub some : getD (s .weight) j 0 ≡ 0 → ⊥
+  pub first-is : getD (s .first) j 0 ≡ e .first
+  pub second-is : getD (s .second) j 0 ≡ e .second
+  pub weight-is : getD (s .weight) j 0 ≡ e .weight
+  pub diff-is : getD (s .diff) j nan ≡ e .diff
+
+pub words : (s : Mem) (j : ℕ) (e : Edge) → edgeOf s j ≡ e → e .live ≡ true → Words s j e
+words s j e h l = record {
+  num-is = unfold edgeOf in ap (λ (x : Edge). x .num) h;
+  live-is = ap (λ (x : Edge). x .live) h;
+  some = live-word s j (ap (λ (x : Edge). x .live) h ∙ l);
+  first-is = unfold edgeOf in ap (λ (x : Edge). x .first) h;
+  second-is = unfold edgeOf in ap (λ (x : Edge). x .second) h;
+  weight-is = unfold edgeOf in ap (λ (x : Edge). x .weight) h;
+  diff-is = unfold edgeOf in ap (λ (x : Edge). x .diff) h;
+}
+
+-- ---- which step movedEdge is
+module _ (m b v g : ℕ) (s : Mem) (f : ℕ) (lt : f < m) where
+  pub moved-none : getD (s .weight) f 0 ≡ 0 → movedEdge m b v g s f ≡ s
+  unfolding movedEdge
+  moved-none e = rw (lt-ltb f m lt, eq-eqb (getD (s .weight) f 0) 0 e) refl
+
+  module _ (live : getD (s .weight) f 0 ≡ 0 → ⊥) where
+    pub moved-else : (getD (s .first) f 0 ≡ v → ⊥) → (getD (s .second) f 0 ≡ v → ⊥) → movedEdge m b v g s f ≡ s
+    unfolding movedEdge
+    moved-else p q = rw (lt-ltb f m lt, ne-eqb (getD (s .weight) f 0) 0 live, ne-eqb (getD (s .first) f 0) v p, ne-eqb (getD (s .second) f 0) v q) refl
+
+    pub moved-one : getD (s .first) f 0 ≡ v → movedEdge m b v g s f ≡ joinEdge m b s f (getD (s .second) f 0) (shift false g (getD (s .weight) f 0) (getD (s .diff) f nan))
+    unfolding movedEdge
+    moved-one p = rw (lt-ltb f m lt, ne-eqb (getD (s .weight) f 0) 0 live, eq-eqb (getD (s .first) f 0) v p) refl
+
+    pub moved-two : (getD (s .first) f 0 ≡ v → ⊥) → getD (s .second) f 0 ≡ v → movedEdge m b v g s f ≡ joinEdge m b s f (getD (s .first) f 0) (neg (shift true g (getD (s .weight) f 0) (getD (s .diff) f nan)))
+    unfolding movedEdge
+    moved-two p q = rw (lt-ltb f m lt, ne-eqb (getD (s .weight) f 0) 0 live, ne-eqb (getD (s .first) f 0) v p, eq-eqb (getD (s .second) f 0) v q) refl
+
+-- ---- which step baseEdge is
+module _ (m b : ℕ) (s : Mem) (f : ℕ) (lt : f < m) where
+  pub base-none : getD (s .weight) f 0 ≡ 0 → baseEdge m b s f ≡ s
+  unfolding baseEdge
+  base-none e = rw (lt-ltb f m lt, eq-eqb (getD (s .weight) f 0) 0 e) refl
+
+  module _ (live : getD (s .weight) f 0 ≡ 0 → ⊥) where
+    pub base-two : getD (s .second) f 0 ≡ b → baseEdge m b s f ≡ mark-set (turnAt s f) (getD (s .first) f 0) f
+    unfolding baseEdge
+    base-two p = rw (lt-ltb f m lt, ne-eqb (getD (s .weight) f 0) 0 live, eq-eqb (getD (s .second) f 0) b p) refl
+
+    module _ (far : getD (s .second) f 0 ≡ b → ⊥) where
+      pub base-one : getD (s .first) f 0 ≡ b → baseEdge m b s f ≡ mark-set s (getD (s .second) f 0) f
+      unfolding baseEdge
+      base-one p = rw (lt-ltb f m lt, ne-eqb (getD (s .weight) f 0) 0 live, ne-eqb (getD (s .second) f 0) b far, eq-eqb (getD (s .first) f 0) b p) refl
+
+      pub base-else : (getD (s .first) f 0 ≡ b → ⊥) → baseEdge m b s f ≡ s
+      unfolding baseEdge
+      base-else p = rw (lt-ltb f m lt, ne-eqb (getD (s .weight) f 0) 0 live, ne-eqb (getD (s .second) f 0) b far, ne-eqb (getD (s .first) f 0) b p) refl
+
+-- ---- the edges after a step
+module _ (m n : ℕ) (s : Mem) (h : Sound m n s) where
+  module _ (q f : ℕ) (x : Float) (hq : q < m) (hf : f < m) (ne : q ≡ f → ⊥) where
+    pub absorb-gone : edgeOf (absorbAt s q f x) f .live ≡ false
+    unfolding absorbAt weight-set diff-set
+    absorb-gone = word-dead (absorbAt s q f x) f (getD-set-same (set (s .weight) q (getD (s .weight) q 0 + getD (s .weight) f 0)) f 0 0 (omega (arith, length-set (s .weight) q (getD (s .weight) q 0 + getD (s .weight) f 0), h .l-weight)))
+
+    pub absorb-kept : (j : ℕ) → (j ≡ q → ⊥) → (j ≡ f → ⊥) → edgeOf (absorbAt s q f x) j ≡ edgeOf s j
+    unfolding edgeOf absorbAt weight-set diff-set
+    absorb-kept j a c = rw (getD-set-other (set (s .weight) q (getD (s .weight) q 0 + getD (s .weight) f 0)) f j 0 0 c, getD-set-other (s .weight) q j (getD (s .weight) q 0 + getD (s .weight) f 0) 0 a, getD-set-other (s .diff) q j (add binary32 (getD (s .diff) q nan) x) nan a) refl
+
+    pub absorb-grown : edgeOf (absorbAt s q f x) q ≡ record {
+      num = q;
+      live = not (eqb (getD (s .weight) q 0 + getD (s .weight) f 0) 0);
+      first = getD (s .first) q 0;
+      second = getD (s .second) q 0;
+      weight = getD (s .weight) q 0 + getD (s .weight) f 0;
+      diff = add binary32 (getD (s .diff) q nan) x;
+    }
+    unfolding edgeOf absorbAt weight-set diff-set
+    absorb-grown = rw (getD-set-other (set (s .weight) q (getD (s .weight) q 0 + getD (s .weight) f 0)) f q 0 0 ne, getD-set-same (s .weight) q (getD (s .weight) q 0 + getD (s .weight) f 0) 0 (omega (arith, h .l-weight)), getD-set-same (s .diff) q (add binary32 (getD (s .diff) q nan) x) nan (omega (arith, h .l-diff))) refl
+
+  module _ (b f c : ℕ) (x : Float) (hf : f < m) where
+    pub attach-kept : (j : ℕ) → (j ≡ f → ⊥) → edgeOf (attachAt b s f c x) j ≡ edgeOf s j
+    unfolding edgeOf attachAt mark-set first-set second-set diff-set
+    attach-kept j a = rw (getD-set-other (s .first) f j b 0 a, getD-set-other (s .second) f j c 0 a, getD-set-other (s .diff) f j x nan a) refl
+
+    pub attach-new : edgeOf (attachAt b s f c x) f ≡ record { num = f; live = edgeOf s f .live; first = b; second = c; weight = getD (s .weight) f 0; diff = x }
+    unfolding edgeOf attachAt mark-set first-set second-set diff-set
+    attach-new = rw (getD-set-same (s .first) f b 0 (omega (arith, h .l-first)), getD-set-same (s .second) f c 0 (omega (arith, h .l-second)), getD-set-same (s .diff) f x nan (omega (arith, h .l-diff))) refl
+
+  -- marks
+  pub mark-kept : (c f j : ℕ) → (j ≡ c → ⊥) → getD (mark-set s c f .mark) j 0 ≡ getD (s .mark) j 0
+  unfolding mark-set
+  mark-kept c f j a = getD-set-other (s .mark) c j f 0 a
+
+  pub mark-new : (c f : ℕ) → c < n → getD (mark-set s c f .mark) c 0 ≡ f
+  unfolding mark-set
+  mark-new c f a = getD-set-same (s .mark) c f 0 (omega (arith, h .l-mark))
+
+  -- a turned edge
+  module _ (f : ℕ) (hf : f < m) where
+    pub turn-kept : (j : ℕ) → (j ≡ f → ⊥) → edgeOf (turnAt s f) j ≡ edgeOf s j
+    unfolding edgeOf turnAt first-set second-set diff-set
+    turn-kept j a = rw (getD-set-other (s .first) f j (getD (s .second) f 0) 0 a, getD-set-other (s .second) f j (getD (s .first) f 0) 0 a, getD-set-other (s .diff) f j (neg (getD (s .diff) f nan)) nan a) refl
+
+    pub turn-new : edgeOf (turnAt s f) f ≡ record { num = f; live = edgeOf s f .live; first = getD (s .second) f 0; second = getD (s .first) f 0; weight = getD (s .weight) f 0; diff = neg (getD (s .diff) f nan) }
+    unfolding edgeOf turnAt first-set second-set diff-set
+    turn-new = rw (getD-set-same (s .first) f (getD (s .second) f 0) 0 (omega (arith, h .l-first)), getD-set-same (s .second) f (getD (s .first) f 0) 0 (omega (arith, h .l-second)), getD-set-same (s .diff) f (neg (getD (s .diff) f nan)) nan (omega (arith, h .l-diff))) refl
+
+pub mark-edges : (s : Mem) (c f j : ℕ) → edgeOf (mark-set s c f) j ≡ edgeOf s j
+unfolding edgeOf mark-set
+mark-edges s c f j = refl

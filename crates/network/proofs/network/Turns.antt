@@ -1,0 +1,326 @@
+-- `choose_base`, `turn` and `run` over plain values. Assumes nothing.
+use mathlib.Core.Path.{_≡_, refl, sym, ap, _∙_, subst}
+use mathlib.Core.Logic.{_⊎_, inl, inr, ⊎-elim}
+use mathlib.Core.Bool.{Bool, true, false, not, _&&_, cond, true≢false}
+use mathlib.Core.List.{List, [], _∷_, map}
+use mathlib.Core.Option.{Option, none, some}
+use Prim.Native.Nat.{ℕ, zero, suc, _+_, _*_, _-_, _≤_, _<_, _^_}
+use native.Mathlib.Omega.{arith}
+use lib.Dec.{ltb, eqb}
+use lib.IntN.{ℤ, negℤ}
+use lib.Ieee.{nan, Float}
+use lib.ListN.{length, getD}
+use borrow.Author.Tests.{lt-ltb, le-ltb}
+use Rattle.network.specs.Network.{Edge, Region, State, Plan, Event, sizeOf, at, plan, planFor, eventOf, event, step, raised, better, choose, quot, bounded, inRange}
+use Rattle.network.proofs.Choice.{Best as Heaviest, best-chosen}
+use Rattle.network.specs.Tree.{Tree, Best, Beats}
+use Rattle.network.specs.Mem.{Mem, view, Room, Sound}
+use Rattle.network.specs.Steps.{unbias, merged, numberOf}
+use Rattle.network.specs.Does.{Does, Raised, Gains, Fit}
+use Rattle.network.specs.Net.{rows, edgeOf, regionOf, Like, stateOf}
+use Rattle.network.specs.Rep.{Rep, gatesOf}
+use Rattle.network.specs.Settle.{Done, onward, settle}
+use Rattle.network.specs.TurnIs.{TurnIs, Chosen, PickIs, gatesIn, firstOf, RanIs}
+use Rattle.network.specs.declared.network.Turned.{Turned}
+use Rattle.network.specs.declared.network.Turned.the-variants.{Merged, Ended, Refused}
+use Rattle.network.specs.declared.network.Ran.{Ran}
+use Rattle.network.specs.declared.network.Ran.the-variants.{Settled, Denied}
+use Rattle.network.proofs.network.SoundSet.{eq-or-ne}
+use Rattle.network.proofs.network.View.{weight-at, first-at, second-at, size-at}
+use Rattle.network.proofs.network.Rows.{length-rows, getD-rows, has-rows}
+use Rattle.network.proofs.network.TableEdges.{word-live, live-word, Words, words}
+use Rattle.network.proofs.network.Pigeon.{two-circles}
+use Rattle.network.proofs.network.Sums.{size-two}
+use Rattle.network.proofs.network.Prepared.{at-rows}
+use Rattle.network.proofs.network.StepEdges.{ends-in, at-end, leads}
+use Rattle.network.proofs.network.StepRep.{MergeIs, merge-is}
+use Rattle.network.proofs.network.MergeDoes.{raised-true, raised-false}
+use Rattle.network.proofs.network.NumberIs.{Numbered, number-in, number-out, opposite}
+use Rattle.arithmetic.specs.Seq.{all}
+use Rattle.network.specs.Simple.{Simple}
+
+diff-same : (m n : ℕ) (w : List ℕ) (d : List Float) (e : ℕ) → getD (view m n w d .diff) e nan ≡ getD d e nan
+unfolding view
+diff-same m n w d e = refl
+
+-- ---- the choice
+choose-dead : (E : ℕ → Edge) (k n : ℕ) → ((j : ℕ) → k ≤ j → j < k + n → E j .live ≡ false) → choose (rows E k n) ≡ none
+unfolding choose better rows
+choose-dead E k zero h = refl
+choose-dead E k (suc n) h = ap (better (E k)) (choose-dead E (suc k) n (λ j p q. h j (omega arith) (omega arith))) ∙ (rw (h k (omega arith) (omega arith)) refl)
+
+module _ (m n : ℕ) (gates : ℕ → ℕ) (last : ℕ) (w : List ℕ) (d : List Float) (t : State) (R : Rep m n gates last (view m n w d) t) where
+  abbrev s : Mem
+  s = view m n w d
+
+  module _ (e : ℕ) (B : Best m w e) where
+    pub choose-none : getD w e 0 ≡ 0 → choose (t .edges) ≡ none
+    choose-none z = ap choose (R .edges) ∙ choose-dead (R .E) 0 m (λ j p q. dead j (omega arith))
+      where
+        dead : (j : ℕ) → j < m → R .E j .live ≡ false
+        dead j h = go (R .E j .live) refl
+          where
+            go : (x : Bool) → R .E j .live ≡ x → x ≡ false
+            go false l = refl
+            go true l = let ws : Words s j (R .E j) = words s j (R .E j) (R .like j h .whole l) l in absurd (ws .some (omega (arith, weight-at m n w d j h, B .beats j h .heavy)))
+
+    module _ (live : getD w e 0 ≡ 0 → ⊥) where
+      pub best-live : R .E e .live ≡ true
+      best-live = sym (R .like e (B .within) .live) ∙ word-live s e (λ z. live (sym (weight-at m n w d e (B .within)) ∙ z))
+
+      weighs : (j : ℕ) → j < m → R .E j .live ≡ true → getD w j 0 ≡ R .E j .weight
+      weighs j h l = sym (weight-at m n w d j h) ∙ words s j (R .E j) (R .like j h .whole l) l .weight-is
+
+      pub choose-some : choose (t .edges) ≡ some (R .E e)
+      choose-some = ap choose (R .edges) ∙ best-chosen (R .E 0) (rows (R .E) 0 m) e heaviest ∙ ap some (row e (B .within))
+        where
+          row : (j : ℕ) → j < m → getD (rows (R .E) 0 m) j (R .E 0) ≡ R .E j
+          row j h = let z : 0 + j ≡ j = omega arith in getD-rows (R .E) (R .E 0) 0 m j h ∙ ap (R .E) z
+
+          lives : (j : ℕ) → j < m → getD (rows (R .E) 0 m) j (R .E 0) .live ≡ true → R .E j .live ≡ true
+          lives j h l = sym (ap (λ (x : Edge). x .live) (row j h)) ∙ l
+
+          heavy : (j : ℕ) → j < m → R .E j .live ≡ true → getD (rows (R .E) 0 m) j (R .E 0) .weight ≡ getD w j 0
+          heavy j h l = ap (λ (x : Edge). x .weight) (row j h) ∙ sym (weighs j h l)
+
+          heaviest : Heaviest (R .E 0) (rows (R .E) 0 m) e
+          heaviest = record {
+            within = omega (arith, length-rows (R .E) 0 m, B .within);
+            live = ap (λ (x : Edge). x .live) (row e (B .within)) ∙ best-live;
+            heaviest = λ j h l. let p : j < m = omega (arith, length-rows (R .E) 0 m) in omega (arith, heavy j p (lives j p l), heavy e (B .within) best-live, B .beats j p .heavy);
+            earliest = λ j h l. let p : j < m = omega (arith, B .within) in omega (arith, heavy j p (lives j p l), heavy e (B .within) best-live, B .beats j p .early h);
+          }
+
+  -- ---- the merge of a live edge
+  module _ (e : ℕ) (lt : e < m) (l : R .E e .live ≡ true) where
+    abbrev rs : List Region
+    rs = rows (regionOf gates (R .node) s) 0 n
+
+    ws : Words s e (R .E e)
+    ws = words s e (R .E e) (R .like e lt .whole l) l
+
+    found : at (t .edges) e ≡ some (R .E e)
+    found = ap (λ (x : List Edge). at x e) (R .edges) ∙ at-rows (R .E) (R .number) 0 m e (omega arith) (omega arith) l
+
+    range-is : inRange (event t e) ≡ (bounded 1000 (quot (R .E e .diff) (R .E e .weight)) && all (bounded 1000) (raised (plan rs (R .E e) .gain) rs (plan rs (R .E e) .moved)))
+    unfolding event eventOf inRange
+    range-is = ap (λ (o : Option Edge). inRange (eventOf (t .regions) e o)) found ∙ ap (λ (x : List Region). inRange (eventOf x e (some (R .E e)))) (R .regions)
+
+    -- question 9 says no to the number
+    pub number-refused : bounded 1000 (quot (R .E e .diff) (R .E e .weight)) ≡ false → inRange (event t e) ≡ false
+    number-refused h = range-is ∙ (rw h refl)
+
+    -- the ends as the words have them
+    pub ends-words : (getD w (3 * m + e) 0 ≡ R .E e .first) × (getD w (4 * m + e) 0 ≡ R .E e .second) × (R .E e .first < n) × (R .E e .second < n)
+    ends-words = (sym (first-at m n w d e lt) ∙ ws .first-is, sym (second-at m n w d e lt) ∙ ws .second-is, ends-in m n gates last s t R e lt l .0, ends-in m n gates last s t R e lt l .1)
+
+    proper : R .E e .first ≡ R .E e .second → ⊥
+    proper = R .simple .proper (R .E e) (has-rows (R .E) 0 m e (omega arith) (omega arith)) l
+
+    leads-first : R .node (R .E e .first) ≡ R .E e .first
+    leads-first = leads m n gates last s t R e (R .E e .first) (ends-words .2) (at-end m n gates last s t R e (R .E e .first) lt l (inl refl))
+
+    leads-second : R .node (R .E e .second) ≡ R .E e .second
+    leads-second = leads m n gates last s t R e (R .E e .second) (ends-words .3) (at-end m n gates last s t R e (R .E e .second) lt l (inr refl))
+
+    fit-of : (b v : ℕ) → b < n → v < n → R .node b ≡ b → R .node v ≡ v → (b ≡ v → ⊥) → Fit n b v s
+    fit-of b v hb hv lb lv ne =
+        let zb : 2 * m + b - 2 * m ≡ b = omega arith in
+        let zv : 2 * m + v - 2 * m ≡ v = omega arith in
+        let eb : getD (s .elen) (2 * m + b - 2 * m) 0 ≡ getD (s .elen) b 0 = ap (λ (x : ℕ). getD (s .elen) x 0) zb in
+        let ev : getD (s .elen) (2 * m + v - 2 * m) 0 ≡ getD (s .elen) v 0 = ap (λ (x : ℕ). getD (s .elen) x 0) zv in
+        record {
+          b-in = hb;
+          v-in = hv;
+          sizes = omega (arith, R .sizes b hb lb, R .sizes v hv lv, size-two b v ne rs, R .light);
+          elens = omega (arith, R .small, two-circles (s .enext) (2 * m + n) (R .eown) (R .epos) (λ h. getD (s .elen) (h - 2 * m) 0) (R .echains) (2 * m + b) (2 * m + v) (omega arith) (omega arith) (R .header b hb ∙ ap (λ (x : ℕ). 2 * m + x) lb) (R .header v hv ∙ ap (λ (x : ℕ). 2 * m + x) lv) (λ q. ne (omega arith)));
+          rlens = omega (arith, R .small, two-circles (s .rnext) n (R .node) (R .rpos) (λ x. getD (s .rlen) x 0) (R .rchains) b v hb hv lb lv ne);
+        }
+
+    module _ (g : ℕ) (N : Numbered (quot (R .E e .diff) (R .E e .weight)) g) where
+      -- what `merge` asks, one way round and the other
+      pub asks-first : Sound m n s × (Gains n (getD w (3 * m + e) 0) (getD w (4 * m + e) 0) g × (Fit n (getD w (3 * m + e) 0) (getD w (4 * m + e) 0) s × (e < m)))
+      asks-first = rw (ends-words .0, ends-words .1)
+          (R .sound, (record { b-in = ends-words .2; v-in = ends-words .3; apart = proper; g-in = N .most }, (fit-of (R .E e .first) (R .E e .second) (ends-words .2) (ends-words .3) leads-first leads-second proper, lt)))
+
+      pub asks-second : Sound m n s × (Gains n (getD w (4 * m + e) 0) (getD w (3 * m + e) 0) (2000 - g) × (Fit n (getD w (4 * m + e) 0) (getD w (3 * m + e) 0) s × (e < m)))
+      asks-second = rw (ends-words .0, ends-words .1)
+          (R .sound, (record { b-in = ends-words .3; v-in = ends-words .2; apart = λ q. proper (sym q); g-in = omega arith }, (fit-of (R .E e .second) (R .E e .first) (ends-words .3) (ends-words .2) leads-second leads-first (λ q. proper (sym q)), lt)))
+
+      size-first : getD w (7 * m + 3 * n + getD w (3 * m + e) 0) 0 ≡ sizeOf rs (R .E e .first)
+      size-first = rw (ends-words .0) (sym (size-at m n w d (R .E e .first) (ends-words .2)) ∙ R .sizes (R .E e .first) (ends-words .2) leads-first)
+
+      size-second : getD w (7 * m + 3 * n + getD w (4 * m + e) 0) 0 ≡ sizeOf rs (R .E e .second)
+      size-second = rw (ends-words .1) (sym (size-at m n w d (R .E e .second) (ends-words .3)) ∙ R .sizes (R .E e .second) (ends-words .3) leads-second)
+
+      -- what the merge comes to
+      module _ (b v g' : ℕ) (is-b : plan rs (R .E e) .base ≡ b) (is-v : plan rs (R .E e) .moved ≡ v) (is-g : unbias g' ≡ plan rs (R .E e) .gain) (most' : g' ≤ 2000) where
+        outcome : MergeIs m n gates last s t R e lt l (merged m last e b v g' s)
+        outcome = subst (λ (x : ℕ). MergeIs m n gates last s t R e lt l (merged m last e x v g' s)) is-b (subst (λ (x : ℕ). MergeIs m n gates last s t R e lt l (merged m last e (plan rs (R .E e) .base) x g' s)) is-v (merge-is m n gates last s t R e lt l g' is-g most'))
+
+        merged-yes : (w' : List ℕ) (d' : List Float) (q : Bool) → Raised m n w' d' (merged m last e b v g' s) q → q ≡ true → PickIs m n gates t e w' d' (Merged b)
+        unfolding PickIs MergeIs
+        merged-yes w' d' q h f =
+            let r : (s' : Mem) × (merged m last e b v g' s ≡ some s') × Does m n w' d' s' = raised-true m n w' d' _ q h f in
+            let o : (all (bounded 1000) (raised (plan rs (R .E e) .gain) rs (plan rs (R .E e) .moved)) ≡ true) × Rep m n gates (plan rs (R .E e) .base) (r .0) (step t e) = subst (MergeIs m n gates last s t R e lt l) (r .1) outcome in
+            (range-is ∙ (rw (N .bound, o .0) refl), subst (λ (x : ℕ). Rep m n gates x (view m n w' d') (step t e)) is-b (subst (λ (u : Mem). Rep m n gates (plan rs (R .E e) .base) u (step t e)) (sym (r .2 .tables)) (o .1)), r .2 .tree)
+
+        merged-no : (w' : List ℕ) (d' : List Float) (q : Bool) → Raised m n w' d' (merged m last e b v g' s) q → q ≡ false → (w'' : List ℕ) (d'' : List Float) → PickIs m n gates t e w'' d'' Refused
+        unfolding PickIs MergeIs
+        merged-no w' d' q h f w'' d'' =
+            let o : all (bounded 1000) (raised (plan rs (R .E e) .gain) rs (plan rs (R .E e) .moved)) ≡ false = subst (MergeIs m n gates last s t R e lt l) (raised-false m n w' d' _ q h f) outcome in
+            range-is ∙ (rw (N .bound, o) refl)
+
+      -- the first end is the base
+      module _ (more : getD w (7 * m + 3 * n + getD w (4 * m + e) 0) 0 < getD w (7 * m + 3 * n + getD w (3 * m + e) 0) 0) where
+        plan-first : plan rs (R .E e) ≡ planFor true (R .E e)
+        unfolding plan
+        plan-first = ap (λ (x : Bool). planFor x (R .E e)) (lt-ltb (sizeOf rs (R .E e .second)) (sizeOf rs (R .E e .first)) (omega (arith, size-first, size-second)))
+
+        base₁ : plan rs (R .E e) .base ≡ getD w (3 * m + e) 0
+        unfolding planFor
+        base₁ = ap (λ (x : Plan). x .base) plan-first ∙ sym (ends-words .0)
+
+        moved₁ : plan rs (R .E e) .moved ≡ getD w (4 * m + e) 0
+        unfolding planFor
+        moved₁ = ap (λ (x : Plan). x .moved) plan-first ∙ sym (ends-words .1)
+
+        gain₁ : unbias g ≡ plan rs (R .E e) .gain
+        unfolding planFor
+        gain₁ = N .means ∙ sym (ap (λ (x : Plan). x .gain) plan-first)
+
+        pub first-yes : (w' : List ℕ) (d' : List Float) (q : Bool) → Raised m n w' d' (merged m last e (getD w (3 * m + e) 0) (getD w (4 * m + e) 0) g s) q → q ≡ true → PickIs m n gates t e w' d' (Merged (getD w (3 * m + e) 0))
+        first-yes = merged-yes (getD w (3 * m + e) 0) (getD w (4 * m + e) 0) g base₁ moved₁ gain₁ (N .most)
+
+        pub first-no : (w' : List ℕ) (d' : List Float) (q : Bool) → Raised m n w' d' (merged m last e (getD w (3 * m + e) 0) (getD w (4 * m + e) 0) g s) q → q ≡ false → (w'' : List ℕ) (d'' : List Float) → PickIs m n gates t e w'' d'' Refused
+        first-no = merged-no (getD w (3 * m + e) 0) (getD w (4 * m + e) 0) g base₁ moved₁ gain₁ (N .most)
+
+      -- the second end is
+      module _ (less : getD w (7 * m + 3 * n + getD w (3 * m + e) 0) 0 ≤ getD w (7 * m + 3 * n + getD w (4 * m + e) 0) 0) where
+        plan-second : plan rs (R .E e) ≡ planFor false (R .E e)
+        unfolding plan
+        plan-second = ap (λ (x : Bool). planFor x (R .E e)) (le-ltb (sizeOf rs (R .E e .second)) (sizeOf rs (R .E e .first)) (omega (arith, size-first, size-second)))
+
+        base₂ : plan rs (R .E e) .base ≡ getD w (4 * m + e) 0
+        unfolding planFor
+        base₂ = ap (λ (x : Plan). x .base) plan-second ∙ sym (ends-words .1)
+
+        moved₂ : plan rs (R .E e) .moved ≡ getD w (3 * m + e) 0
+        unfolding planFor
+        moved₂ = ap (λ (x : Plan). x .moved) plan-second ∙ sym (ends-words .0)
+
+        gain₂ : unbias (2000 - g) ≡ plan rs (R .E e) .gain
+        unfolding planFor
+        gain₂ = opposite g (N .most) ∙ ap negℤ (N .means) ∙ sym (ap (λ (x : Plan). x .gain) plan-second)
+
+        pub second-yes : (w' : List ℕ) (d' : List Float) (q : Bool) → Raised m n w' d' (merged m last e (getD w (4 * m + e) 0) (getD w (3 * m + e) 0) (2000 - g) s) q → q ≡ true → PickIs m n gates t e w' d' (Merged (getD w (4 * m + e) 0))
+        second-yes = merged-yes (getD w (4 * m + e) 0) (getD w (3 * m + e) 0) (2000 - g) base₂ moved₂ gain₂ (omega arith)
+
+        pub second-no : (w' : List ℕ) (d' : List Float) (q : Bool) → Raised m n w' d' (merged m last e (getD w (4 * m + e) 0) (getD w (3 * m + e) 0) (2000 - g) s) q → q ≡ false → (w'' : List ℕ) (d'' : List Float) → PickIs m n gates t e w'' d'' Refused
+        second-no = merged-no (getD w (4 * m + e) 0) (getD w (3 * m + e) 0) (2000 - g) base₂ moved₂ gain₂ (omega arith)
+
+  -- ---- from what the code knows of the chosen edge
+  pub chosen-live : (e g : ℕ) → Chosen m s e g → R .E e .live ≡ true
+  chosen-live e g c = sym (R .like e (c .e-in) .live) ∙ word-live s e (c .live)
+
+  pub chosen-number : (e g : ℕ) → (c : Chosen m s e g) → Numbered (quot (R .E e .diff) (R .E e .weight)) g
+  chosen-number e g c =
+      let ws : Words s e (R .E e) = words s e (R .E e) (R .like e (c .e-in) .whole (chosen-live e g c)) (chosen-live e g c) in
+      number-in (quot (R .E e .diff) (R .E e .weight)) g (c .number ∙ ap (λ (x : Float). numberOf (quot x (getD (s .weight) e 0))) (ws .diff-is) ∙ ap (λ (x : ℕ). numberOf (quot (R .E e .diff) x)) (ws .weight-is)) (c .most)
+
+  -- ---- a turn
+  module _ (e g : ℕ) (B : Best m w e) where
+    pub turn-ended : getD w e 0 ≡ 0 → TurnIs m n gates t w d Ended
+    unfolding TurnIs
+    turn-ended z = (choose-none e B z, last, R)
+
+    module _ (live : getD w e 0 ≡ 0 → ⊥) (is : g ≡ numberOf (quot (getD d e nan) (getD w e 0))) where
+      l : R .E e .live ≡ true
+      l = best-live e B live
+
+      in-words : g ≡ numberOf (quot (R .E e .diff) (R .E e .weight))
+      in-words =
+          let ws : Words s e (R .E e) = words s e (R .E e) (R .like e (B .within) .whole l) l in
+          let dd : getD d e nan ≡ R .E e .diff = sym (diff-same m n w d e) ∙ ws .diff-is in
+          is ∙ ap (λ (x : Float). numberOf (quot x (getD w e 0))) dd ∙ ap (λ (x : ℕ). numberOf (quot (R .E e .diff) x)) (weighs e B live e (B .within) l)
+
+      num : R .E e .num ≡ e
+      num = R .number e
+
+      pub turn-refused : 2000 < g → (w' : List ℕ) (d' : List Float) → TurnIs m n gates t w' d' Refused
+      unfolding TurnIs
+      turn-refused h w' d' = (R .E e, choose-some e B live, ap (λ (i : ℕ). inRange (event t i)) num ∙ number-refused e (B .within) l (number-out (quot (R .E e .diff) (R .E e .weight)) g in-words h))
+
+      pub turn-picked : (w' : List ℕ) (d' : List Float) (r : Turned) → PickIs m n gates t e w' d' r → TurnIs m n gates t w' d' r
+      unfolding TurnIs PickIs
+      turn-picked w' d' (Merged b) h = (R .E e, choose-some e B live, ap (λ (i : ℕ). inRange (event t i)) num ∙ h .0, subst (λ (i : ℕ). Rep m n gates b (view m n w' d') (step t i)) (sym num) (h .1), h .2)
+      turn-picked w' d' Ended h = absurd h
+      turn-picked w' d' Refused h = (R .E e, choose-some e B live, ap (λ (i : ℕ). inRange (event t i)) num ∙ h)
+
+pub turn-chosen : (m n : ℕ) (w : List ℕ) (d : List Float) (e g : ℕ) → Best m w e → (getD w e 0 ≡ 0 → ⊥) → g ≡ numberOf (quot (getD d e nan) (getD w e 0)) → g ≤ 2000 → Chosen m (view m n w d) e g
+turn-chosen m n w d e g B live is most = record {
+  e-in = B .within;
+  live = λ z. live (sym (weight-at m n w d e (B .within)) ∙ z);
+  number = is ∙ ap (λ (x : ℕ). numberOf (quot (getD d e nan) x)) (sym (weight-at m n w d e (B .within))) ∙ ap (λ (x : Float). numberOf (quot x (getD (view m n w d .weight) e 0))) (sym (diff-same m n w d e));
+  most = most;
+}
+
+-- ---- the run
+pub record Running (m n : ℕ) (w₀ : List ℕ) (d₀ : List Float) (w : List ℕ) (d : List Float) (last k : ℕ) : Type 0 where
+  pub room : Room m n w d
+  pub net : State
+  pub rep : Rep m n (gatesIn (view m n w₀ d₀)) last (view m n w d) net
+  pub left : settle (m - k) net k ≡ settle m (firstOf m n (view m n w₀ d₀)) 0
+  pub most : k ≤ m
+  pub same-w : length w ≡ length w₀
+  pub same-d : length d ≡ length d₀
+
+pub run-start : (m n : ℕ) (w : List ℕ) (d : List Float) → Room m n w d → Rep m n (gatesIn (view m n w d)) n (view m n w d) (firstOf m n (view m n w d)) → Running m n w d w d n 0
+run-start m n w d r R = let z : m - 0 ≡ m = omega arith in
+    record { room = r; net = firstOf m n (view m n w d); rep = R; left = ap (λ (x : ℕ). settle x (firstOf m n (view m n w d)) 0) z; most = omega arith; same-w = refl; same-d = refl }
+
+module _ (m n : ℕ) (w₀ : List ℕ) (d₀ : List Float) (w : List ℕ) (d : List Float) (last k : ℕ) (I : Running m n w₀ d₀ w d last k) where
+  finished : settle m (firstOf m n (view m n w₀ d₀)) 0 ≡ some (record { last = I .net; merges = k }) → (w' : List ℕ) (d' : List Float) (last' : ℕ) → Rep m n (gatesIn (view m n w₀ d₀)) last' (view m n w' d') (I .net) → RanIs m n (gatesIn (view m n w₀ d₀)) (settle m (firstOf m n (view m n w₀ d₀)) 0) w' d' (Settled k)
+  unfolding RanIs
+  finished e w' d' last' R = subst (λ (o : Option Done). RanIs m n (gatesIn (view m n w₀ d₀)) o w' d' (Settled k)) (sym e) (refl, R .node, R .regions)
+
+  pub run-out : m ≤ k → RanIs m n (gatesIn (view m n w₀ d₀)) (settle m (firstOf m n (view m n w₀ d₀)) 0) w d (Settled k)
+  unfolding settle
+  run-out h = let z : m - k ≡ 0 = omega arith in finished (sym (I .left) ∙ ap (λ (x : ℕ). settle x (I .net) k) z) w d last (I .rep)
+
+  module _ (lt : k < m) (w' : List ℕ) (d' : List Float) (lw : length w' ≡ length w) (ld : length d' ≡ length d) where
+    more : m - k ≡ suc (m - (k + 1))
+    more = omega arith
+
+    step-is : settle m (firstOf m n (view m n w₀ d₀)) 0 ≡ onward (choose (I .net .edges)) (I .net) k (settle (m - (k + 1)))
+    unfolding settle
+    step-is = sym (I .left) ∙ ap (λ (x : ℕ). settle x (I .net) k) more
+
+    pub run-merged : (b : ℕ) (r : Turned) → r ≡ Merged b → TurnIs m n (gatesIn (view m n w₀ d₀)) (I .net) w' d' r → Running m n w₀ d₀ w' d' b (k + 1)
+    unfolding TurnIs onward
+    run-merged b r e h =
+        let u : (f : Edge) × (choose (I .net .edges) ≡ some f) × (inRange (event (I .net) (f .num)) ≡ true) × Rep m n (gatesIn (view m n w₀ d₀)) b (view m n w' d') (step (I .net) (f .num)) × Tree m w' = subst (TurnIs m n (gatesIn (view m n w₀ d₀)) (I .net) w' d') e h in
+        let z : k + 1 ≡ suc k = omega arith in
+        record {
+          room = record { words = omega (arith, I .room .words); diffs = omega (arith, I .room .diffs); small = I .room .small; tree = u .4 };
+          net = step (I .net) (u .0 .num);
+          rep = u .3;
+          left = ap (settle (m - (k + 1)) (step (I .net) (u .0 .num))) z
+              ∙ sym (step-is ∙ ap (λ (o : Option Edge). onward o (I .net) k (settle (m - (k + 1)))) (u .1) ∙ ap (λ (x : Bool). cond x (settle (m - (k + 1)) (step (I .net) (u .0 .num)) (suc k)) none) (u .2));
+          most = omega arith;
+          same-w = lw ∙ I .same-w;
+          same-d = ld ∙ I .same-d;
+        }
+
+    pub run-denied : (r : Turned) → r ≡ Refused → TurnIs m n (gatesIn (view m n w₀ d₀)) (I .net) w' d' r → RanIs m n (gatesIn (view m n w₀ d₀)) (settle m (firstOf m n (view m n w₀ d₀)) 0) w' d' Denied
+    unfolding TurnIs onward RanIs
+    run-denied r e h =
+        let u : (f : Edge) × (choose (I .net .edges) ≡ some f) × (inRange (event (I .net) (f .num)) ≡ false) = subst (TurnIs m n (gatesIn (view m n w₀ d₀)) (I .net) w' d') e h in
+        let no : settle m (firstOf m n (view m n w₀ d₀)) 0 ≡ none = step-is ∙ ap (λ (o : Option Edge). onward o (I .net) k (settle (m - (k + 1)))) (u .1) ∙ ap (λ (x : Bool). cond x (settle (m - (k + 1)) (step (I .net) (u .0 .num)) (suc k)) none) (u .2) in
+        subst (λ (o : Option Done). RanIs m n (gatesIn (view m n w₀ d₀)) o w' d' Denied) (sym no) refl
+
+    pub run-ended : (r : Turned) → r ≡ Ended → TurnIs m n (gatesIn (view m n w₀ d₀)) (I .net) w' d' r → RanIs m n (gatesIn (view m n w₀ d₀)) (settle m (firstOf m n (view m n w₀ d₀)) 0) w' d' (Settled k)
+    unfolding TurnIs onward
+    run-ended r e h =
+        let u : (choose (I .net .edges) ≡ none) × (last' : ℕ) × Rep m n (gatesIn (view m n w₀ d₀)) last' (view m n w' d') (I .net) = subst (TurnIs m n (gatesIn (view m n w₀ d₀)) (I .net) w' d') e h in
+        finished (step-is ∙ ap (λ (o : Option Edge). onward o (I .net) k (settle (m - (k + 1)))) (u .0)) w' d' (u .1) (u .2)

@@ -1,0 +1,79 @@
+-- The tables before the first merge, from edges and sizes alone. Definitions only.
+use mathlib.Core.Path.{_≡_}
+use mathlib.Core.List.{List}
+use Prim.Native.Nat.{ℕ, zero, suc, _+_, _*_, _≤_, _<_, _^_}
+use lib.Dec.{T}
+use lib.IntN.{pos}
+use lib.Ieee.{nan, binary32, fits, Float}
+use lib.ListN.{length, getD}
+use Rattle.network.specs.Network.{Edge, Region, State}
+use Rattle.network.specs.Mem.{Mem, view, Room, total, enext-set, rnext-set, elen-set, rlen-set, count-set}
+use Rattle.network.specs.Net.{rows, edgeOf}
+use Rattle.network.specs.Rep.{Rep, gatesOf}
+use Rattle.network.specs.Settle.{settle}
+use Rattle.network.specs.declared.network.Ran.{Ran}
+use Rattle.network.specs.TurnIs.{gatesIn, firstOf, RanIs}
+use Rattle.network.specs.Simple.{Simple}
+
+-- each slot a circle of its own
+unfoldable pub slotsFrom : ℕ → Mem → ℕ → Mem
+slotsFrom zero s i = s
+slotsFrom (suc k) s i = slotsFrom k (enext-set s i i) (i + 1)
+
+-- each region a circle of its own, with count 0
+unfoldable pub regionsFrom : ℕ → Mem → ℕ → Mem
+regionsFrom zero s x = s
+regionsFrom (suc k) s x = regionsFrom k (count-set (elen-set (rlen-set (rnext-set s x x) x 1) x 1) x 1000) (x + 1)
+
+-- slot i into the circle of node a
+unfoldable pub linkAt : ℕ → ℕ → ℕ → Mem → Mem
+linkAt m a i s = elen-set (enext-set (enext-set s (2 * m + a) (getD (s .enext) i 0)) i (getD (s .enext) (2 * m + a) 0)) a (getD (s .elen) a 0 + 1)
+
+unfoldable pub linkEdge : ℕ → Mem → ℕ → Mem
+linkEdge m s j = linkAt m (getD (s .second) j 0) (2 * j + 1) (linkAt m (getD (s .first) j 0) (2 * j) s)
+
+unfoldable pub linkFrom : ℕ → ℕ → Mem → ℕ → Mem
+linkFrom zero m s j = s
+linkFrom (suc k) m s j = linkFrom k m (linkEdge m s j) (j + 1)
+
+unfoldable pub begun : ℕ → ℕ → Mem → Mem
+begun m n s = linkFrom m m (regionsFrom n (slotsFrom (2 * m + n) s 0) 0) 0
+
+-- the network of a table of edges and a table of sizes
+unfoldable pub rawRegion : Mem → ℕ → Region
+rawRegion s r = record { label = r; size = getD (s .size) r 0; node = r; count = pos 0 }
+
+unfoldable pub rawNet : ℕ → ℕ → Mem → State
+rawNet m n s = record { edges = rows (edgeOf s) 0 m; regions = rows (rawRegion s) 0 n }
+
+-- the words hold all tables
+pub record Space (m n : ℕ) (w : List ℕ) (d : List Float) : Type 0 where
+  pub words : 7 * m + 7 * n ≤ length w
+  pub diffs : m ≤ length d
+  pub small : 2 * m + n < 2 ^ 32
+
+-- what is asked of the edges and sizes
+pub record Raw (m n : ℕ) (s : Mem) : Type 0 where
+  pub first-in : (j : ℕ) → j < m → getD (s .first) j 0 < n
+  pub second-in : (j : ℕ) → j < m → getD (s .second) j 0 < n
+  pub single : (j : ℕ) → j < m → T (fits binary32 (getD (s .diff) j nan))
+  pub light : total (s .weight) < 2 ^ 32
+  pub gates : gatesOf (rows (rawRegion s) 0 n) < 2 ^ 32
+  pub simple : Simple (rows (edgeOf s) 0 m)
+
+-- what is then known of the words
+pub record Begun (m n : ℕ) (s : Mem) (w : List ℕ) (d : List Float) : Type 0 where
+  pub room : Room m n w d
+  pub rep : Rep m n (gatesIn (view m n w d)) n (view m n w d) (firstOf m n (view m n w d))
+  pub net : firstOf m n (view m n w d) ≡ rawNet m n s
+  pub sizes : gatesIn (view m n w d) ≡ gatesIn s
+
+-- what linking asks: ends in range, and lengths that have grown by no more than two an edge
+pub record Linkable (m n j : ℕ) (s : Mem) : Type 0 where
+  pub first-in : (i : ℕ) → i < m → getD (s .first) i 0 < n
+  pub second-in : (i : ℕ) → i < m → getD (s .second) i 0 < n
+  pub lengths : (a : ℕ) → a < n → getD (s .elen) a 0 ≤ 1 + 2 * j
+
+-- what all merges come to, from the tables of edges and sizes
+unfoldable pub AllIs : ℕ → ℕ → Mem → List ℕ → List Float → Ran → Type 0
+AllIs m n s w d r = RanIs m n (gatesIn s) (settle m (rawNet m n s) 0) w d r

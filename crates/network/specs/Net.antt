@@ -1,0 +1,39 @@
+-- The network that the tables stand for. Definitions only.
+use mathlib.Core.Path.{_≡_}
+use mathlib.Core.Bool.{Bool, true, not}
+use mathlib.Core.List.{List, [], _∷_}
+use Prim.Native.Nat.{ℕ, zero, suc}
+use lib.Dec.{eqb}
+use lib.Ieee.{nan}
+use lib.ListN.{getD}
+use Rattle.network.specs.Network.{Edge, Region, State}
+use Rattle.network.specs.Mem.{Mem}
+use Rattle.network.specs.Steps.{unbias}
+
+-- f k, f (k + 1), .. of n numbers
+unfoldable pub rows : {A : Type 0} → (ℕ → A) → ℕ → ℕ → List A
+rows f k zero = []
+rows f k (suc n) = f k ∷ rows f (suc k) n
+
+-- edge j: live where its weight is not 0
+unfoldable pub edgeOf : Mem → ℕ → Edge
+edgeOf s j = record {
+  num = j;
+  live = not (eqb (getD (s .weight) j 0) 0);
+  first = getD (s .first) j 0;
+  second = getD (s .second) j 0;
+  weight = getD (s .weight) j 0;
+  diff = getD (s .diff) j nan;
+}
+
+-- region r, of a size and a node that no table holds
+unfoldable pub regionOf : (ℕ → ℕ) → (ℕ → ℕ) → Mem → ℕ → Region
+regionOf gates node s r = record { label = r; size = gates r; node = node r; count = unbias (getD (s .count) r 0) }
+
+unfoldable pub stateOf : ℕ → ℕ → (ℕ → ℕ) → (ℕ → ℕ) → Mem → State
+stateOf m n gates node s = record { edges = rows (edgeOf s) 0 m; regions = rows (regionOf gates node s) 0 n }
+
+-- x stands for y: both dead, or equal
+pub record Like (x y : Edge) : Type 0 where
+  pub live : x .live ≡ y .live
+  pub whole : y .live ≡ true → x ≡ y

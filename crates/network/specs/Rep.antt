@@ -1,0 +1,51 @@
+-- The invariant of the merging code: the tables s stand for the network t. Definitions only.
+use mathlib.Core.Path.{_≡_}
+use mathlib.Core.Logic.{_⊎_}
+use mathlib.Core.Bool.{true}
+use mathlib.Core.List.{List, [], _∷_}
+use Prim.Native.Nat.{ℕ, _+_, _*_, _-_, _≤_, _<_, _^_}
+use lib.ListN.{getD}
+use Rattle.network.specs.Network.{Edge, Region, State, sizeOf}
+use Rattle.network.specs.Mem.{Mem, Sound}
+use Rattle.network.specs.Net.{rows, edgeOf, regionOf, Like}
+use Rattle.network.specs.Chain.{Chains}
+use Rattle.network.specs.Simple.{Simple}
+
+-- the gates of all regions
+unfoldable pub gatesOf : List Region → ℕ
+gatesOf [] = 0
+gatesOf (r ∷ rs) = r .size + gatesOf rs
+
+-- the two slots of an edge are in the chains of its two ends
+abbrev pub Ends : ℕ → (ℕ → ℕ) → ℕ → Edge → Type 0
+Ends m eown j e =
+    ((eown (2 * j) ≡ 2 * m + e .first) × (eown (2 * j + 1) ≡ 2 * m + e .second))
+    ⊎ ((eown (2 * j) ≡ 2 * m + e .second) × (eown (2 * j + 1) ≡ 2 * m + e .first))
+
+-- m edges, n regions; last is the last merge's base, or n
+pub record Rep (m n : ℕ) (gates : ℕ → ℕ) (last : ℕ) (s : Mem) (t : State) : Type 0 where
+  -- edges, each region's node, the places of regions and of slots in their chains
+  pub E : ℕ → Edge
+  pub node : ℕ → ℕ
+  pub rpos : ℕ → ℕ
+  pub eown : ℕ → ℕ
+  pub epos : ℕ → ℕ
+  -- the network
+  pub edges : t .edges ≡ rows E 0 m
+  pub regions : t .regions ≡ rows (regionOf gates node s) 0 n
+  pub number : (j : ℕ) → E j .num ≡ j
+  pub simple : Simple (rows E 0 m)
+  pub light : gatesOf (rows (regionOf gates node s) 0 n) < 2 ^ 32
+  -- the tables
+  pub sound : Sound m n s
+  pub small : 2 * m + n < 2 ^ 32
+  pub like : (j : ℕ) → j < m → Like (edgeOf s j) (E j)
+  pub sizes : (x : ℕ) → x < n → node x ≡ x → getD (s .size) x 0 ≡ sizeOf (rows (regionOf gates node s) 0 n) x
+  -- the chains
+  pub rchains : Chains (s .rnext) n node rpos (λ x. getD (s .rlen) x 0)
+  pub echains : Chains (s .enext) (2 * m + n) eown epos (λ h. getD (s .elen) (h - 2 * m) 0)
+  pub high : (i : ℕ) → i < 2 * m + n → 2 * m ≤ eown i
+  pub header : (x : ℕ) → x < n → eown (2 * m + x) ≡ 2 * m + node x
+  pub ends : (j : ℕ) → j < m → E j .live ≡ true → Ends m eown j (E j)
+  -- the last base's edges are turned to it and marked
+  pub marks : (j : ℕ) → j < m → E j .live ≡ true → (E j .first ≡ last) ⊎ (E j .second ≡ last) → (E j .first ≡ last) × (getD (s .mark) (E j .second) 0 ≡ j)
