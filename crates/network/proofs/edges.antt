@@ -9,5 +9,6 @@ pub mod Runs
 pub mod Sorting
 pub mod SortSteps
 pub mod Gathering
+pub mod RunCount
 pub mod Assembly
 pub mod Weights

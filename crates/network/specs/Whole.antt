@@ -5,28 +5,27 @@ use mathlib.Core.List.{List, map}
 use lib.ListN.{length, getD}
 use lib.Ieee.{Float}
 use Rattle.arithmetic.specs.Seg.{seg}
-use Rattle.network.specs.Edges.{pairs, used}
 use Rattle.network.specs.declared.edges.Frame.{Frame}
-use Rattle.network.specs.Sees.{shape}
 use Rattle.network.specs.Gather.{diffOf}
 use Rattle.network.specs.declared.edges.EdgeRecord.{EdgeRecord}
 
--- labels 0 to k in the first n words; room for c edges from t on
-pub record Asked (f : Frame) (w : List ℕ) (d vel : List Float) (n k t c : ℕ) : Type 0 where
+-- labels 0 to k in the first n words; room for the tables from t on
+pub record Asked (f : Frame) (w : List ℕ) (d vel : List Float) (n k t : ℕ) : Type 0 where
   pub whole : n ≡ f .rays * f .gates
   pub small : 4 * n < 2 ^ 32
   pub vels : length vel ≡ n
   pub label : (j : ℕ) → j < n → getD w j 0 ≤ k
   pub scratch : 25 * n + k + 1 ≤ length w
   pub above : 13 * n ≤ t
-  pub words : t + 5 * c ≤ length w
-  pub diffs : c ≤ length d
-  pub fits : length (used k (pairs (shape f) (seg w 0 n) vel)) ≤ c
+  pub words : t + 20 * n ≤ length w
+  pub diffs : 4 * n ≤ length d
 
--- the tables hold these records as edges
-pub record Edged (wide : Float) (v : List ℕ) (b : List Float) (t c e : ℕ) (rs : List EdgeRecord) : Type 0 where
+-- the tables from t on hold these records as e edges: weights, a gap of 2e words, first ends, second ends; the labels are as they were
+pub record Edged (wide : Float) (n : ℕ) (u v : List ℕ) (b : List Float) (t e : ℕ) (rs : List EdgeRecord) : Type 0 where
   pub count : e ≡ length rs
+  pub few : e ≤ 4 * n
   pub weight : seg v t e ≡ map (λ r. r .count) rs
-  pub first : seg v (t + 3 * c) e ≡ map (λ r. r .one) rs
-  pub second : seg v (t + 4 * c) e ≡ map (λ r. r .two) rs
+  pub first : seg v (t + 3 * e) e ≡ map (λ r. r .one) rs
+  pub second : seg v (t + 4 * e) e ≡ map (λ r. r .two) rs
   pub diff : seg b 0 e ≡ map (diffOf wide) rs
+  pub labels : seg v 0 n ≡ seg u 0 n

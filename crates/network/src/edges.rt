@@ -1,5 +1,6 @@
 // edges.rs: looks, pairs, and the edge records gathered from them.
 ghost use mathlib.Core.Path.{_≡_};
+ghost use mathlib.Core.Bool.{cond};
 ghost use mathlib.Core.List.{List, [], _∷_};
 ghost use Prim.Native.Nat.{ℕ, suc, _+_, _-_, _*_, _≤_, _<_, _^_};
 ghost use lib.ListN.{length, getD, set};
@@ -375,7 +376,38 @@ pub fn gather(
     s.edges + 1
 }
 
-// The edges of a labelled sweep, of labels 0 to k. Gives how many.
+// One more than e where pair q begins a run after pair p, else e.
+fn next_run(p: Raw, q: Raw, e: usize) -> usize
+    requires { ⌜ e + 1 < 2 ^ 32 ⌝ }
+    ensures { λ r. ⌜ r ≡ cond (alike (begun (pairIs p)) (pairIs q)) e (e + 1) ⌝ }
+{
+    if same_labels(begin(p, 0), q) {
+        return e;
+    }
+    e + 1
+}
+
+// How many runs of equal labels the sorted pairs have.
+pub fn count_runs(w: &[u32], vel: &[f32], n: usize, m: usize) -> usize
+    requires { ⌜ Ready (now w) (now vel) n m ⌝ }
+    ensures { λ r. ⌜ r ≡ length (runs (later (now (w .entry)) (now (vel .entry)) n m 0)) ⌝ }
+{
+    if m == 0 {
+        return 0;
+    }
+    let mut p = pair_at(w, vel, n, m, 0);
+    let mut e = 1;
+    let mut i = 1;
+    while i < m {
+        let q = pair_at(w, vel, n, m, i);
+        e = next_run(p, q, e);
+        p = q;
+        i += 1;
+    }
+    e
+}
+
+// The edges of a labelled sweep, of labels 0 to k, in tables from t on. Gives how many.
 pub fn find_edges(
     w: &mut [u32],
     d: &mut [f64],
@@ -384,13 +416,13 @@ pub fn find_edges(
     n: usize,
     k: usize,
     t: usize,
-    c: usize,
     wide: f64,
 ) -> usize
-    requires { ⌜ Asked f (now w) (now d) (now vel) n k t c ⌝ }
-    ensures { λ r. ⌜ Edged wide (now (w .exit)) (now (d .exit)) t c r (used k (pairs (shape f) (seg (now (w .entry)) 0 n) (now (vel .entry)))) ⌝ }
+    requires { ⌜ Asked f (now w) (now d) (now vel) n k t ⌝ }
+    ensures { λ r. ⌜ Edged wide n (now (w .entry)) (now (w .exit)) (now (d .exit)) t r (used k (pairs (shape f) (seg (now (w .entry)) 0 n) (now (vel .entry)))) ⌝ }
 {
     let m = pair_all(w, n, f);
     sort_pairs(w, n, m, k + 1);
-    gather(w, d, vel, n, m, t, c, wide)
+    let e = count_runs(w, vel, n, m);
+    gather(w, d, vel, n, m, t, e, wide)
 }

@@ -27,6 +27,8 @@ use Rattle.network.proofs.edges.GatePairLaws.{sees-in}
 use Rattle.network.proofs.edges.PairTurn.{label-at}
 use Rattle.network.proofs.edges.Runs.{All}
 use Rattle.network.proofs.edges.Sorting.{blank, two-passes, used-runs}
+use Rattle.network.proofs.edges.RunCount.{runs-few}
+use Rattle.network.proofs.edges.Gathering.{tables-labels}
 use Rattle.network.specs.declared.edges.EdgeRecord.{EdgeRecord}
 
 -- ---- what holds of each
@@ -117,7 +119,7 @@ keys-same w vel n (t ∷ ts) f key h s = rw (h t (s .0), keys-same w vel n ts f 
 
 -- ---- the three calls
 
-module _ (f : Frame) (u : List ℕ) (a vel : List Float) (n k t c : ℕ) (q : Asked f u a vel n k t c) where
+module _ (f : Frame) (u : List ℕ) (a vel : List Float) (n k t : ℕ) (q : Asked f u a vel n k t) where
   ts : List GatePair
   ts = gatePairs (shape f) (seg u 0 n)
 
@@ -225,56 +227,73 @@ module _ (f : Frame) (u : List ℕ) (a vel : List Float) (n k t c : ℕ) (q : As
       runs-are : runs (later v vel n m 0) ≡ used k (pairs (shape f) (seg u 0 n) vel)
       runs-are = ap runs later-is ∙ sym (used-runs (seg u 0 n) vel (shape f) k)
 
-      pub gathers : Gathers v a vel n m t c
-      gathers = record {
-        ready = record {
-          room = omega (arith, q .scratch, lv, lw, few);
-          few = few;
-          small = omega (arith, q .small, few);
-          little = omega (arith, q .small);
-          vels = q .vels;
-          index = λ i h. omega (arith, getD-seg v (9 * n) m i 0 h, number-lt i h);
-          gate = λ x h. omega (arith, o .kept (n + x) (omega (arith, few)), gate-at x h, within-at x h .gate);
-          far = λ x h. omega (arith, o .kept (5 * n + x) (omega (arith, few)), far-at x h, within-at x h .far);
-        };
-        above = omega (arith, q .above, few);
-        words = omega (arith, q .words, lv, lw);
-        diffs = q .diffs;
-        fits = omega (arith, q .fits, ap length runs-are);
+      pub ready : Ready v vel n m
+      ready = record {
+        room = omega (arith, q .scratch, lv, lw, few);
+        few = few;
+        small = omega (arith, q .small, few);
+        little = omega (arith, q .small);
+        vels = q .vels;
+        index = λ i h. omega (arith, getD-seg v (9 * n) m i 0 h, number-lt i h);
+        gate = λ x h. omega (arith, o .kept (n + x) (omega (arith, few)), gate-at x h, within-at x h .gate);
+        far = λ x h. omega (arith, o .kept (5 * n + x) (omega (arith, few)), far-at x h, within-at x h .far);
       }
 
-      pub edged : (wide : Float) (y : List ℕ) (b : List Float) (e : ℕ) → Gathered wide v y a b t c e (runs (later v vel n m 0)) → Edged wide y b t c e (used k (pairs (shape f) (seg u 0 n) vel))
-      unfolding tables
-      edged wide y b e r =
-          let R : List EdgeRecord = runs (later v vel n m 0) in
-          let fit : e ≤ c = omega (arith, r .count, ap length runs-are, q .fits) in
-          let lX : length (map (λ (r : EdgeRecord). r .count) R) ≡ e = length-map R (λ r. r .count) ∙ sym (r .count) in
-          let lY : length (map (λ (r : EdgeRecord). r .one) R) ≡ e = length-map R (λ r. r .one) ∙ sym (r .count) in
-          let lZ : length (map (λ (r : EdgeRecord). r .two) R) ≡ e = length-map R (λ r. r .two) ∙ sym (r .count) in
-          let lD : length (map (diffOf wide) R) ≡ e = length-map R (diffOf wide) ∙ sym (r .count) in
-          let W1 : List ℕ = put v t (map (λ r. r .count) R) in
-          let W2 : List ℕ = put W1 (t + 3 * c) (map (λ r. r .one) R) in
-          let l1 : length W1 ≡ length v = length-put v t (map (λ r. r .count) R) in
-          let l2 : length W2 ≡ length v = length-put W1 (t + 3 * c) (map (λ r. r .one) R) ∙ l1 in
-          record {
-            count = r .count ∙ ap length runs-are;
-            weight =
-                ap (λ (l : List ℕ). seg l t e) (r .words)
-                ∙ seg-put-below W2 (t + 4 * c) (map (λ r. r .two) R) t e (omega arith)
-                ∙ seg-put-below W1 (t + 3 * c) (map (λ r. r .one) R) t e (omega arith)
-                ∙ ap (λ (x : ℕ). seg W1 t x) (sym lX) ∙ seg-put-same v t (map (λ r. r .count) R) (omega (arith, q .words, lv, lw))
-                ∙ ap (map (λ (r : EdgeRecord). r .count)) runs-are;
-            first =
-                ap (λ (l : List ℕ). seg l (t + 3 * c) e) (r .words)
-                ∙ seg-put-below W2 (t + 4 * c) (map (λ r. r .two) R) (t + 3 * c) e (omega arith)
-                ∙ ap (λ (x : ℕ). seg W2 (t + 3 * c) x) (sym lY) ∙ seg-put-same W1 (t + 3 * c) (map (λ r. r .one) R) (omega (arith, q .words, lv, lw))
-                ∙ ap (map (λ (r : EdgeRecord). r .one)) runs-are;
-            second =
-                ap (λ (l : List ℕ). seg l (t + 4 * c) e) (r .words)
-                ∙ ap (λ (x : ℕ). seg (put W2 (t + 4 * c) (map (λ r. r .two) R)) (t + 4 * c) x) (sym lZ) ∙ seg-put-same W2 (t + 4 * c) (map (λ r. r .two) R) (omega (arith, q .words, lv, lw))
-                ∙ ap (map (λ (r : EdgeRecord). r .two)) runs-are;
-            diff =
-                ap (λ (l : List Float). seg l 0 e) (r .diffs)
-                ∙ ap (λ (x : ℕ). seg (put a 0 (map (diffOf wide) R)) 0 x) (sym lD) ∙ seg-put-same a 0 (map (diffOf wide) R) (omega (arith, q .diffs))
-                ∙ ap (map (diffOf wide)) runs-are;
-          }
+      later-long : length (later v vel n m 0) ≡ m
+      unfolding later
+      later-long = length-map (upto (m - 0) 0) (pairAt v vel n) ∙ upto-length (m - 0) 0 ∙ omega arith
+
+      module _ (c : ℕ) (rc : c ≡ length (runs (later v vel n m 0))) where
+        few-edges : c ≤ 4 * n
+        few-edges = omega (arith, rc, runs-few (later v vel n m 0), later-long, few)
+
+        pub gathers : Gathers v a vel n m t c
+        gathers = record {
+          ready = ready;
+          above = omega (arith, q .above, few);
+          words = omega (arith, q .words, few-edges, lv, lw);
+          diffs = omega (arith, q .diffs, few-edges);
+          fits = omega (arith, rc);
+        }
+
+        pub edged : (wide : Float) (y : List ℕ) (b : List Float) (e : ℕ) → Gathered wide v y a b t c e (runs (later v vel n m 0)) → Edged wide n u y b t e (used k (pairs (shape f) (seg u 0 n) vel))
+        unfolding tables
+        edged wide y b e r =
+            let R : List EdgeRecord = runs (later v vel n m 0) in
+            let fit : e ≤ c = omega (arith, r .count, rc) in
+            let ce : c ≡ e = rc ∙ sym (r .count) in
+            let low : c ≤ 4 * n = few-edges in
+            let lX : length (map (λ (r : EdgeRecord). r .count) R) ≡ e = length-map R (λ r. r .count) ∙ sym (r .count) in
+            let lY : length (map (λ (r : EdgeRecord). r .one) R) ≡ e = length-map R (λ r. r .one) ∙ sym (r .count) in
+            let lZ : length (map (λ (r : EdgeRecord). r .two) R) ≡ e = length-map R (λ r. r .two) ∙ sym (r .count) in
+            let lD : length (map (diffOf wide) R) ≡ e = length-map R (diffOf wide) ∙ sym (r .count) in
+            let W1 : List ℕ = put v t (map (λ r. r .count) R) in
+            let W2 : List ℕ = put W1 (t + 3 * c) (map (λ r. r .one) R) in
+            let l1 : length W1 ≡ length v = length-put v t (map (λ r. r .count) R) in
+            let l2 : length W2 ≡ length v = length-put W1 (t + 3 * c) (map (λ r. r .one) R) ∙ l1 in
+            record {
+              count = r .count ∙ ap length runs-are;
+              few = omega arith;
+              weight =
+                  ap (λ (l : List ℕ). seg l t e) (r .words)
+                  ∙ seg-put-below W2 (t + 4 * c) (map (λ r. r .two) R) t e (omega arith)
+                  ∙ seg-put-below W1 (t + 3 * c) (map (λ r. r .one) R) t e (omega arith)
+                  ∙ ap (λ (x : ℕ). seg W1 t x) (sym lX) ∙ seg-put-same v t (map (λ r. r .count) R) (omega (arith, q .words, lv, lw))
+                  ∙ ap (map (λ (r : EdgeRecord). r .count)) runs-are;
+              first =
+                  ap (λ (x : ℕ). seg y (t + 3 * x) e) (sym ce)
+                  ∙ ap (λ (l : List ℕ). seg l (t + 3 * c) e) (r .words)
+                  ∙ seg-put-below W2 (t + 4 * c) (map (λ r. r .two) R) (t + 3 * c) e (omega arith)
+                  ∙ ap (λ (x : ℕ). seg W2 (t + 3 * c) x) (sym lY) ∙ seg-put-same W1 (t + 3 * c) (map (λ r. r .one) R) (omega (arith, q .words, lv, lw))
+                  ∙ ap (map (λ (r : EdgeRecord). r .one)) runs-are;
+              second =
+                  ap (λ (x : ℕ). seg y (t + 4 * x) e) (sym ce)
+                  ∙ ap (λ (l : List ℕ). seg l (t + 4 * c) e) (r .words)
+                  ∙ ap (λ (x : ℕ). seg (put W2 (t + 4 * c) (map (λ r. r .two) R)) (t + 4 * c) x) (sym lZ) ∙ seg-put-same W2 (t + 4 * c) (map (λ r. r .two) R) (omega (arith, q .words, lv, lw))
+                  ∙ ap (map (λ (r : EdgeRecord). r .two)) runs-are;
+              diff =
+                  ap (λ (l : List Float). seg l 0 e) (r .diffs)
+                  ∙ ap (λ (x : ℕ). seg (put a 0 (map (diffOf wide) R)) 0 x) (sym lD) ∙ seg-put-same a 0 (map (diffOf wide) R) (omega (arith, q .diffs))
+                  ∙ ap (map (diffOf wide)) runs-are;
+              labels = ap (λ (l : List ℕ). seg l 0 n) (r .words) ∙ tables-labels v t c R n (omega (arith, q .above)) ∙ labels-v;
+            }
