@@ -1,6 +1,7 @@
 pub mod Edges
 pub mod Network
 pub mod Simple
+pub mod Sizes
 pub mod Sees
 pub mod GatePairs
 pub mod Order

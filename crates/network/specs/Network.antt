@@ -8,7 +8,7 @@ use lib.Dec.{leb, ltb, eqb}
 use lib.ListN.{length}
 use lib.IntN.{ℤ, pos, negsuc, _+ℤ_, _*ℤ_, negℤ}
 use lib.Ieee.{Float, binary32, binary64, add, sub, neg, div, ofInt}
-use Rattle.arithmetic.specs.Seq.{all}
+use Rattle.arithmetic.specs.Seq.{all, keep}
 use Rattle.arithmetic.specs.Rounding.{roundEven, narrowed, real}
 use Rattle.arithmetic.specs.declared.rounding.Rounded.{Rounded}
 use Rattle.arithmetic.specs.declared.rounding.Rounded.the-variants.{Whole, Outside}
@@ -310,6 +310,10 @@ numbered w k (r ∷ rs) = edgeOf w k r ∷ numbered w (suc k) rs
 unfoldable pub alone : ℕ → List ℕ → List Region
 alone k [] = []
 alone k (n ∷ ns) = record { label = k; size = n; node = k; count = pos 0 } ∷ alone (suc k) ns
+
+-- How many gates have label l.
+unfoldable pub sizeIn : List ℕ → ℕ → ℕ
+sizeIn labels l = length (keep (eqb l) labels)
 
 -- The first state: edges numbered from 0, regions from 1.
 unfoldable pub start : Float → List EdgeRecord → List ℕ → State

@@ -45,7 +45,7 @@ Tree m w = Played m w 1 0
 pub record Built (m lo : ℕ) (w₀ w : List ℕ) : Type 0 where
   pub weights : take m w ≡ take m w₀
   pub rest : drop (3 * m) w ≡ drop (3 * m) w₀
-  pub eqb : length w ≡ length w₀
+  pub long : length w ≡ length w₀
   pub tree : Played m w lo 0
 
 abbrev pub Weighed : ℕ → List ℕ → List ℕ → Type 0

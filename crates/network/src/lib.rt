@@ -1,5 +1,6 @@
 // The network of regions: edges between regions that see each other, and the merges that join them.
 pub mod edges;
 pub mod network;
+pub mod sizes;
 pub mod sort;
 pub mod tree;

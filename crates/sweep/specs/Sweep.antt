@@ -12,7 +12,7 @@ use Rattle.arithmetic.specs.Intervals.{folded}
 use Rattle.labels.specs.Label.{Found}
 use Rattle.labels.specs.Regions.{regions}
 use Rattle.network.specs.Edges.{Shape, Pair, pairs, used}
-use Rattle.network.specs.Network.{Region, State, start, merges, replay, trace, inRange, countOf}
+use Rattle.network.specs.Network.{Region, State, sizeIn, start, merges, replay, trace, inRange, countOf}
 
 -- the inputs of a call, but for what is lent
 pub record Sweep : Type 0 where
@@ -30,10 +30,6 @@ regionsOf s limits = regions (s .shape .gates) (s .vel) (s .mask) limits
 -- the pairs
 unfoldable pub pairsOf : Sweep → Found → List Pair
 pairsOf s f = pairs (s .shape) (f .labels) (s .vel)
-
--- how many gates have label l
-unfoldable pub sizeIn : List ℕ → ℕ → ℕ
-sizeIn labels l = length (keep (eqb l) labels)
 
 -- the sizes of regions 1, 2, ..
 unfoldable pub sizes : Found → List ℕ

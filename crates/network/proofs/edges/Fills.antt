@@ -29,7 +29,7 @@ unfolding labelsOf
 length-labels w src m h = length-map (seg w src m) (λ x. getD w x 0) ∙ length-seg w src m h
 
 pub record Turn (w₀ w : List ℕ) (n src m dst i : ℕ) : Type 0 where
-  pub eqb : length w ≡ length w₀
+  pub long : length w ≡ length w₀
   pub x-lt : getD w (src + i) 0 < n
   pub room : dst + m ≤ length w
   pub apart : src + m ≤ dst
@@ -44,16 +44,16 @@ pub turn : (w₀ w : List ℕ) (n src m dst i : ℕ) → Reads w₀ n src m dst 
 unfolding labelsOf
 turn w₀ w n src m dst i lay e h =
     let x₀ : ℕ = getD w₀ (src + i) 0 in
-    let eqb : length w ≡ length w₀ = ap length e ∙ length-put w₀ dst (labelsOf w₀ src i) in
+    let long : length w ≡ length w₀ = ap length e ∙ length-put w₀ dst (labelsOf w₀ src i) in
     let xe : getD w (src + i) 0 ≡ x₀ = ap (λ (l : List ℕ). getD l (src + i) 0) e ∙ getD-put-below w₀ dst (labelsOf w₀ src i) (src + i) 0 (omega (arith, lay .apart)) in
     let lt : x₀ < n = lay .gate i h in
     let ye : getD w (getD w (src + i) 0) 0 ≡ getD w₀ x₀ 0 =
     ap (λ (x : ℕ). getD w x 0) xe ∙ ap (λ (l : List ℕ). getD l x₀ 0) e ∙ getD-put-below w₀ dst (labelsOf w₀ src i) x₀ 0 (omega (arith, lay .above, lt)) in
     let ll : length (labelsOf w₀ src i) ≡ i = length-labels w₀ src i (omega (arith, lay .apart, lay .room)) in
     record {
-      eqb = eqb;
+      long = long;
       x-lt = omega (arith, xe, lt);
-      room = omega (arith, eqb, lay .room);
+      room = omega (arith, long, lay .room);
       apart = lay .apart;
       above = lay .above;
       step =

@@ -133,7 +133,7 @@ unfolding absorbAt
 absorb-does m n w w₁ w₂ d q f x r hq hf a b =
     let d' : List Float = set d q (add binary32 (getD d q nan) x) in
     let u : getD (view m n w d .diff) q nan ≡ getD d q nan = unfold view in refl in
-    let l : length w₁ ≡ length w = a .eqb ∙ length-set w q (getD w q 0 + getD w f 0) in
+    let l : length w₁ ≡ length w = a .long ∙ length-set w q (getD w q 0 + getD w f 0) in
     record {
       tables = rw (u, weight-at m n w d q hq, weight-at m n w d f hf)
           (view-weighed m n (set w₁ f 0) w₂ d' b

@@ -110,7 +110,7 @@ module _ (m n b v g last e : ℕ) (w : List ℕ) (d : List Float) (r : Room m n 
   s = view m n w d
 
   len₁ : length w₁ ≡ length w
-  len₁ = D₁ .eqb ∙ length-set w e 0
+  len₁ = D₁ .long ∙ length-set w e 0
 
   tables₁ : view m n w₁ d ≡ weight-set s e 0
   tables₁ = view-weighed m n (set w e 0) w₁ d D₁ ∙ weight-put m n w d e 0 lt (r .words)

@@ -516,7 +516,7 @@ module _ (m n : ℕ) (w : List ℕ) (d : List Float) (sp : Space m n w d) (raw :
   tables₁ = view-weighed m n w w₁ d D₁
 
   pub begin-slots : Room m n w₁ d
-  begin-slots = record { words = omega (arith, sp .words, D₁ .eqb); diffs = sp .diffs; small = sp .small; tree = D₁ .tree }
+  begin-slots = record { words = omega (arith, sp .words, D₁ .long); diffs = sp .diffs; small = sp .small; tree = D₁ .tree }
 
   module _ (w₂ : List ℕ) (d₂ : List Float) (lw₂ : length w₂ ≡ length w₁) (ld₂ : length d₂ ≡ length d) (D₂ : Does m n w₂ d₂ (slotsFrom (2 * m + n) (view m n w₁ d) 0)) where
     pub begin-regions : Room m n w₂ d₂

@@ -234,14 +234,14 @@ game-in m w lo dirty k h a b c =
 pub record Playing (m : ℕ) (w₀ w : List ℕ) (lo dirty : ℕ) : Type 0 where
   pub weights : take m w ≡ take m w₀
   pub rest : drop (3 * m) w ≡ drop (3 * m) w₀
-  pub eqb : length w ≡ length w₀
+  pub long : length w ≡ length w₀
   pub played : Played m w lo dirty
 
 outside : (m : ℕ) (w₀ w : List ℕ) (lo dirty k v : ℕ) (lo' dirty' : ℕ) → Playing m w₀ w lo dirty → k < m → Played m (set w (m + k) v) lo' dirty' → Playing m w₀ (set w (m + k) v) lo' dirty'
 outside m w₀ w lo dirty k v lo' dirty' p lt h = record {
   weights = take-set-le m w (m + k) v (omega arith) ∙ p .weights;
   rest = drop-set-lt (3 * m) w (m + k) v (omega arith) ∙ p .rest;
-  eqb = length-set w (m + k) v ∙ p .eqb;
+  long = length-set w (m + k) v ∙ p .long;
   played = h;
 }
 
@@ -256,13 +256,13 @@ pub build-turn : (m : ℕ) (w₀ w : List ℕ) (k v : ℕ) → Playing m w₀ w 
 build-turn m w₀ w k v p a b e = outside m w₀ w (k + 1) 0 k v k 0 p b (build-step m w k v (p .played) a b e)
 
 pub play-end : (m : ℕ) (w₀ w : List ℕ) (k : ℕ) → Playing m w₀ w 1 k → k ≤ 0 → Weighed m w₀ w
-play-end m w₀ w k p h = let z : k ≡ 0 = omega arith in record { weights = p .weights; rest = p .rest; eqb = p .eqb; tree = rw z at (p .played) }
+play-end m w₀ w k p h = let z : k ≡ 0 = omega arith in record { weights = p .weights; rest = p .rest; long = p .long; tree = rw z at (p .played) }
 
 pub build-end : (m : ℕ) (w₀ w : List ℕ) (k : ℕ) → Playing m w₀ w k 0 → k ≤ 1 → Weighed m w₀ w
 build-end m w₀ w k p h = record {
   weights = p .weights;
   rest = p .rest;
-  eqb = p .eqb;
+  long = p .long;
   tree = record {
     room = p .played .room;
     leaf = p .played .leaf;
@@ -276,19 +276,19 @@ build-end m w₀ w k p h = record {
 pub record Leafing (m e : ℕ) (w₀ w : List ℕ) : Type 0 where
   pub weights : take m w ≡ take m w₀
   pub rest : drop (3 * m) w ≡ drop (3 * m) w₀
-  pub eqb : length w ≡ length w₀
+  pub long : length w ≡ length w₀
   pub leaf : (x : ℕ) → x < e → getD w (m + (m + x)) 0 ≡ x
 
 pub leaf-start : (m : ℕ) (w : List ℕ) → Leafing m 0 w w
-leaf-start m w = record { weights = refl; rest = refl; eqb = refl; leaf = λ x h. absurd (omega arith) }
+leaf-start m w = record { weights = refl; rest = refl; long = refl; leaf = λ x h. absurd (omega arith) }
 
 pub leaf-turn : (m e : ℕ) (w₀ w : List ℕ) → Leafing m e w₀ w → 3 * m ≤ length w₀ → e < m → Leafing m (e + 1) w₀ (set w (m + m + e) e)
 leaf-turn m e w₀ w p r lt = record {
   weights = take-set-le m w (m + m + e) e (omega arith) ∙ p .weights;
   rest = drop-set-lt (3 * m) w (m + m + e) e (omega arith) ∙ p .rest;
-  eqb = length-set w (m + m + e) e ∙ p .eqb;
+  long = length-set w (m + m + e) e ∙ p .long;
   leaf = λ x h. ⊎-elim
-      (λ t. let z : m + (m + x) ≡ m + m + e = omega arith in rw (z, getD-set-same w (m + m + e) e 0 (omega (arith, p .eqb))) (sym t))
+      (λ t. let z : m + (m + x) ≡ m + m + e = omega arith in rw (z, getD-set-same w (m + m + e) e 0 (omega (arith, p .long))) (sym t))
       (λ t. getD-set-other w (m + m + e) (m + (m + x)) e 0 (λ q. t (omega arith)) ∙ p .leaf x (omega arith))
       (eq-or-ne x e);
 }
@@ -298,9 +298,9 @@ unfolding up
 leaf-end m e w₀ w p r h = record {
   weights = p .weights;
   rest = p .rest;
-  eqb = p .eqb;
+  long = p .long;
   tree = record {
-    room = omega (arith, p .eqb);
+    room = omega (arith, p .long);
     leaf = λ x q. p .leaf x (omega arith);
     small = λ k a b c. let z : m + (m + (k - m)) ≡ m + k = omega arith in let l : getD w (m + k) 0 ≡ k - m = rw z at (p .leaf (k - m) (omega arith)) in omega arith;
     below = λ k a b c. let z : m + (m + (k - m)) ≡ m + k = omega arith in let l : getD w (m + k) 0 ≡ k - m = rw z at (p .leaf (k - m) (omega arith)) in (0, omega arith);
@@ -309,11 +309,11 @@ leaf-end m e w₀ w p r h = record {
 }
 
 pub build-start : (m : ℕ) (w₀ w : List ℕ) → Built m m w₀ w → Playing m w w m 0
-build-start m w₀ w b = record { weights = refl; rest = refl; eqb = refl; played = b .tree }
+build-start m w₀ w b = record { weights = refl; rest = refl; long = refl; played = b .tree }
 
 pub build-all : (m : ℕ) (w₀ w₁ w : List ℕ) (k : ℕ) → Built m m w₀ w₁ → Playing m w₁ w k 0 → k ≤ 1 → Weighed m w₀ w
 build-all m w₀ w₁ w k b p h = let e : Weighed m w₁ w = build-end m w₁ w k p h in
-    record { weights = e .weights ∙ b .weights; rest = e .rest ∙ b .rest; eqb = e .eqb ∙ b .eqb; tree = e .tree }
+    record { weights = e .weights ∙ b .weights; rest = e .rest ∙ b .rest; long = e .long ∙ b .long; tree = e .tree }
 
 pub build-less : (m : ℕ) (w₀ w : List ℕ) (k v : ℕ) → Playing m w₀ w k 0 → 1 < k → k ≤ m
     → v ≡ pick (getD w (getD w (m + 2 * (k - 1)) 0) 0) (getD w (getD w (m + 2 * (k - 1) + 1) 0) 0) (getD w (m + 2 * (k - 1)) 0) (getD w (m + 2 * (k - 1) + 1) 0)

@@ -70,7 +70,7 @@ loop-less c = search needs
 
 -- src/lib.rt:198:5
 loop-again : tie.Need-loop-again Inv-loop μ-loop
-loop-again c = (omega arith, (at (c .before .before) .step, simp length-set (at (c .before .before) .eqb)))
+loop-again c = (omega arith, (at (c .before .before) .step, simp length-set (at (c .before .before) .long)))
 
 -- src/lib.rt:193:1
 same-length : tie.Need-same-length Inv-loop μ-loop

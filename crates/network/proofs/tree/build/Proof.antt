@@ -123,7 +123,7 @@ loop-again c =
 
 -- src/lib.rt:65:1
 same-length : tie.Need-same-length Inv-loop μ-loop
-same-length c = c .before .loop .inv .1 .eqb ∙ c .before .before .before .before .leaves .ensures .eqb
+same-length c = c .before .loop .inv .1 .long ∙ c .before .before .before .before .leaves .ensures .long
 
 -- src/lib.rt:65:1
 returns : tie.Need-returns Inv-loop μ-loop

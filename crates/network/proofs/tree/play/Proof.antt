@@ -22,7 +22,7 @@ at c = game-in (c .before .before .before .args .m) (c .before .loop .w) 1 (c .b
 
 -- src/lib.rt:31:5
 loop-holds : tie.Need-loop-holds Inv-loop μ-loop
-loop-holds c = (c .before .pre .1, record { weights = refl; rest = refl; eqb = refl; played = c .before .pre .0 })
+loop-holds c = (c .before .pre .1, record { weights = refl; rest = refl; long = refl; played = c .before .pre .0 })
 
 -- src/lib.rt:32:23
 mul-i : tie.Need-mul-i Inv-loop μ-loop
@@ -113,7 +113,7 @@ loop-again c =
 
 -- src/lib.rt:25:1
 same-length : tie.Need-same-length Inv-loop μ-loop
-same-length c = c .before .loop .inv .1 .eqb
+same-length c = c .before .loop .inv .1 .long
 
 -- src/lib.rt:25:1
 returns : tie.Need-returns Inv-loop μ-loop

@@ -29,7 +29,7 @@ play-requires c κs = (weight-set (c .before .before .args .m) (c .before .befor
 
 -- src/lib.rt:43:1
 same-length : tie.Need-same-length
-same-length c = c .before .before .play .ensures .eqb ∙ length-set (c .before .before .before .before .before .args .w .now) (c .before .before .before .before .before .args .e) (c .before .before .before .before .before .args .v)
+same-length c = c .before .before .play .ensures .long ∙ length-set (c .before .before .before .before .before .args .w .now) (c .before .before .before .before .before .args .e) (c .before .before .before .before .before .args .v)
 
 -- src/lib.rt:43:1
 returns : tie.Need-returns
