@@ -12,3 +12,4 @@ pub mod Gathering
 pub mod RunCount
 pub mod Assembly
 pub mod Weights
+pub mod RecordLaws

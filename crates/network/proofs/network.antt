@@ -25,5 +25,6 @@ pub mod MergeDoes
 pub mod NumberIs
 pub mod Turns
 pub mod Settles
+pub mod Joint
 pub mod BeginDoes
 pub mod StartRep

@@ -58,4 +58,4 @@ firstOf m n s = stateOf m n (gatesIn s) (λ r. r) s
 -- the whole run: the number of merges, and the counts in their table; or a refusal
 unfoldable pub RanIs : ℕ → ℕ → (ℕ → ℕ) → Option Done → List ℕ → List Float → Ran → Type 0
 RanIs m n gates none w d r = r ≡ Denied
-RanIs m n gates (some o) w d r = (r ≡ Settled (o .merges)) × (node : ℕ → ℕ) × (o .last .regions ≡ rows (regionOf gates node (view m n w d)) 0 n)
+RanIs m n gates (some o) w d r = (r ≡ Settled (o .merges)) × (node : ℕ → ℕ) × (o .last .regions ≡ rows (regionOf gates node (view m n w d)) 0 n) × ((j : ℕ) → j < n → getD (view m n w d .count) j 0 ≤ 2000)

@@ -7,6 +7,7 @@ use lib.Ieee.{Float}
 use Rattle.arithmetic.specs.Seg.{seg}
 use Rattle.network.specs.declared.edges.Frame.{Frame}
 use Rattle.network.specs.Gather.{diffOf}
+use Rattle.network.specs.Order.{weigh}
 use Rattle.network.specs.declared.edges.EdgeRecord.{EdgeRecord}
 
 -- labels 0 to k in the first n words; room for the tables from t on
@@ -24,6 +25,7 @@ pub record Asked (f : Frame) (w : List ℕ) (d vel : List Float) (n k t : ℕ) :
 pub record Edged (wide : Float) (n : ℕ) (u v : List ℕ) (b : List Float) (t e : ℕ) (rs : List EdgeRecord) : Type 0 where
   pub count : e ≡ length rs
   pub few : e ≤ 4 * n
+  pub light : weigh rs ≤ 4 * n
   pub weight : seg v t e ≡ map (λ r. r .count) rs
   pub first : seg v (t + 3 * e) e ≡ map (λ r. r .one) rs
   pub second : seg v (t + 4 * e) e ≡ map (λ r. r .two) rs

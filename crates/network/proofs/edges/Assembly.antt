@@ -18,7 +18,7 @@ use Rattle.network.specs.Edges.{Shape, Direction, left, right, top, bott
 use Rattle.network.specs.declared.edges.Frame.{Frame}
 use Rattle.network.specs.Sees.{shape}
 use Rattle.network.specs.GatePairs.{GatePair, both, gatePairTo, gatePairsAt, gatePairs, pairOf, Adds, Sheet}
-use Rattle.network.specs.Order.{ordered, runs}
+use Rattle.network.specs.Order.{ordered, runs, weigh}
 use Rattle.network.specs.Sorts.{labelsOf, Sorts, Sorted}
 use Rattle.network.specs.Gather.{pairAt, later, Ready, diffOf, tables, Gathers, Gathered}
 use Rattle.network.specs.Whole.{Asked, Edged}
@@ -28,6 +28,7 @@ use Rattle.network.proofs.edges.PairTurn.{label-at}
 use Rattle.network.proofs.edges.Runs.{All}
 use Rattle.network.proofs.edges.Sorting.{blank, two-passes, used-runs}
 use Rattle.network.proofs.edges.RunCount.{runs-few}
+use Rattle.network.proofs.edges.Weights.{weights}
 use Rattle.network.proofs.edges.Gathering.{tables-labels}
 use Rattle.network.specs.declared.edges.EdgeRecord.{EdgeRecord}
 
@@ -108,7 +109,7 @@ unfolding upto
 map-places F G [] k h = refl
 map-places F G (x ∷ S) k h = rw (ap F {x = k} {y = k + 0} (omega arith) ∙ h 0 (omega arith), map-places F G S (suc k) (λ i g. ap F {x = suc k + i} {y = k + suc i} (omega arith) ∙ h (suc i) (omega arith))) refl
 
-map-getD : {A B : Type 0} (f : A → B) (l : List A) (i : ℕ) (d : A) (e : B) → i < length l → getD (map f l) i e ≡ f (getD l i d)
+pub map-getD : {A B : Type 0} (f : A → B) (l : List A) (i : ℕ) (d : A) (e : B) → i < length l → getD (map f l) i e ≡ f (getD l i d)
 map-getD f [] i d e h = absurd (omega arith)
 map-getD f (x ∷ l) zero d e h = refl
 map-getD f (x ∷ l) (suc i) d e h = map-getD f l i d e (omega arith)
@@ -274,6 +275,7 @@ module _ (f : Frame) (u : List ℕ) (a vel : List Float) (n k t : ℕ) (q : Aske
             record {
               count = r .count ∙ ap length runs-are;
               few = omega arith;
+              light = omega (arith, sym (ap weigh runs-are) ∙ weights (later v vel n m 0), later-long, few);
               weight =
                   ap (λ (l : List ℕ). seg l t e) (r .words)
                   ∙ seg-put-below W2 (t + 4 * c) (map (λ r. r .two) R) t e (omega arith)

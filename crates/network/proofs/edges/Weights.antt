@@ -6,12 +6,8 @@ use mathlib.Core.Bool.{Bool, true, false, cond}
 use mathlib.Core.List.{List, [], _∷_, _++_, map}
 use lib.ListN.{length}
 use Rattle.network.specs.Edges.{Pair, begun, plus}
-use Rattle.network.specs.Order.{alike, runsFrom, runs}
+use Rattle.network.specs.Order.{alike, runsFrom, runs, weigh}
 use Rattle.network.specs.declared.edges.EdgeRecord.{EdgeRecord}
-
-pub weigh : List EdgeRecord → ℕ
-weigh [] = 0
-weigh (r ∷ rs) = r .count + weigh rs
 
 from : (r : EdgeRecord) (l : List Pair) → weigh (runsFrom r l) ≡ r .count + length l
 unfolding runsFrom plus begun weigh

@@ -282,7 +282,7 @@ run-start m n w d r R = let z : m - 0 ≡ m = omega arith in
 module _ (m n : ℕ) (w₀ : List ℕ) (d₀ : List Float) (w : List ℕ) (d : List Float) (last k : ℕ) (I : Running m n w₀ d₀ w d last k) where
   finished : settle m (firstOf m n (view m n w₀ d₀)) 0 ≡ some (record { last = I .net; merges = k }) → (w' : List ℕ) (d' : List Float) (last' : ℕ) → Rep m n (gatesIn (view m n w₀ d₀)) last' (view m n w' d') (I .net) → RanIs m n (gatesIn (view m n w₀ d₀)) (settle m (firstOf m n (view m n w₀ d₀)) 0) w' d' (Settled k)
   unfolding RanIs
-  finished e w' d' last' R = subst (λ (o : Option Done). RanIs m n (gatesIn (view m n w₀ d₀)) o w' d' (Settled k)) (sym e) (refl, R .node, R .regions)
+  finished e w' d' last' R = subst (λ (o : Option Done). RanIs m n (gatesIn (view m n w₀ d₀)) o w' d' (Settled k)) (sym e) (refl, R .node, R .regions, R .sound .counts)
 
   pub run-out : m ≤ k → RanIs m n (gatesIn (view m n w₀ d₀)) (settle m (firstOf m n (view m n w₀ d₀)) 0) w d (Settled k)
   unfolding settle
