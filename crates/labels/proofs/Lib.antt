@@ -1,0 +1,5 @@
+pub mod AllLaws
+pub mod Spot
+pub mod RootsEcho
+pub mod LabelEcho
+pub mod RegionsEcho
