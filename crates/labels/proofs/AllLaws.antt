@@ -1,6 +1,6 @@
--- What holds of each element of a list. Assumes nothing.
-use Prim.Native.Nat.{ℕ}
+-- What holds of each element of a list, and what is in one. Assumes nothing.
 use mathlib.Core.Path.{_≡_, refl}
+use mathlib.Core.Logic.{_⊎_}
 use mathlib.Core.Bool.{Bool, true, false, cond, not}
 use mathlib.Core.List.{List, [], _∷_, _++_, map}
 use Rattle.arithmetic.specs.Seq.{keep, each}
@@ -9,6 +9,10 @@ module _ {A : Type 0} where
   abbrev pub All : (A → Type 0) → List A → Type 0
   All P [] = Unit {0}
   All P (x ∷ xs) = P x × All P xs
+
+  abbrev pub Mem : A → List A → Type 0
+  Mem a [] = ⊥
+  Mem a (x ∷ xs) = (x ≡ a) ⊎ Mem a xs
 
   pub all-map : {P : A → Type 0} (Q : A → Type 0) (g : A → A) → ((a : A) → P a → Q (g a)) → (l : List A) → All P l → All Q (map g l)
   all-map Q g h [] t = tt

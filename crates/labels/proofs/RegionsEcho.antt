@@ -15,7 +15,7 @@ use Rattle.labels.specs.Label.{roots, firsts, rank, Found, labelled, are
 use Rattle.labels.specs.Regions.{Interval, windows, within, inside, over, added, grow, nothing, regions}
 use Rattle.labels.proofs.AllLaws.{All}
 use Rattle.labels.proofs.Spot.{spot, trues, shift, spot-low, spot-high, trues-append}
-use Rattle.labels.proofs.RootsEcho.{at, roots-length, roots-pos, roots-zero, roots-follow}
+use Rattle.labels.proofs.RootsEcho.{at, roots-length, roots-zero, roots-follow}
 use Rattle.labels.proofs.LabelEcho.{Parts, firstGatesOf, labels-at, rank-zero, root-pos, labelled-parts}
 
 -- ---- the first gate of each region, by label

@@ -1,8 +1,8 @@
 -- The places of a list's true flags, counted: place i of those that pass is place `spot flags i` of all. Assumes nothing.
 use Prim.Native.Nat.{ℕ, zero, suc, _+_, _≤_, _<_}
 use native.Mathlib.Omega.{arith}
-use mathlib.Core.Path.{_≡_, refl, sym, ap, _∙_}
-use mathlib.Core.Bool.{Bool, true, false, cond, not, _&&_, true≢false}
+use mathlib.Core.Path.{_≡_, refl, ap, _∙_}
+use mathlib.Core.Bool.{Bool, true, false}
 use mathlib.Core.List.{List, [], _∷_, _++_, map}
 use lib.Dec.{ltb}
 use lib.ListN.{length, getD}
@@ -21,6 +21,16 @@ unfoldable pub trues : List Bool → ℕ
 trues [] = 0
 trues (true ∷ bs) = suc (trues bs)
 trues (false ∷ bs) = trues bs
+
+-- sums that count places on
+pub zero-plus : (i : ℕ) → 0 + i ≡ i
+zero-plus i = omega arith
+
+pub one-plus : (i : ℕ) → 1 + i ≡ suc i
+one-plus i = omega arith
+
+pub next-place : (k i : ℕ) → suc k + i ≡ k + suc i
+next-place k i = omega arith
 
 pub spot-rises : (bs : List Bool) (i j : ℕ) → i < j → spot bs i < spot bs j
 unfolding spot
@@ -101,9 +111,6 @@ shift-inj bs a b h = rising-inj (shift bs) (shift-rises bs) a b h
 
 pub shifts-kept : (bs : List Bool) → keep (flag bs) (upto (length bs) 1) ≡ map (shift bs) (upto (trues bs) 1)
 shifts-kept bs = spots-kept (flag bs) (shift bs) bs 1 1 (λ i w. unfold flag in ap (flag bs) (one-plus i)) (λ i. unfold shift in ap (shift bs) (one-plus i) ∙ omega arith)
-  where
-    one-plus : (i : ℕ) → 1 + i ≡ suc i
-    one-plus i = omega arith
 
 spot-flag : (bs : List Bool) (i : ℕ) → i < trues bs → getD bs (spot bs i) false ≡ true
 unfolding spot trues
