@@ -74,7 +74,7 @@ module _ (E : ℕ → Bool) (bs cs : List Bool) (f f′ a a′ : Found) (P : Par
     where
       go : (l : ℕ) → over (f .number) (shift bs (at (f′ .labels) g)) (shift cs l) ≡ shift (bs ++ cs) (over (f′ .number) (at (f′ .labels) g) l)
       go zero = sym (low (at (f′ .labels) g) (P .bound′ g))
-      go (suc l) = rw (P .number, P .number′) (sym (high l))
+      go (suc l) = ap (λ (n : ℕ). suc (spot cs l) + n) (P .number) ∙ sym (high l) ∙ ap (λ (n : ℕ). shift (bs ++ cs) (suc l + n)) (sym (P .number′))
 
   added-outside : (g : ℕ) → E g ≡ false → at (added f′ a′ .labels) g ≡ 0
   unfolding over

@@ -3,7 +3,7 @@
 use Prim.Native.Nat.{ℕ, _+_}
 use native.Mathlib.Omega.{arith}
 use mathlib.Core.Path.{_≡_, refl, sym, ap, _∙_, fun-ext}
-use mathlib.Core.Bool.{Bool, true, false, _&&_, cond, and-true}
+use mathlib.Core.Bool.{Bool, true, false, _&&_, cond, and-true, not}
 use mathlib.Core.List.{List, [], _∷_, map}
 use mathlib.Core.Option.{Option, none, some}
 use lib.Dec.{ltb, eqb}
@@ -188,7 +188,10 @@ module _ (p q : ℕ → Bool) where
   -- A merge on the other side
   kill-out : (i : ℕ) (e : Edge) → q i ≡ false → q (e .num) ≡ true → kill i e ≡ e
   unfolding kill
-  kill-out i e a b = rw (apart′ q i (e .num) a b, and-true (e .live)) refl
+  kill-out i e a b = ap alive (ap (λ (x : Bool). e .live && not x) (apart′ q i (e .num) a b) ∙ and-true (e .live))
+    where
+      alive : Bool → Edge
+      alive x = record { num = e .num; live = x; first = e .first; second = e .second; weight = e .weight; diff = e .diff }
 
   adjust-out : (m : ℕ) (k : ℤ) (e : Edge) → eqb m (e .first) ≡ false → eqb m (e .second) ≡ false → adjust m k e ≡ e
   unfolding adjust shifted
