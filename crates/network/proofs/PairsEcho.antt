@@ -11,8 +11,8 @@ use lib.Ieee.{Float, nan}
 use borrow.Author.Tests.{eqb-true, eqb-false, ne-eqb}
 use Rattle.arithmetic.specs.Seq.{upto, keep, each}
 use Rattle.arithmetic.proofs.SeqLaws.{eqb-renamed, keep-each, each-same, map-each}
-use Rattle.labels.proofs.Spot.{shift, flag, shift-inj}
 use Rattle.labels.specs.Label.{Found}
+use Rattle.labels.proofs.Spot.{shift, flag, shift-inj}
 use Rattle.labels.proofs.RootsEcho.{at}
 use Rattle.labels.proofs.LabelEcho.{Parts}
 use Rattle.labels.proofs.AllLaws.{All, all-each}
