@@ -57,6 +57,11 @@ module _ (s : Sweep) (limits : List Float) where
       go true e = at-end e
       go false e = at-last
 
+  -- a masked gate gets 0
+  pub masked-counts : (g : ℕ) → eqb (getD (s .mask) g 0) 1 ≡ false → getD (unfolded s limits .counts) g (pos 0) ≡ pos 0
+  unfolding gateCount
+  masked-counts g h = gate-counts g ∙ ap (λ (b : Bool). cond b (regionCount s limits g -ℤ unfolded s limits .offset) (pos 0)) h
+
   pub valid-counts : (g : ℕ) → getD (s .mask) g 0 ≡ 1 → getD (unfolded s limits .counts) g (pos 0) +ℤ unfolded s limits .offset ≡ regionCount s limits g
   unfolding gateCount
   valid-counts g h = ap (λ (z : ℤ). z +ℤ unfolded s limits .offset) (gate-counts g ∙ valid (getD (s .mask) g 0) h) ∙ -ℤ-+ℤ-cancel (regionCount s limits g) (unfolded s limits .offset)
