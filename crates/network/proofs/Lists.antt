@@ -7,6 +7,7 @@ use mathlib.Core.List.{List, [], _∷_, map, head-eq-of-cons-eq, tail-eq-of-cons
 use lib.Dec.{eqb}
 use borrow.Author.Tests.{eqb-true, ne-eqb}
 use Rattle.arithmetic.specs.Seq.{keep}
+use Rattle.arithmetic.proofs.SeqLaws.{keep-of-map, keep-same}
 use Rattle.labels.proofs.AllLaws.{All}
 use Rattle.network.specs.Network.{Edge, at}
 
@@ -19,14 +20,9 @@ and-right true c h = h
 and-right false c h = absurd (true≢false (sym h))
 
 module _ {A : Type 0} where
+  -- A map that keeps what the test says
   pub keep-map : (f : A → Bool) (g : A → A) → ((a : A) → f (g a) ≡ f a) → (l : List A) → keep f (map g l) ≡ map g (keep f l)
-  unfolding keep
-  keep-map f g h [] = refl
-  keep-map f g h (x ∷ xs) = rw (h x, keep-map f g h xs) (go (f x))
-    where
-      go : (b : Bool) → cond b (g x ∷ map g (keep f xs)) (map g (keep f xs)) ≡ map g (cond b (x ∷ keep f xs) (keep f xs))
-      go true = refl
-      go false = refl
+  keep-map f g h l = keep-of-map g f l ∙ ap (map g) (keep-same (λ x. f (g x)) f l h)
 
   -- A map that fixes the kept elements
   pub keep-fixed : {P : A → Type 0} (f : A → Bool) (g : A → A) → ((a : A) → P a → f a ≡ true → g a ≡ a) → (l : List A) → All P l → map g (keep f l) ≡ keep f l

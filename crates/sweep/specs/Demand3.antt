@@ -16,7 +16,8 @@ use Rattle.network.specs.Network.{State, Event, replay, trace, countOf}
 use Rattle.sweep.specs.Sweep.{Sweep, regionsOf, pairsOf, networkOf, unfolded}
 use Rattle.sweep.specs.Checks.{Lent, accepted, ownLimits, outcome}
 
--- "A sweep is accepted if questions 1 to 9 all get a yes": c are then its counts.
+-- "A sweep is accepted if questions 1 to 9 .. all get a yes": c are then its counts. By `call-accepts` every call that answers 0 has such a sweep,
+-- and c are the counts that it leaves.
 pub record Accepted (s : Sweep) (c : List ℤ) : Type 0 where
   pub lent : Lent
   pub regions : ℕ
@@ -35,7 +36,7 @@ pub record Sees (s : Sweep) (limits : List Float) (g h : ℕ) : Type 0 where
   pub direction : Direction
   pub seen : sees (s .shape) (regionsOf s limits .labels) direction g ≡ some h
 
--- No gate of the echo sees a gate outside it, and none outside sees one of the echo: who sees whom are on one side.
+-- No gate of the echo sees a gate outside it, and none outside sees one of the echo: a gate and one that it sees lie on one side.
 abbrev pub Apart : (ℕ → Bool) → Sweep → List Float → Type 0
 Apart E s limits = (g h : ℕ) → Sees s limits g h → E g ≡ E h
 
@@ -53,7 +54,8 @@ bothIn E labels r = liesIn E labels (r .one) && liesIn E labels (r .two)
 unfoldable pub echoes : (ℕ → Bool) → Sweep → List Float → ℕ → Bool
 echoes E s limits i = let f = regionsOf s limits in getD (map (bothIn E (f .labels)) (used (f .number) (pairsOf s f))) i false
 
--- "A merge list holds the echo's merges and the rest's, each once and nothing else, each side in its own order."
+-- "A merge list holds the echo's merges and the rest's, each once and nothing else, each side in its own order." The run's own merges hold no
+-- edge twice.
 pub record MergeList (E : ℕ → Bool) (s : Sweep) (limits : List Float) (l : List ℕ) : Type 0 where
   pub echo : keep (echoes E s limits) l ≡ keep (echoes E s limits) (unfolded s limits .merges)
   pub rest : keep (λ i. not (echoes E s limits i)) l ≡ keep (λ i. not (echoes E s limits i)) (unfolded s limits .merges)
@@ -75,7 +77,7 @@ countAt s limits n g = cond (eqb (labelAt s limits g) 0) (pos 0) (countOf (n .re
 unfoldable pub uncentred : Sweep → Sweep
 uncentred s = record { shape = s .shape; splits = s .splits; centred = 0; nyquist = s .nyquist; vel = s .vel; mask = s .mask }
 
--- What a merge list does. An event holds the edge, whether it is live, its rounded difference, and the regions in base and moved node.
+-- What a merge list does. An event holds the edge, whether it is live, its rounded difference, the regions in base and moved node, and more.
 pub record Does (s : Sweep) (limits : List Float) (l : List ℕ) : Type 0 where
   -- it "finds each of its edges live"
   pub live : all (λ v. v .live) (trace (first s limits) l) ≡ true
