@@ -4,16 +4,14 @@ use native.Mathlib.Omega.{arith}
 use mathlib.Core.Path.{_≡_, refl, sym, ap, _∙_}
 use mathlib.Core.Bool.{Bool, true, false, not, _&&_}
 use mathlib.Core.List.{List, [], _∷_, _++_, map, foldl}
-use lib.Dec.{eqb, leb, ltb}
+use lib.Dec.{eqb, leb}
 use lib.ListN.{length, getD, replicate, length-map, length-append, length-replicate, List·getD-eq-default, List·getD-append}
 use lib.Seq.{getD-append-add}
 use lib.Ieee.{Float, nan}
-use borrow.Author.Tests.{ltb-true, ltb-false}
-use Rattle.arithmetic.specs.Seq.{tabulate}
-use Rattle.arithmetic.proofs.SeqLaws.{map-append, tab-at, tab-past, tab-length}
+use Rattle.arithmetic.proofs.SeqLaws.{map-append, tab-length}
 use Rattle.labels.specs.Label.{roots, firsts, rank, Found, labelled, areas}
 use Rattle.labels.specs.Regions.{Interval, windows, within, inside, over, added, grow, nothing, regions}
-use Rattle.labels.proofs.AllLaws.{All}
+use Rattle.labels.proofs.AllLaws.{All, tab-all}
 use Rattle.labels.proofs.Spot.{spot, trues, shift, spot-low, spot-high, trues-append}
 use Rattle.labels.proofs.RootsEcho.{at, roots-length, roots-zero, roots-follow}
 use Rattle.labels.proofs.LabelEcho.{Parts, firstGatesOf, labels-at, rank-zero, root-pos, labelled-parts}
@@ -33,17 +31,8 @@ firstGates gates vel mask limits = foldl (more gates vel mask) [] (windows limit
 
 pub added-at : (f a : Found) → length (a .labels) ≡ length (f .labels) → (g : ℕ) → at (added f a .labels) g ≡ over (f .number) (at (f .labels) g) (at (a .labels) g)
 unfolding added over
-added-at f a long g = go (ltb g (length (f .labels))) refl
-  where
-    value : ℕ → ℕ
-    value g = over (f .number) (at (f .labels) g) (at (a .labels) g)
-
-    go : (b : Bool) → ltb g (length (f .labels)) ≡ b → at (tabulate (length (f .labels)) value) g ≡ value g
-    go true e = tab-at value (length (f .labels)) g 0 (ltb-true g (length (f .labels)) e)
-    go false e =
-        let w : length (f .labels) ≤ g = ltb-false g (length (f .labels)) e in
-        let v : length (a .labels) ≤ g = omega arith in
-        tab-past value (length (f .labels)) g 0 w ∙ (rw (List·getD-eq-default (a .labels) 0 v, List·getD-eq-default (f .labels) 0 w) refl)
+added-at f a long g = tab-all (λ g. over (f .number) (at (f .labels) g) (at (a .labels) g)) (length (f .labels)) g 0
+    (λ w. let v : length (a .labels) ≤ g = omega arith in rw (List·getD-eq-default (a .labels) 0 v, List·getD-eq-default (f .labels) 0 w) refl)
 
 added-length : (f a : Found) → length (added f a .labels) ≡ length (f .labels)
 unfolding added
@@ -118,14 +107,7 @@ module _ (E : ℕ → Bool) (bs cs : List Bool) (f f′ a a′ : Found) (P : Par
 
 pub inside-at : (vel : List Float) (mask : List ℕ) (i : Interval) (g : ℕ) → getD (inside vel mask i) g false ≡ within i (getD vel g nan) (getD mask g 0)
 unfolding inside within
-inside-at vel mask i g = go (ltb g (length mask)) refl
-  where
-    value : ℕ → Bool
-    value g = within i (getD vel g nan) (getD mask g 0)
-
-    go : (b : Bool) → ltb g (length mask) ≡ b → getD (tabulate (length mask) value) g false ≡ value g
-    go true e = tab-at value (length mask) g false (ltb-true g (length mask) e)
-    go false e = tab-past value (length mask) g false (ltb-false g (length mask) e) ∙ (rw (List·getD-eq-default mask 0 (ltb-false g (length mask) e)) refl)
+inside-at vel mask i g = tab-all (λ g. within i (getD vel g nan) (getD mask g 0)) (length mask) g false (λ h. rw (List·getD-eq-default mask 0 h) refl)
 
 nothing-at : (n g : ℕ) → at (replicate n 0) g ≡ 0
 nothing-at zero g = refl

@@ -5,13 +5,13 @@ use native.Mathlib.Omega.{arith}
 use mathlib.Core.Path.{_≡_, refl, sym, ap, _∙_, subst}
 use mathlib.Core.Bool.{Bool, true, false, cond, not, _&&_, true≢false}
 use mathlib.Core.List.{List, [], _∷_, map, foldl}
-use lib.Dec.{eqb, leb, ltb}
+use lib.Dec.{eqb, leb}
 use lib.ListN.{length, getD, length-map, List·getD-map, List·getD-eq-default}
-use borrow.Author.Tests.{eqb-true, eqb-false, eq-eqb, ne-eqb, ltb-true, ltb-false, leb-true, leb-false}
-use Rattle.arithmetic.specs.Seq.{upto, tabulate, keep, each}
-use Rattle.arithmetic.proofs.SeqLaws.{tab-at, tab-past, tab-length, keep-append, keep-each, each-same}
+use borrow.Author.Tests.{eqb-true, eqb-false, eq-eqb, ne-eqb, leb-true, leb-false}
+use Rattle.arithmetic.specs.Seq.{upto, keep, each}
+use Rattle.arithmetic.proofs.SeqLaws.{tab-length, keep-append, keep-each, each-same}
 use Rattle.labels.specs.Label.{Link, own, above, before, linksAt, links, swap, join, roots}
-use Rattle.labels.proofs.AllLaws.{All, all-append, all-cond, all-each}
+use Rattle.labels.proofs.AllLaws.{All, all-append, all-cond, all-each, tab-all, and-left, and-right}
 
 abbrev pub at : List ℕ → ℕ → ℕ
 at l g = getD l g 0
@@ -70,21 +70,12 @@ roots-length gates inside = joins-length (links gates inside) (own inside) ∙ t
 
 own-at : (inside : List Bool) (g : ℕ) → at (own inside) g ≡ cond (getD inside g false) (suc g) 0
 unfolding own
-own-at inside g = go (ltb g (length inside)) refl
-  where
-    f : ℕ → ℕ
-    f g = cond (getD inside g false) (suc g) 0
-
-    go : (b : Bool) → ltb g (length inside) ≡ b → at (tabulate (length inside) f) g ≡ f g
-    go true e = tab-at f (length inside) g 0 (ltb-true g (length inside) e)
-    go false e = tab-past f (length inside) g 0 (ltb-false g (length inside) e) ∙ (rw (List·getD-eq-default inside false (ltb-false g (length inside) e)) refl)
+own-at inside g = tab-all (λ g. cond (getD inside g false) (suc g) 0) (length inside) g 0 (λ h. rw (List·getD-eq-default inside false h) refl)
 
 -- ---- the links
 
 three : (a b c : Bool) → (a && b && c) ≡ true → (a ≡ true) × (b ≡ true) × (c ≡ true)
-three true true c h = (refl, refl, h)
-three true false c h = absurd (true≢false (sym h))
-three false b c h = absurd (true≢false (sym h))
+three a b c h = (and-left a b (and-left (a && b) c h), and-right a b (and-left (a && b) c h), and-right (a && b) c h)
 
 -- what holds of every two gates of the set that touch holds of all links
 links-all : (P : Link → Type 0) (gates : ℕ) (inside : List Bool)

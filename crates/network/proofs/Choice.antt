@@ -10,8 +10,8 @@ use lib.Dec.{leb, eqb}
 use lib.ListN.{length, getD}
 use borrow.Author.Tests.{le-leb, lt-leb, ne-eqb, eqb-true}
 use Rattle.arithmetic.proofs.SeqLaws.{eqb-refl}
+use Rattle.labels.proofs.AllLaws.{and-left}
 use Rattle.network.specs.Network.{Edge, Region, Plan, sizeOf, at, move, better, choose}
-use Rattle.network.proofs.Lists.{and-left}
 
 unfoldable pub Numbered : ℕ → List Edge → Type 0
 Numbered k [] = Unit {0}

@@ -6,10 +6,10 @@ use mathlib.Core.Bool.{Bool, true, false, cond, true≢false}
 use mathlib.Core.List.{List, [], _∷_, map}
 use mathlib.Core.Option.{Option, none, some}
 use lib.Ieee.{nan}
+use Rattle.labels.proofs.AllLaws.{and-left}
 use Rattle.network.specs.Network.{Edge, State, Plan, at, plan, find, combine, prepare, joinAll, mergeEdges, move, merge, stepTo, step, better, choose}
 use Rattle.network.proofs.Restrict.{prepare-num, combine-num}
 use Rattle.network.proofs.Ends.{prepare-live, combine-live}
-use Rattle.network.proofs.Lists.{and-left}
 
 unfoldable pub blank : ℕ → Edge
 blank n = record { num = n; live = false; first = 0; second = 0; weight = 0; diff = nan }

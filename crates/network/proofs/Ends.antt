@@ -9,9 +9,9 @@ use mathlib.Core.Option.{Option, none, some, Option·none-ne-some, Option·some-
 use lib.Dec.{leb, eqb}
 use lib.ListN.{length}
 use Rattle.arithmetic.proofs.SeqLaws.{eqb-refl}
-use Rattle.labels.proofs.AllLaws.{All}
+use Rattle.labels.proofs.AllLaws.{All, and-left}
 use Rattle.network.specs.Network.{Edge, State, Plan, Link, Event, at, plan, planFor, kill, adjust, turnIf, turn, find, absorb, absent, hand, combine, prepare, joinAll, mergeEdges, merge, stepTo, step, better, choose, follow, run, eventOf, event, trace, replay}
-use Rattle.network.proofs.Lists.{at-num, and-left}
+use Rattle.network.proofs.Lists.{at-num}
 
 unfoldable pub alive : List Edge → ℕ
 alive [] = 0

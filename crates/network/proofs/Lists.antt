@@ -8,16 +8,8 @@ use lib.Dec.{eqb}
 use borrow.Author.Tests.{eqb-true, ne-eqb}
 use Rattle.arithmetic.specs.Seq.{keep}
 use Rattle.arithmetic.proofs.SeqLaws.{keep-of-map, keep-same}
-use Rattle.labels.proofs.AllLaws.{All}
+use Rattle.labels.proofs.AllLaws.{All, and-right}
 use Rattle.network.specs.Network.{Edge, at}
-
-pub and-left : (b c : Bool) → (b && c) ≡ true → b ≡ true
-and-left true c h = refl
-and-left false c h = h
-
-pub and-right : (b c : Bool) → (b && c) ≡ true → c ≡ true
-and-right true c h = h
-and-right false c h = absurd (true≢false (sym h))
 
 module _ {A : Type 0} where
   -- A map that keeps what the test says

@@ -6,9 +6,9 @@ use mathlib.Core.List.{List, [], _∷_, map}
 use mathlib.Core.Option.{Option, none, some, Option·none-ne-some}
 use lib.ListN.{length}
 use lib.Dec.{eqb}
-use Rattle.labels.proofs.AllLaws.{All}
+use Rattle.labels.proofs.AllLaws.{All, and-left, and-right}
 use Rattle.network.specs.Network.{Edge, State, Plan, at, plan, planFor, combine, prepare, joinAll, mergeEdges, merge, stepTo, step, choose, follow, run, merges}
-use Rattle.network.proofs.Lists.{at-num, and-left, and-right}
+use Rattle.network.proofs.Lists.{at-num}
 use Rattle.network.proofs.Restrict.{prepare-num, combine-num}
 use Rattle.network.proofs.Ends.{prepare-live, combine-live, choose-at}
 

@@ -10,11 +10,10 @@ use lib.Dec.{ltb, eqb}
 use lib.IntN.{ℤ}
 use borrow.Author.Tests.{eqb-false, eqb-true}
 use Rattle.arithmetic.proofs.SeqLaws.{eqb-refl}
-use Rattle.labels.proofs.AllLaws.{Mem}
+use Rattle.labels.proofs.AllLaws.{Mem, and-left}
 use Rattle.network.specs.Network.{Edge, State, Plan, Link, Region, sizeOf, at, plan, planFor, kill, adjust, turnIf, turn, link, find, absorb, absent, hand, combine, prepare, joinAll, mergeEdges, merge, stepTo, step}
 use Rattle.network.proofs.Restrict.{prepare-num, combine-num}
 use Rattle.network.proofs.Ends.{prepare-live, combine-live}
-use Rattle.network.proofs.Lists.{and-left}
 
 module _ {A : Type 0} where
   mem-map : (g : A → A) (b : A) (l : List A) → Mem b (map g l) → (a : A) × Mem a l × (g a ≡ b)

@@ -1,18 +1,18 @@
 -- Whether an echo is apart from the rest, as a test that computes. Assumes nothing.
-use Prim.Native.Nat.{ℕ, zero, suc, _+_, _≤_, _<_}
+use Prim.Native.Nat.{ℕ, _<_}
 use native.Mathlib.Omega.{arith}
-use mathlib.Core.Path.{_≡_, refl, sym, ap, _∙_}
+use mathlib.Core.Path.{_≡_, refl, sym}
 use mathlib.Core.Bool.{Bool, true, false, _||_, Bool·beq}
 use mathlib.Core.List.{List, [], _∷_}
 use mathlib.Core.Option.{Option, none, some}
 use lib.ListN.{length}
 use lib.Ieee.{Float}
 use lib.Dec.{eqb}
-use borrow.Author.Tests.{eqb-true, eqb-false, ne-eqb}
+use borrow.Author.Tests.{ne-eqb}
 use Rattle.arithmetic.specs.Seq.{upto, all}
 use Rattle.labels.proofs.RootsEcho.{at, at-less}
+use Rattle.labels.proofs.AllLaws.{and-left, and-right, all-at}
 use Rattle.network.specs.Edges.{Shape, Direction, left, right, top, bottom, sees}
-use Rattle.network.proofs.Lists.{and-left, and-right}
 use Rattle.sweep.specs.Sweep.{Sweep, regionsOf}
 use Rattle.sweep.specs.Demand3.{Apart}
 
@@ -33,15 +33,6 @@ beq-eq true true h = refl
 beq-eq true false h = sym h
 beq-eq false true h = h
 beq-eq false false h = refl
-
-all-at : (t : ℕ → Bool) (n k g : ℕ) → k ≤ g → g < n + k → all t (upto n k) ≡ true → t g ≡ true
-unfolding all upto
-all-at t zero k g a b h = absurd (omega arith)
-all-at t (suc n) k g a b h = go (eqb k g) refl (λ w. all-at t n (suc k) g w (omega arith) (and-right (t k) _ h))
-  where
-    go : (c : Bool) → eqb k g ≡ c → (suc k ≤ g → t g ≡ true) → t g ≡ true
-    go true e ih = ap t (sym (eqb-true k g e)) ∙ and-left (t k) _ h
-    go false e ih = ih (omega (arith, eqb-false k g e))
 
 four : (t : Direction → Bool) → all t (left ∷ right ∷ top ∷ bottom ∷ []) ≡ true → (d : Direction) → t d ≡ true
 unfolding all

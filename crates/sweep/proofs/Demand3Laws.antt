@@ -10,8 +10,7 @@ use lib.ListN.{length, getD}
 use lib.IntN.{ℤ, pos, _+ℤ_, _-ℤ_, negℤ, +ℤ-assoc, +ℤ-negℤ-cancel}
 use lib.Ieee.{Float}
 use borrow.Author.Tests.{eqb-true}
-use Rattle.labels.proofs.AllLaws.{All}
-use Rattle.network.proofs.Lists.{and-left, and-right}
+use Rattle.labels.proofs.AllLaws.{All, and-left, and-right}
 use Rattle.sweep.specs.Sweep.{Sweep, Unfolded, unfolded}
 use Rattle.sweep.specs.Checks.{Question, Lent, Outcome, refused, accepted, gatesIn, inLength, ownLimits, firstNo, asked, asked9, outcome}
 use Rattle.sweep.specs.Call.{Memory, Answer, lengths, clearedFor, ending, call}

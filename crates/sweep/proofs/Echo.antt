@@ -4,20 +4,21 @@ use native.Mathlib.Omega.{arith}
 use mathlib.Core.Path.{_≡_, refl, sym, ap, _∙_}
 use mathlib.Core.Bool.{Bool, true, false, cond, _&&_, true≢false}
 use mathlib.Core.List.{List, map}
-use lib.Dec.{ltb, eqb}
+use lib.Dec.{eqb}
 use lib.ListN.{length, getD, List·getD-eq-default}
 use lib.IntN.{ℤ}
 use lib.Ieee.{Float, nan}
-use borrow.Author.Tests.{ltb-true, ltb-false, ne-eqb}
+use borrow.Author.Tests.{ne-eqb}
 use Rattle.arithmetic.specs.Seq.{upto, keep, tabulate}
 use Rattle.arithmetic.specs.Intervals.{folded}
-use Rattle.arithmetic.proofs.SeqLaws.{eqb-renamed, tab-at, tab-past, tab-length, keep-count}
+use Rattle.arithmetic.proofs.SeqLaws.{eqb-renamed, tab-length, keep-count}
 use Rattle.labels.specs.Label.{Found}
 use Rattle.labels.specs.Regions.{Interval, within}
 use Rattle.labels.proofs.Spot.{spot, trues, shift, flag, shift-inj, shift-rises, flag-shift}
 use Rattle.labels.proofs.RootsEcho.{at}
 use Rattle.labels.proofs.LabelEcho.{Parts}
 use Rattle.labels.proofs.RegionsEcho.{firstGates, regions-parts, regions-valid}
+use Rattle.labels.proofs.AllLaws.{tab-all}
 use Rattle.network.specs.declared.edges.EdgeRecord.{EdgeRecord}
 use Rattle.network.specs.Edges.{pairs, used}
 use Rattle.network.specs.Network.{start, merges, countOf}
@@ -60,27 +61,19 @@ regionCount s limits g = countOf (final (networkOf s (regionsOf s limits)) .regi
 module _ (E : ℕ → Bool) (s : Sweep) where
   mask-at : (g : ℕ) → getD (only E s .mask) g 0 ≡ onlyMask E s g
   unfolding only onlyMask
-  mask-at g = go (ltb g (length (s .mask))) refl
+  mask-at g = tab-all (onlyMask E s) (length (s .mask)) g 0 (λ h. rw (List·getD-eq-default (s .mask) 0 h) (gone (E g)))
     where
-      gone : (e : Bool) → _≡_ {A = ℕ} 0 (cond e 0 0)
+      gone : (e : Bool) → _≡_ {A = ℕ} (cond e 0 0) 0
       gone true = refl
       gone false = refl
-
-      go : (b : Bool) → ltb g (length (s .mask)) ≡ b → getD (tabulate (length (s .mask)) (onlyMask E s)) g 0 ≡ onlyMask E s g
-      go true e = tab-at (onlyMask E s) (length (s .mask)) g 0 (ltb-true g (length (s .mask)) e)
-      go false e = tab-past (onlyMask E s) (length (s .mask)) g 0 (ltb-false g (length (s .mask)) e) ∙ (rw (List·getD-eq-default (s .mask) 0 (ltb-false g (length (s .mask)) e)) (gone (E g)))
 
   vel-at : (g : ℕ) → getD (only E s .vel) g nan ≡ onlyVel E s g
   unfolding only onlyVel
-  vel-at g = go (ltb g (length (s .mask))) refl
+  vel-at g = tab-all (onlyVel E s) (length (s .mask)) g nan (λ h. rw (List·getD-eq-default (s .mask) 0 h) (gone (E g)))
     where
-      gone : (e : Bool) → nan ≡ cond (e && false) (getD (s .vel) g nan) nan
+      gone : (e : Bool) → cond (e && false) (getD (s .vel) g nan) nan ≡ nan
       gone true = refl
       gone false = refl
-
-      go : (b : Bool) → ltb g (length (s .mask)) ≡ b → getD (tabulate (length (s .mask)) (onlyVel E s)) g nan ≡ onlyVel E s g
-      go true e = tab-at (onlyVel E s) (length (s .mask)) g nan (ltb-true g (length (s .mask)) e)
-      go false e = tab-past (onlyVel E s) (length (s .mask)) g nan (ltb-false g (length (s .mask)) e) ∙ (rw (List·getD-eq-default (s .mask) 0 (ltb-false g (length (s .mask)) e)) (gone (E g)))
 
   only-length : length (only E s .mask) ≡ length (s .mask)
   unfolding only

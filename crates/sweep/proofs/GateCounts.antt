@@ -1,19 +1,18 @@
 -- The counts of a sweep's gates: the counts of their regions, less the offset. Assumes nothing.
-use Prim.Native.Nat.{ℕ, _≤_, suc, _<_}
+use Prim.Native.Nat.{ℕ, suc, _<_}
 use native.Mathlib.Omega.{arith}
 use mathlib.Core.Path.{_≡_, refl, sym, ap, _∙_}
 use mathlib.Core.Bool.{Bool, true, false, cond, true≢false}
 use mathlib.Core.List.{List, _∷_, []}
 use mathlib.Core.Option.{Option, none, some}
-use lib.Dec.{ltb, eqb}
+use lib.Dec.{eqb}
 use lib.ListN.{length, getD, List·getD-eq-default}
 use lib.IntN.{ℤ, pos, _+ℤ_, _-ℤ_, -ℤ-+ℤ-cancel, +ℤ-idr}
 use lib.Ieee.{Float}
-use borrow.Author.Tests.{ltb-true, ltb-false, ne-eqb, eqb-false, eqb-true}
-use Rattle.arithmetic.specs.Seq.{tabulate}
-use Rattle.arithmetic.proofs.SeqLaws.{tab-at, tab-past}
+use borrow.Author.Tests.{ne-eqb, eqb-false, eqb-true}
+use Rattle.labels.specs.Label.{Found}
 use Rattle.labels.proofs.RootsEcho.{at}
-use Rattle.labels.proofs.AllLaws.{All, all-map}
+use Rattle.labels.proofs.AllLaws.{All, all-map, tab-all}
 use Rattle.labels.proofs.RegionsEcho.{regions-valid}
 use Rattle.network.specs.Network.{State, merges, countOf, Region, Edge, plan, move, merge, stepTo, step, replay, alone, start}
 use Rattle.network.specs.Network as Network
@@ -22,45 +21,34 @@ use Rattle.sweep.specs.Demand3.{first, countAt, uncentred}
 use Rattle.sweep.proofs.Early.{early-merges, early-counts}
 use Rattle.sweep.proofs.Echo.{regionCount}
 
-module _ (s : Sweep) (limits : List Float) where
-  tab-all : (f : ℕ → ℤ) (g : ℕ) → (length (s .mask) ≤ g → f g ≡ pos 0) → getD (tabulate (length (s .mask)) f) g (pos 0) ≡ f g
-  tab-all f g h = go (ltb g (length (s .mask))) refl
-    where
-      go : (b : Bool) → ltb g (length (s .mask)) ≡ b → getD (tabulate (length (s .mask)) f) g (pos 0) ≡ f g
-      go true e = tab-at f (length (s .mask)) g (pos 0) (ltb-true g (length (s .mask)) e)
-      go false e = tab-past f (length (s .mask)) g (pos 0) (ltb-false g (length (s .mask)) e) ∙ sym (h (ltb-false g (length (s .mask)) e))
+-- a masked gate gets 0, whatever the offset
+masked-zero : (off c : ℤ) (m : ℕ) → eqb m 1 ≡ false → gateCount off m c ≡ pos 0
+unfolding gateCount
+masked-zero off c m h = ap (λ (b : Bool). cond b (c -ℤ off) (pos 0)) h
 
-  -- the count of a gate: 0 if masked, else the uncentred count less the offset
+module _ (s : Sweep) (limits : List Float) where
+  abbrev f : Found
+  f = regionsOf s limits
+
+  -- an early end, or the end after the last merge
+  abbrev ends : Bool → Unfolded
+  ends b = elim b [ true ↦ ended s f | false ↦ finished s f (networkOf s f) ]
+
+  -- the count of a gate: 0 if masked, else its region's count less the offset
   pub gate-counts : (g : ℕ) → getD (unfolded s limits .counts) g (pos 0) ≡ gateCount (unfolded s limits .offset) (getD (s .mask) g 0) (regionCount s limits g)
   unfolding unfolded unfoldedBy regionCount
-  gate-counts g = go (early s (regionsOf s limits)) refl
+  gate-counts g = go (early s f) refl
     where
-      n : State
-      n = networkOf s (regionsOf s limits)
+      no-counts : (b : Bool) → pos 0 ≡ cond b (pos 0 -ℤ pos 0) (pos 0)
+      no-counts true = refl
+      no-counts false = refl
 
-      ends : Bool → Unfolded
-      ends b = elim b [ true ↦ ended s (regionsOf s limits) | false ↦ finished s (regionsOf s limits) (networkOf s (regionsOf s limits)) ]
+      go : (b : Bool) → early s f ≡ b → getD (ends b .counts) g (pos 0) ≡ gateCount (ends b .offset) (getD (s .mask) g 0) (countOf (final (networkOf s f) .regions) (at (f .labels) g))
+      go true e = unfold ended gateCount in rw (early-counts s f e (at (f .labels) g)) (tab-all (λ g. pos 0) (length (s .mask)) g (pos 0) (λ h. refl) ∙ no-counts (eqb (getD (s .mask) g 0) 1))
+      go false e = unfold finished gateCount in tab-all _ (length (s .mask)) g (pos 0) (λ h. rw (List·getD-eq-default (s .mask) 0 h) refl)
 
-      zero-count : (b : Bool) → pos 0 ≡ cond b (pos 0 -ℤ pos 0) (pos 0)
-      zero-count true = refl
-      zero-count false = refl
-
-      at-end : early s (regionsOf s limits) ≡ true → getD (ended s (regionsOf s limits) .counts) g (pos 0) ≡ gateCount (ended s (regionsOf s limits) .offset) (getD (s .mask) g 0) (countOf (final (networkOf s (regionsOf s limits)) .regions) (at (regionsOf s limits .labels) g))
-      at-end e = unfold ended gateCount in rw (early-counts s (regionsOf s limits) e (at (regionsOf s limits .labels) g)) (tab-all (λ g. pos 0) g (λ h. refl) ∙ zero-count (eqb (getD (s .mask) g 0) 1))
-
-      at-last : getD (finished s (regionsOf s limits) (networkOf s (regionsOf s limits)) .counts) g (pos 0)
-          ≡ gateCount (finished s (regionsOf s limits) (networkOf s (regionsOf s limits)) .offset) (getD (s .mask) g 0) (countOf (final (networkOf s (regionsOf s limits)) .regions) (at (regionsOf s limits .labels) g))
-      at-last = unfold finished gateCount in tab-all _ g (λ h. rw (List·getD-eq-default (s .mask) 0 h) refl)
-
-      go : (b : Bool) → early s (regionsOf s limits) ≡ b
-          → getD (ends b .counts) g (pos 0) ≡ gateCount (ends b .offset) (getD (s .mask) g 0) (countOf (final (networkOf s (regionsOf s limits)) .regions) (at (regionsOf s limits .labels) g))
-      go true e = at-end e
-      go false e = at-last
-
-  -- a masked gate gets 0
   pub masked-counts : (g : ℕ) → eqb (getD (s .mask) g 0) 1 ≡ false → getD (unfolded s limits .counts) g (pos 0) ≡ pos 0
-  unfolding gateCount
-  masked-counts g h = gate-counts g ∙ ap (λ (b : Bool). cond b (regionCount s limits g -ℤ unfolded s limits .offset) (pos 0)) h
+  masked-counts g h = gate-counts g ∙ masked-zero (unfolded s limits .offset) (regionCount s limits g) (getD (s .mask) g 0) h
 
   pub valid-counts : (g : ℕ) → getD (s .mask) g 0 ≡ 1 → getD (unfolded s limits .counts) g (pos 0) +ℤ unfolded s limits .offset ≡ regionCount s limits g
   unfolding gateCount
@@ -73,9 +61,6 @@ module _ (s : Sweep) (limits : List Float) where
   unfolding unfolded unfoldedBy ended finished offsetOf
   no-offset h = go (early s (regionsOf s limits))
     where
-      ends : Bool → Unfolded
-      ends b = elim b [ true ↦ ended s (regionsOf s limits) | false ↦ finished s (regionsOf s limits) (networkOf s (regionsOf s limits)) ]
-
       go : (b : Bool) → ends b .offset ≡ pos 0
       go true = refl
       go false = rw h refl
@@ -85,9 +70,6 @@ module _ (s : Sweep) (limits : List Float) where
   unfolding unfolded unfoldedBy ended finished
   call-merges = go (early s (regionsOf s limits)) refl
     where
-      ends : Bool → Unfolded
-      ends b = elim b [ true ↦ ended s (regionsOf s limits) | false ↦ finished s (regionsOf s limits) (networkOf s (regionsOf s limits)) ]
-
       go : (b : Bool) → early s (regionsOf s limits) ≡ b → ends b .merges ≡ merges (networkOf s (regionsOf s limits))
       go true e = sym (early-merges s (regionsOf s limits) e)
       go false e = refl

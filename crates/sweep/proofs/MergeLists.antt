@@ -1,5 +1,5 @@
 -- For an echo apart from the rest every merge list does what the sweep's own run does. Assumes nothing.
-use Prim.Native.Nat.{ℕ, zero, suc, _+_, _≤_, _<_}
+use Prim.Native.Nat.{ℕ, _<_}
 use native.Mathlib.Omega.{arith}
 use mathlib.Core.Path.{_≡_, refl, sym, ap, _∙_}
 use mathlib.Core.Bool.{Bool, true, false, cond, not, _&&_, _||_}
@@ -9,14 +9,14 @@ use mathlib.Core.Option.{none, some, Option·none-ne-some, Option}
 use lib.ListN.{length}
 use lib.Ieee.{Float}
 use lib.Dec.{eqb, leb}
-use borrow.Author.Tests.{eqb-true, eqb-false, ne-eqb}
+use borrow.Author.Tests.{eqb-true, ne-eqb}
 use Rattle.arithmetic.specs.Seq.{upto, all, keep}
 use Rattle.arithmetic.specs.Intervals.{folded}
 use Rattle.arithmetic.proofs.SeqLaws.{eqb-refl}
 use Rattle.labels.specs.Label.{Found}
 use Rattle.labels.proofs.Spot.{flag}
 use Rattle.labels.proofs.RootsEcho.{at, at-less}
-use Rattle.labels.proofs.AllLaws.{All, all-both, Mem, all-weaker}
+use Rattle.labels.proofs.AllLaws.{All, all-both, Mem, all-weaker, all-true, all-false}
 use Rattle.network.specs.declared.edges.EdgeRecord.{EdgeRecord}
 use Rattle.network.specs.Edges.{used, pairs}
 use Rattle.network.specs.Network.{State, Event, merges, replay, trace, choose, Edge, step, better, event}
@@ -31,24 +31,6 @@ use Rattle.sweep.specs.Sweep.{Sweep, regionsOf, pairsOf, sizes, networkO
 use Rattle.sweep.specs.Demand3.{liesIn, bothIn, echoes, MergeList, turnAt, countAt, Does}
 use Rattle.sweep.proofs.Echo.{ApartBy, only, flags, labels-follow}
 use Rattle.sweep.proofs.GateCounts.{call-merges, off-counts}
-
-all-true : (t : ℕ → Bool) (l : List ℕ) → ((g : ℕ) → t g ≡ true) → all t l ≡ true
-unfolding all
-all-true t [] h = refl
-all-true t (x ∷ l) h = rw (h x) (all-true t l h)
-
-all-false : (t : ℕ → Bool) (n k g : ℕ) → k ≤ g → g < n + k → t g ≡ false → all t (upto n k) ≡ false
-unfolding all upto
-all-false t zero k g a b h = absurd (omega arith)
-all-false t (suc n) k g a b h = go (eqb k g) refl (λ w. all-false t n (suc k) g w (omega arith) h)
-  where
-    go : (c : Bool) → eqb k g ≡ c → (suc k ≤ g → all t (upto n (suc k)) ≡ false) → (t k && all t (upto n (suc k))) ≡ false
-    go true e ih = rw (eqb-true k g e, h) refl
-    go false e ih = rw (ih (omega (arith, eqb-false k g e))) (and-false (t k))
-      where
-        and-false : (b : Bool) → (b && false) ≡ false
-        and-false true = refl
-        and-false false = refl
 
 -- a gate's region lies on the gate's side, where gates of one label do
 lies : (E p : ℕ → Bool) (labels : List ℕ) → ((g : ℕ) → 0 < at labels g → p (at labels g) ≡ E g) → (g : ℕ) → 0 < at labels g → liesIn E labels (at labels g) ≡ E g

@@ -55,7 +55,7 @@ unfoldable pub echoes : (ℕ → Bool) → Sweep → List Float → ℕ → Bool
 echoes E s limits i = let f = regionsOf s limits in getD (map (bothIn E (f .labels)) (used (f .number) (pairsOf s f))) i false
 
 -- "A merge list holds the echo's merges and the rest's, each once and nothing else, each side in its own order." The run's own merges hold no
--- edge twice.
+-- edge twice (`merges-once`).
 pub record MergeList (E : ℕ → Bool) (s : Sweep) (limits : List Float) (l : List ℕ) : Type 0 where
   pub echo : keep (echoes E s limits) l ≡ keep (echoes E s limits) (unfolded s limits .merges)
   pub rest : keep (λ i. not (echoes E s limits i)) l ≡ keep (λ i. not (echoes E s limits i)) (unfolded s limits .merges)
