@@ -1,4 +1,5 @@
 pub mod SeqLaws
+pub mod AllLaws
 pub mod SegLaws
 pub mod RoundLaws
 pub mod RangeLaws

@@ -1,5 +1,7 @@
 -- Lists that every stage uses. Definitions only.
 use Prim.Native.Nat.{ℕ, zero, suc}
+use mathlib.Core.Path.{_≡_}
+use mathlib.Core.Logic.{_⊎_}
 use mathlib.Core.Bool.{Bool, true, cond, _&&_}
 use mathlib.Core.List.{List, [], _∷_, _++_, map}
 
@@ -26,3 +28,13 @@ all p (x ∷ xs) = p x && all p xs
 unfoldable pub each : {A B : Type 0} → (A → List B) → List A → List B
 each f [] = []
 each f (x ∷ xs) = f x ++ each f xs
+
+-- what holds of each element
+abbrev pub All : {A : Type 0} → (A → Type 0) → List A → Type 0
+All P [] = Unit {0}
+All P (x ∷ xs) = P x × All P xs
+
+-- a is an element
+abbrev pub Mem : {A : Type 0} → A → List A → Type 0
+Mem a [] = ⊥
+Mem a (x ∷ xs) = (x ≡ a) ⊎ Mem a xs

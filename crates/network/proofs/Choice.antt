@@ -1,16 +1,17 @@
 -- What code on arrays needs: the edge of number i stands at place i; the choice by its properties; a node's size after a merge.
 -- Assumes nothing.
-use mathlib.Core.Path.{_≡_, refl, sym, ap, _∙_}
-use mathlib.Core.Bool.{Bool, true, false, not, _&&_, cond, true≢false}
-use mathlib.Core.List.{List, [], _∷_, map}
-use mathlib.Core.Option.{Option, none, some, Option·none-ne-some, Option·some-injective}
 use Prim.Native.Nat.{ℕ, zero, suc, _+_, _≤_, _<_}
 use native.Mathlib.Omega.{arith}
+use mathlib.Core.Path.{_≡_, refl, sym, ap, _∙_}
+use mathlib.Core.Bool.{Bool, true, false, _&&_, cond}
+use mathlib.Core.List.{List, [], _∷_, map}
+use mathlib.Core.Option.{Option, none, some, Option·none-ne-some, Option·some-injective}
 use lib.Dec.{leb, eqb}
 use lib.ListN.{length, getD}
-use borrow.Author.Tests.{leb-true, leb-false, le-leb, lt-leb, ne-eqb, eqb-true}
-use Rattle.network.specs.Network.{Edge, Region, State, Plan, sizeOf, at, move, better, choose}
+use borrow.Author.Tests.{le-leb, lt-leb, ne-eqb, eqb-true}
 use Rattle.arithmetic.proofs.SeqLaws.{eqb-refl}
+use Rattle.arithmetic.proofs.AllLaws.{and-left}
+use Rattle.network.specs.Network.{Edge, Region, Plan, sizeOf, at, move, better, choose}
 
 unfoldable pub Numbered : ℕ → List Edge → Type 0
 Numbered k [] = Unit {0}
@@ -48,17 +49,13 @@ choose-place d (e ∷ es) g h = go (choose es) refl h (choose-place d es)
     here : e .live ≡ true → e ≡ g → (j : ℕ) × (j < suc (length es)) × (getD (e ∷ es) j d ≡ g) × (g .live ≡ true)
     here l w = (0, omega arith, w, ap (λ (x : Edge). x .live) (sym w) ∙ l)
 
-    left : (b c : Bool) → (b && c) ≡ true → b ≡ true
-    left true c h = refl
-    left false c h = h
-
     go₀ : (b : Bool) → e .live ≡ b → cond b (some e) none ≡ some g → (j : ℕ) × (j < suc (length es)) × (getD (e ∷ es) j d ≡ g) × (g .live ≡ true)
     go₀ true l r = here l (Option·some-injective e g r)
     go₀ false l r = absurd (Option·none-ne-some g r)
 
     go₁ : (f : Edge) (b : Bool) → (e .live && leb (f .weight) (e .weight)) ≡ b → cond b (some e) (some f) ≡ some g
         → (f ≡ g → (j : ℕ) × (j < length es) × (getD es j d ≡ g) × (g .live ≡ true)) → (j : ℕ) × (j < suc (length es)) × (getD (e ∷ es) j d ≡ g) × (g .live ≡ true)
-    go₁ f true l r ih = here (left (e .live) _ l) (Option·some-injective e g r)
+    go₁ f true l r ih = here (and-left (e .live) _ l) (Option·some-injective e g r)
     go₁ f false l r ih = let w : (j : ℕ) × (j < length es) × (getD es j d ≡ g) × (g .live ≡ true) = ih (Option·some-injective f g r) in (suc (w .0), omega (arith, w .1), w .2, w .3)
 
     go : (o : Option Edge) → choose es ≡ o → better e o ≡ some g → ((f : Edge) → choose es ≡ some f → (j : ℕ) × (j < length es) × (getD es j d ≡ f) × (f .live ≡ true))

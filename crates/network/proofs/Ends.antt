@@ -1,16 +1,18 @@
 -- The run ends: every step that finds its edge live leaves fewer live edges, so the run's last state has none, and it finds each edge live.
 -- Assumes nothing.
-use mathlib.Core.Path.{_≡_, refl, sym, ap, _∙_, subst}
+use Prim.Native.Nat.{ℕ, zero, suc, _+_, _≤_, _<_}
+use native.Mathlib.Omega.{arith}
+use mathlib.Core.Path.{_≡_, refl, sym, ap, _∙_}
 use mathlib.Core.Bool.{Bool, true, false, not, _&&_, cond, true≢false}
 use mathlib.Core.List.{List, [], _∷_, map}
 use mathlib.Core.Option.{Option, none, some, Option·none-ne-some, Option·some-injective}
-use Prim.Native.Nat.{ℕ, zero, suc, _+_, _≤_, _<_}
-use native.Mathlib.Omega.{arith}
 use lib.Dec.{leb, eqb}
 use lib.ListN.{length}
-use Rattle.network.specs.Network.{Edge, Region, State, Plan, Link, Event, at, plan, planFor, kill, adjust, turnIf, turn, find, absorb, absent, hand, combine, prepare, joinAll, mergeEdges, merge, stepTo, step, better, choose, follow, run, merges, eventOf, event, trace, replay}
-use Rattle.network.proofs.Lists.{All, at-num}
 use Rattle.arithmetic.proofs.SeqLaws.{eqb-refl}
+use Rattle.arithmetic.proofs.AllLaws.{and-left}
+use Rattle.network.specs.Network.{Edge, State, Plan, Link, Event, at, plan, planFor, kill, adjust, turnIf, turn, find, absorb, absent, hand, combine, prepare, joinAll, mergeEdges, merge, stepTo, step, better, choose, follow, run, eventOf, event, trace, replay}
+use Rattle.network.proofs.Lists.{at-num}
+use Rattle.arithmetic.specs.Seq.{All}
 
 unfoldable pub alive : List Edge → ℕ
 alive [] = 0
@@ -40,12 +42,8 @@ pub prepare-live : (pl : Plan) (e : Edge) → prepare pl e .live ≡ (e .live &&
 unfolding prepare turn turnIf adjust kill
 prepare-live pl e = refl
 
-pub left : (b c : Bool) → (b && c) ≡ true → b ≡ true
-left true c h = refl
-left false c h = h
-
 prepare-le : (pl : Plan) (es : List Edge) → alive (map (prepare pl) es) ≤ alive es
-prepare-le pl es = alive-map (prepare pl) (λ e h. left (e .live) _ (sym (prepare-live pl e) ∙ h)) es
+prepare-le pl es = alive-map (prepare pl) (λ e h. and-left (e .live) _ (sym (prepare-live pl e) ∙ h)) es
 
 prepare-less : (pl : Plan) (es : List Edge) (e : Edge) → at es (pl .edge) ≡ some e → alive (map (prepare pl) es) < alive es
 unfolding alive at
@@ -65,7 +63,7 @@ combine-live es b m e = go (eqb b (e .first)) (eqb m (e .first)) (find es m (e .
     go : (x y : Bool) (g h : Option Link) → cond x (absorb g e) (cond y (hand b h e) e) .live ≡ true → e .live ≡ true
     go true y none h r = r
     go true y (some g) h r = r
-    go false true g h r = left (e .live) (absent h) r
+    go false true g h r = and-left (e .live) (absent h) r
     go false false g h r = r
 
 pub step-less : (s : State) (i : ℕ) (e : Edge) → at (s .edges) i ≡ some e → alive (step s i .edges) < alive (s .edges)
@@ -97,7 +95,7 @@ choose-at (f ∷ es) e h = go (choose es) refl h (choose-at es)
 
     some-case : (g : Edge) (b : Bool) → (f .live && leb (g .weight) (f .weight)) ≡ b → cond b (some f) (some g) ≡ some e → (g ≡ e → (x : Edge) × (at es (e .num) ≡ some x))
         → (x : Edge) × (cond (f .live && eqb (e .num) (f .num)) (some f) (at es (e .num)) ≡ some x)
-    some-case g true l r ih = here e (left (f .live) _ l) (Option·some-injective f e r)
+    some-case g true l r ih = here e (and-left (f .live) _ l) (Option·some-injective f e r)
     some-case g false l r ih = later (f .live && eqb (e .num) (f .num)) (ih (Option·some-injective g e r))
 
     go : (o : Option Edge) → choose es ≡ o → better f o ≡ some e → ((g : Edge) → choose es ≡ some g → (x : Edge) × (at es (g .num) ≡ some x))

@@ -1,31 +1,20 @@
--- The elements of a list that pass a test, and facts of each element.
+-- The elements of a list that pass a test, and facts of each element. Assumes nothing.
+use Prim.Native.Nat.{ℕ}
 use mathlib.Core.Path.{_≡_, refl, sym, ap, _∙_}
 use mathlib.Core.Bool.{Bool, true, false, not, _&&_, cond, true≢false}
-use mathlib.Core.Option.{Option, none, some, Option·none-ne-some, Option·some-injective}
+use mathlib.Core.Option.{some, Option·none-ne-some, Option·some-injective}
 use mathlib.Core.List.{List, [], _∷_, map, head-eq-of-cons-eq, tail-eq-of-cons-eq, nil≢cons, cons≢nil}
-use Prim.Native.Nat.{ℕ, zero, suc}
-use borrow.Author.Tests.{eqb-true, ne-eqb, eq-eqb}
-use Rattle.arithmetic.specs.Seq.{keep}
-use Rattle.network.specs.Network.{Edge, at}
 use lib.Dec.{eqb}
+use borrow.Author.Tests.{eqb-true, ne-eqb}
+use Rattle.arithmetic.specs.Seq.{keep, All}
+use Rattle.arithmetic.proofs.SeqLaws.{keep-of-map, keep-same}
+use Rattle.arithmetic.proofs.AllLaws.{and-right}
+use Rattle.network.specs.Network.{Edge, at}
 
 module _ {A : Type 0} where
-  abbrev pub All : (A → Type 0) → List A → Type 0
-  All P [] = Unit {0}
-  All P (x ∷ xs) = P x × All P xs
-
-  pub all-map : {P : A → Type 0} (Q : A → Type 0) (g : A → A) → ((a : A) → P a → Q (g a)) → (l : List A) → All P l → All Q (map g l)
-  all-map Q g h [] t = tt
-  all-map Q g h (x ∷ xs) t = (h x (t .0), all-map Q g h xs (t .1))
-
+  -- A map that keeps what the test says
   pub keep-map : (f : A → Bool) (g : A → A) → ((a : A) → f (g a) ≡ f a) → (l : List A) → keep f (map g l) ≡ map g (keep f l)
-  unfolding keep
-  keep-map f g h [] = refl
-  keep-map f g h (x ∷ xs) = rw (h x, keep-map f g h xs) (go (f x))
-    where
-      go : (b : Bool) → cond b (g x ∷ map g (keep f xs)) (map g (keep f xs)) ≡ map g (cond b (x ∷ keep f xs) (keep f xs))
-      go true = refl
-      go false = refl
+  keep-map f g h l = keep-of-map g f l ∙ ap (map g) (keep-same (λ x. f (g x)) f l h)
 
   -- A map that fixes the kept elements
   pub keep-fixed : {P : A → Type 0} (f : A → Bool) (g : A → A) → ((a : A) → P a → f a ≡ true → g a ≡ a) → (l : List A) → All P l → map g (keep f l) ≡ keep f l
@@ -69,14 +58,10 @@ unfolding at
 at-all P i [] t e h = absurd (Option·none-ne-some e h)
 at-all P i (f ∷ es) t e h = go (f .live && eqb i (f .num)) refl h (at-all P i es (t .1) e)
   where
-    right : (b c : Bool) → (b && c) ≡ true → c ≡ true
-    right true c h = h
-    right false c h = absurd (true≢false (sym h))
-
     go : (b : Bool) → (f .live && eqb i (f .num)) ≡ b → cond b (some f) (at es i) ≡ some e → (at es i ≡ some e → (e .num ≡ i) × P e) → (e .num ≡ i) × P e
     go true r h ih =
         let w : f ≡ e = Option·some-injective f e h in
-        rw (← w) (sym (eqb-true i (f .num) (right (f .live) (eqb i (f .num)) r)), t .0)
+        rw (← w) (sym (eqb-true i (f .num) (and-right (f .live) (eqb i (f .num)) r)), t .0)
     go false r h ih = ih h
 
 all-any : (es : List Edge) → All (λ e. Unit {0}) es

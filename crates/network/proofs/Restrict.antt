@@ -1,17 +1,18 @@
 -- The network restricted to the edges and regions on one side: where no edge joins the two sides, restricting commutes with the steps.
 -- Assumes nothing.
+use Prim.Native.Nat.{ℕ, _+_}
+use native.Mathlib.Omega.{arith}
 use mathlib.Core.Path.{_≡_, refl, sym, ap, _∙_, fun-ext}
-use mathlib.Core.Bool.{Bool, true, false, not, _&&_, cond, true≢false}
+use mathlib.Core.Bool.{Bool, true, false, _&&_, cond, and-true, not}
 use mathlib.Core.List.{List, [], _∷_, map}
 use mathlib.Core.Option.{Option, none, some}
-use Prim.Native.Nat.{ℕ, zero, suc, _+_}
-use native.Mathlib.Omega.{arith}
-use lib.Dec.{ltb, leb, eqb}
+use lib.Dec.{ltb, eqb}
 use lib.IntN.{ℤ, _+ℤ_}
-use Rattle.arithmetic.specs.Seq.{keep}
-use Rattle.network.specs.Network.{Edge, Region, State, Plan, Link, Event, isZero, sizeOf, gather, members, raised, at, planFor, plan, kill, shifted, adjust, turnIf, turn, link, find, absorb, hand, combine, prepare, joinAll, mergeEdges, move, merge, stepTo, step, eventOf, event, trace, replay}
-use Rattle.network.proofs.Lists.{All, all-map, keep-map, keep-fixed, apart, apart′, at-all}
 use borrow.Author.Tests.{eqb-true}
+use Rattle.arithmetic.specs.Seq.{keep, All}
+use Rattle.arithmetic.proofs.AllLaws.{all-map}
+use Rattle.network.specs.Network.{isZero, Edge, Region, State, Plan, Link, Event, sizeOf, gather, members, raised, at, planFor, plan, kill, shifted, adjust, turnIf, turn, link, find, absorb, hand, combine, prepare, joinAll, mergeEdges, move, merge, stepTo, step, eventOf, event, trace, replay}
+use Rattle.network.proofs.Lists.{keep-map, keep-fixed, apart, apart′, at-all}
 
 -- Every phase keeps an edge's number
 pub prepare-num : (pl : Plan) (e : Edge) → prepare pl e .num ≡ e .num
@@ -185,13 +186,12 @@ module _ (p q : ℕ → Bool) where
   merge-in pl pb pm s c = λ i. record { edges = edges-in pl pb pm (s .edges) (c .edges-ok) i; regions = in-move pl (s .regions) i }
 
   -- A merge on the other side
-  and-true : (b : Bool) → (b && true) ≡ b
-  and-true true = refl
-  and-true false = refl
-
   kill-out : (i : ℕ) (e : Edge) → q i ≡ false → q (e .num) ≡ true → kill i e ≡ e
   unfolding kill
-  kill-out i e a b = rw (apart′ q i (e .num) a b, and-true (e .live)) refl
+  kill-out i e a b = ap alive (ap (λ (x : Bool). e .live && not x) (apart′ q i (e .num) a b) ∙ and-true (e .live))
+    where
+      alive : Bool → Edge
+      alive x = record { num = e .num; live = x; first = e .first; second = e .second; weight = e .weight; diff = e .diff }
 
   adjust-out : (m : ℕ) (k : ℤ) (e : Edge) → eqb m (e .first) ≡ false → eqb m (e .second) ≡ false → adjust m k e ≡ e
   unfolding adjust shifted

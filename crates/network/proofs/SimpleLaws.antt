@@ -10,11 +10,13 @@ use lib.Dec.{ltb, eqb}
 use lib.IntN.{ℤ}
 use borrow.Author.Tests.{eqb-false, eqb-true}
 use Rattle.network.specs.Network.{Edge, State, Plan, Link, Region, sizeOf, at, plan, planFor, kill, adjust, turnIf, turn, link, find, absorb, absent, hand, combine, prepare, joinAll, mergeEdges, merge, stepTo, step}
-use Rattle.network.specs.Simple.{Mem, Joined, Simple}
+use Rattle.network.specs.Simple.{Joined, Simple}
 use Rattle.network.proofs.Lists.{at-num}
 use Rattle.network.proofs.Restrict.{prepare-num, combine-num}
-use Rattle.network.proofs.Ends.{prepare-live, combine-live, left}
+use Rattle.network.proofs.Ends.{prepare-live, combine-live}
 use Rattle.arithmetic.proofs.SeqLaws.{eqb-refl}
+use Rattle.arithmetic.specs.Seq.{Mem}
+use Rattle.arithmetic.proofs.AllLaws.{and-left}
 
 module _ {A : Type 0} where
   mem-map : (g : A → A) (b : A) (l : List A) → Mem b (map g l) → (a : A) × Mem a l × (g a ≡ b)
@@ -155,7 +157,7 @@ at-mem i [] e h = absurd (Option·none-ne-some e h)
 at-mem i (f ∷ es) e h = go (f .live && eqb i (f .num)) refl h (at-mem i es e)
   where
     go : (b : Bool) → (f .live && eqb i (f .num)) ≡ b → cond b (some f) (at es i) ≡ some e → (at es i ≡ some e → Mem e es × (e .live ≡ true)) → ((f ≡ e) ⊎ Mem e es) × (e .live ≡ true)
-    go true r h ih = let w : f ≡ e = Option·some-injective f e h in (inl w, ap (λ (x : Edge). x .live) (sym w) ∙ left (f .live) _ r)
+    go true r h ih = let w : f ≡ e = Option·some-injective f e h in (inl w, ap (λ (x : Edge). x .live) (sym w) ∙ and-left (f .live) _ r)
     go false r h ih = let w : Mem e es × (e .live ≡ true) = ih h in (inr (w .0), w .1)
 
 module _ (es : List Edge) (simple : Simple es) (i : ℕ) (c : Edge) (found : at es i ≡ some c) (rs : List Region) where

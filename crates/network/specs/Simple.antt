@@ -2,13 +2,9 @@
 use mathlib.Core.Path.{_≡_}
 use mathlib.Core.Logic.{_⊎_}
 use mathlib.Core.Bool.{true}
-use mathlib.Core.List.{List, [], _∷_}
+use mathlib.Core.List.{List}
+use Rattle.arithmetic.specs.Seq.{Mem}
 use Rattle.network.specs.Network.{Edge}
-
--- a is an element of a list
-abbrev pub Mem : {A : Type 0} → A → List A → Type 0
-Mem a [] = ⊥
-Mem a (x ∷ xs) = (x ≡ a) ⊎ Mem a xs
 
 -- two edges join the same two nodes
 abbrev pub Joined : Edge → Edge → Type 0

@@ -3,3 +3,4 @@ pub mod Checks
 pub mod Call
 pub mod Velocity
 pub mod Evaluating
+pub mod Demand3

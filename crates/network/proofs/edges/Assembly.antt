@@ -11,7 +11,7 @@ use lib.Ieee.{Float, nan}
 use lib.Seq.{ext-getD}
 use Rattle.arithmetic.specs.Seg.{seg, put}
 use Rattle.arithmetic.proofs.SegLaws.{length-seg, getD-seg, length-put, seg-put-below, seg-put-same}
-use Rattle.arithmetic.specs.Seq.{upto, each}
+use Rattle.arithmetic.specs.Seq.{upto, each, All}
 use Rattle.arithmetic.proofs.SeqLaws.{upto-length}
 use Rattle.network.specs.Sort.{pick, bucket, sorted}
 use Rattle.network.specs.Edges.{Shape, Direction, left, right, top, bottom, sees, Pair, pairs, used}
@@ -22,10 +22,10 @@ use Rattle.network.specs.Order.{ordered, runs, weigh}
 use Rattle.network.specs.Sorts.{labelsOf, Sorts, Sorted}
 use Rattle.network.specs.Gather.{pairAt, later, Ready, diffOf, tables, Gathers, Gathered}
 use Rattle.network.specs.Whole.{Asked, Edged}
+use Rattle.arithmetic.proofs.AllLaws.{all-append, all-each}
 use Rattle.network.proofs.edges.Stored.{gates, fars, adds-labels, adds-length, adds-gates, adds-fars}
 use Rattle.network.proofs.edges.GatePairLaws.{sees-in}
 use Rattle.network.proofs.edges.PairTurn.{label-at}
-use Rattle.network.proofs.edges.Runs.{All}
 use Rattle.network.proofs.edges.Sorting.{blank, two-passes, used-runs}
 use Rattle.network.proofs.edges.RunCount.{runs-few}
 use Rattle.network.proofs.edges.Weights.{weights}
@@ -35,19 +35,10 @@ use Rattle.network.specs.declared.edges.EdgeRecord.{EdgeRecord}
 -- ---- what holds of each
 
 module _ {A : Type 0} (P : A → Type 0) where
-  all-append : (l m : List A) → All P l → All P m → All P (l ++ m)
-  all-append [] m s t = t
-  all-append (x ∷ xs) m s t = (s .0, all-append xs m (s .1) t)
-
   all-at : (l : List A) (d : A) → All P l → (i : ℕ) → i < length l → P (getD l i d)
   all-at [] d s i h = absurd (omega arith)
   all-at (x ∷ xs) d s zero h = s .0
   all-at (x ∷ xs) d s (suc i) h = all-at xs d (s .1) i (omega arith)
-
-  all-listed : {B : Type 0} (f : B → List A) (l : List B) → ((x : B) → All P (f x)) → All P (each f l)
-  unfolding each
-  all-listed f [] h = tt
-  all-listed f (x ∷ xs) h = all-append (f x) (each f xs) (h x) (all-listed f xs h)
 
 module _ (P : ℕ → Type 0) where
   all-bucket : (K : List ℕ) (v : ℕ) (S : List ℕ) → All P S → All P (bucket K v S)
@@ -87,7 +78,7 @@ module _ (s : Shape) (L : List ℕ) (n : ℕ) (w : n ≡ s .rays * s .gates) whe
 
   at-within : (g : ℕ) → g < n → All (Within n) (gatePairsAt s L g)
   unfolding gatePairsAt
-  at-within g i = go (eqb (getD L g 0) 0) (all-listed (Within n) (λ d. gatePairTo L g (sees s L d g)) (left ∷ right ∷ top ∷ bottom ∷ []) (λ d. to-within g (sees s L d g) i (λ h e. omega (arith, sees-in s d L g h (omega arith) e))))
+  at-within g i = go (eqb (getD L g 0) 0) (all-each (Within n) (λ d. gatePairTo L g (sees s L d g)) (left ∷ right ∷ top ∷ bottom ∷ []) (λ d. to-within g (sees s L d g) i (λ h e. omega (arith, sees-in s d L g h (omega arith) e))))
     where
       go : (b : Bool) → All (Within n) (each (λ d. gatePairTo L g (sees s L d g)) (left ∷ right ∷ top ∷ bottom ∷ [])) → All (Within n) (cond b [] (each (λ d. gatePairTo L g (sees s L d g)) (left ∷ right ∷ top ∷ bottom ∷ [])))
       go true h = tt

@@ -8,10 +8,11 @@ use mathlib.Core.List.{List, [], _∷_, _++_, foldl}
 use lib.Dec.{ltb}
 use lib.ListN.{length, getD}
 use borrow.Author.Tests.{eqb-true, ltb-true}
-use Rattle.arithmetic.specs.Seq.{upto, keep, each}
+use Rattle.arithmetic.specs.Seq.{upto, keep, each, All}
 use Rattle.network.specs.Edges.{Pair, begun, plus, gathered, firstIs, secondIs, recordsOf, records, greaterFirst, used}
 use Rattle.network.specs.declared.edges.EdgeRecord.{EdgeRecord}
-use Rattle.network.proofs.edges.Runs.{All, all-keep, all-kept, plus-one, plus-two}
+use Rattle.network.proofs.edges.Runs.{all-kept, plus-one, plus-two}
+use Rattle.arithmetic.proofs.AllLaws.{all-keep, all-append, all-weaker}
 
 -- r comes before s
 abbrev pub Before : EdgeRecord → EdgeRecord → Type 0
@@ -22,18 +23,9 @@ abbrev pub Rise : List EdgeRecord → Type 0
 Rise [] = Unit {0}
 Rise (r ∷ rs) = All (Before r) rs × Rise rs
 
-module _ {A : Type 0} (P : A → Type 0) where
-  all-both : (l m : List A) → All P l → All P m → All P (l ++ m)
-  all-both [] m s t = t
-  all-both (x ∷ l) m s t = (s .0, all-both l m (s .1) t)
-
-  all-into : (Q : A → Type 0) (l : List A) → ((x : A) → P x → Q x) → All P l → All Q l
-  all-into Q [] h s = tt
-  all-into Q (x ∷ l) h s = (h x (s .0), all-into Q l h (s .1))
-
 rise-append : (l m : List EdgeRecord) → Rise l → Rise m → All (λ r. All (Before r) m) l → Rise (l ++ m)
 rise-append [] m a b c = b
-rise-append (r ∷ l) m a b c = (all-both (Before r) l m (a .0) (c .0), rise-append l m (a .1) b (c .1))
+rise-append (r ∷ l) m a b c = (all-append (Before r) l m (a .0) (c .0), rise-append l m (a .1) b (c .1))
 
 rise-keep : (t : EdgeRecord → Bool) (l : List EdgeRecord) → Rise l → Rise (keep t l)
 unfolding keep
@@ -56,15 +48,15 @@ module _ (P : ℕ → EdgeRecord → Type 0) (f : ℕ → List EdgeRecord) (h : 
   each-of : (k i : ℕ) → All (Of i k) (each f (upto k i))
   unfolding each upto
   each-of zero i = tt
-  each-of (suc k) i = all-both (Of i (suc k)) (f i) (each f (upto k (suc i)))
-      (all-into (P i) (Of i (suc k)) (f i) (λ r p. record { key = i; from = omega arith; below = omega arith; is = p }) (h i))
-      (all-into (Of (suc i) k) (Of i (suc k)) (each f (upto k (suc i))) (λ r o. record { key = o .key; from = omega (arith, o .from); below = omega (arith, o .below); is = o .is }) (each-of k (suc i)))
+  each-of (suc k) i = all-append (Of i (suc k)) (f i) (each f (upto k (suc i)))
+      (all-weaker (P i) (Of i (suc k)) (λ r p. record { key = i; from = omega arith; below = omega arith; is = p }) (f i) (h i))
+      (all-weaker (Of (suc i) k) (Of i (suc k)) (λ r o. record { key = o .key; from = omega (arith, o .from); below = omega (arith, o .below); is = o .is }) (each f (upto k (suc i))) (each-of k (suc i)))
 
   each-rise : ((x : ℕ) → Rise (f x)) → ((x y : ℕ) (r s : EdgeRecord) → x < y → P x r → P y s → Before r s) → (k i : ℕ) → Rise (each f (upto k i))
   unfolding each upto
   each-rise a b zero i = tt
   each-rise a b (suc k) i = rise-append (f i) (each f (upto k (suc i))) (a i) (each-rise a b k (suc i))
-      (all-into (P i) (λ r. All (Before r) (each f (upto k (suc i)))) (f i) (λ r p. all-into (Of (suc i) k) (Before r) (each f (upto k (suc i))) (λ s o. b i (o .key) r s (omega (arith, o .from)) p (o .is)) (each-of k (suc i))) (h i))
+      (all-weaker (P i) (λ r. All (Before r) (each f (upto k (suc i)))) (λ r p. all-weaker (Of (suc i) k) (Before r) (λ s o. b i (o .key) r s (omega (arith, o .from)) p (o .is)) (each f (upto k (suc i))) (each-of k (suc i))) (f i) (h i))
 
 -- ---- the records of one pair of labels
 
@@ -106,8 +98,7 @@ module _ (n b : ℕ) (ps : List Pair) (t : All (λ p. p .two ≡ b) ps) where
 
   second-all : All Second (recordsOf n ps)
   unfolding recordsOf
-  second-all = all-into (Of (λ a. Keyed a b) (λ a. gathered (keep (firstIs a) ps)) of-first 1 n) Second (each (λ a. gathered (keep (firstIs a) ps)) (upto n 1))
-      (λ r o. record { two = o .is .two; low = omega (arith, o .is .one, o .from); high = omega (arith, o .is .one, o .below); some = o .is .some })
+  second-all = all-weaker (Of (λ a. Keyed a b) (λ a. gathered (keep (firstIs a) ps)) of-first 1 n) Second (λ r o. record { two = o .is .two; low = omega (arith, o .is .one, o .from); high = omega (arith, o .is .one, o .below); some = o .is .some }) (each (λ a. gathered (keep (firstIs a) ps)) (upto n 1))
       (each-of (λ a. Keyed a b) (λ a. gathered (keep (firstIs a) ps)) of-first n 1)
 
   second-rise : Rise (recordsOf n ps)

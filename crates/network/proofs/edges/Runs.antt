@@ -5,7 +5,8 @@ use mathlib.Core.Path.{_≡_, refl, sym, ap, _∙_}
 use mathlib.Core.Bool.{Bool, true, false, cond, _&&_, true≢false}
 use mathlib.Core.List.{List, [], _∷_, _++_, map, foldl}
 use lib.Dec.{ltb, eqb}
-use Rattle.arithmetic.specs.Seq.{upto, keep, each}
+use Rattle.arithmetic.specs.Seq.{upto, keep, each, All}
+use Rattle.arithmetic.proofs.AllLaws.{all-append, all-weaker, all-keep}
 use Rattle.arithmetic.proofs.SeqLaws.{keep-each, each-same, keep-swap}
 use Rattle.network.specs.Edges.{Pair, begun, plus, gathered, firstIs, secondIs, recordsOf, records, greaterFirst, used}
 use Rattle.network.specs.GatePairs.{greater}
@@ -15,24 +16,7 @@ use Rattle.network.specs.declared.edges.EdgeRecord.{EdgeRecord}
 
 -- ---- what holds of each
 
-abbrev pub All : {A : Type 0} → (A → Type 0) → List A → Type 0
-All P [] = Unit {0}
-All P (x ∷ xs) = P x × All P xs
-
 module _ {A : Type 0} (P : A → Type 0) where
-  all-append : (l m : List A) → All P l → All P m → All P (l ++ m)
-  all-append [] m s t = t
-  all-append (x ∷ xs) m s t = (s .0, all-append xs m (s .1) t)
-
-  pub all-keep : (t : A → Bool) (l : List A) → All P l → All P (keep t l)
-  unfolding keep
-  all-keep t [] s = tt
-  all-keep t (x ∷ xs) s = go (t x) (all-keep t xs (s .1))
-    where
-      go : (b : Bool) → All P (keep t xs) → All P (cond b (x ∷ keep t xs) (keep t xs))
-      go true r = (s .0, r)
-      go false r = r
-
   -- of those that pass a test, what the test says
   pub all-kept : (t : A → Bool) (l : List A) → ((x : A) → t x ≡ true → P x) → All P (keep t l)
   unfolding keep
@@ -46,11 +30,7 @@ module _ {A : Type 0} (P : A → Type 0) where
   all-each : (f : ℕ → List A) (k i : ℕ) → ((x : ℕ) → i ≤ x → All P (f x)) → All P (each f (upto k i))
   unfolding each upto
   all-each f zero i h = tt
-  all-each f (suc k) i h = all-append (f i) (each f (upto k (suc i))) (h i (omega arith)) (all-each f k (suc i) (λ x g. h x (omega arith)))
-
-  all-more : (Q : A → Type 0) (l : List A) → ((x : A) → P x → Q x) → All P l → All Q l
-  all-more Q [] h s = tt
-  all-more Q (x ∷ xs) h s = (h x (s .0), all-more Q xs h (s .1))
+  all-each f (suc k) i h = all-append P (f i) (each f (upto k (suc i))) (h i (omega arith)) (all-each f k (suc i) (λ x g. h x (omega arith)))
 
 -- ---- runs of what is apart
 
@@ -110,7 +90,7 @@ runs-each : (K : Key) (f : ℕ → List Pair) → ((x : ℕ) → All (λ p. K .o
 unfolding runs each upto
 runs-each K f h zero i = refl
 runs-each K f h (suc k) i =
-    runs-append K i (f i) (each f (upto k (suc i))) (h i) (all-each (λ p. i < K .ofPair p) f k (suc i) (λ x g. all-more (λ p. K .ofPair p ≡ x) (λ p. i < K .ofPair p) (f x) (λ p e. omega (arith, e)) (h x)))
+    runs-append K i (f i) (each f (upto k (suc i))) (h i) (all-each (λ p. i < K .ofPair p) f k (suc i) (λ x g. all-weaker (λ p. K .ofPair p ≡ x) (λ p. i < K .ofPair p) (λ p e. omega (arith, e)) (f x) (h x)))
     ∙ ap (λ (l : List EdgeRecord). runs (f i) ++ l) (runs-each K f h k (suc i))
 
 -- one block of equal labels
@@ -165,11 +145,11 @@ module _ (ps : List Pair) where
 
   nothing : (b a : ℕ) → All Labelled ps → (b ≡ 0) → block b a ≡ []
   unfolding block secondIs keep
-  nothing b a l e = rw (keep-nothing (secondIs b) ps (all-more Labelled (λ p. secondIs b p ≡ false) ps (λ p h. ne-eqb (p .two) b (λ q. omega (arith, h .two, q, e))) l)) refl
+  nothing b a l e = rw (keep-nothing (secondIs b) ps (all-weaker Labelled (λ p. secondIs b p ≡ false) (λ p h. ne-eqb (p .two) b (λ q. omega (arith, h .two, q, e))) ps l)) refl
 
   nothing′ : (b a : ℕ) → All Labelled ps → (a ≡ 0) → block b a ≡ []
   unfolding block firstIs
-  nothing′ b a l e = keep-nothing (firstIs a) (keep (secondIs b) ps) (all-more Labelled (λ p. firstIs a p ≡ false) (keep (secondIs b) ps) (λ p h. ne-eqb (p .one) a (λ q. omega (arith, h .one, q, e))) (all-keep Labelled (secondIs b) ps l))
+  nothing′ b a l e = keep-nothing (firstIs a) (keep (secondIs b) ps) (all-weaker Labelled (λ p. firstIs a p ≡ false) (λ p h. ne-eqb (p .one) a (λ q. omega (arith, h .one, q, e))) (keep (secondIs b) ps) (all-keep Labelled (secondIs b) ps l))
 
   none-at : (b k i : ℕ) → All Labelled ps → b ≡ 0 → each (λ a. gathered (block b a)) (upto k i) ≡ []
   unfolding each upto gathered

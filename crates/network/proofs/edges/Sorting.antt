@@ -9,14 +9,14 @@ use lib.Dec.{ltb, eqb, eqb}
 use lib.Ieee.{Float, nan}
 use lib.ListN.{length, getD}
 use borrow.Author.Tests.{ltb-true}
-use Rattle.arithmetic.specs.Seq.{upto, keep, each}
+use Rattle.arithmetic.specs.Seq.{upto, keep, each, All}
 use Rattle.arithmetic.proofs.SeqLaws.{keep-each, each-same, keep-swap, map-append}
 use Rattle.network.specs.Sort.{pick, bucket, sorted}
 use Rattle.network.specs.Edges.{Shape, Direction, left, right, top, bottom, sees, skip, Pair, firstIs, secondIs, pairs, records, used}
 use Rattle.network.specs.GatePairs.{GatePair, both, gatePairTo, gatePairsAt, gatePairs, pairOf, greater}
 use Rattle.network.specs.Order.{ordered, runs}
 use Rattle.network.proofs.edges.GatePairLaws.{each-snoc, look-labelled, links-same}
-use Rattle.network.proofs.edges.Runs.{All, Labelled, runs-records, used-records}
+use Rattle.network.proofs.edges.Runs.{Labelled, runs-records, used-records}
 use Rattle.network.specs.declared.edges.EdgeRecord.{EdgeRecord}
 
 -- no pair

@@ -12,7 +12,7 @@ use lib.ListN.{length, getD, length-map}
 use lib.Ieee.{Float, nan, inf, fin, binary32, fits}
 use lib.Ieee.Fits.{round-fits, nan-fits, inf-fits}
 use borrow.Author.Tests.{ne-eqb, eqb-true}
-use Rattle.arithmetic.specs.Seq.{upto, tabulate, keep}
+use Rattle.arithmetic.specs.Seq.{upto, tabulate, keep, Mem as Has}
 use Rattle.arithmetic.specs.Seg.{seg}
 use Rattle.arithmetic.specs.Rounding.{narrowed}
 use Rattle.arithmetic.proofs.SeqLaws.{tab-at}
@@ -21,7 +21,7 @@ use Rattle.network.specs.declared.edges.EdgeRecord.{EdgeRecord}
 use Rattle.network.specs.Edges.{Pair, used}
 use Rattle.network.specs.Network as Network
 use Rattle.network.specs.Network.{Edge, Region, State, numbered, alone, start, sizeIn}
-use Rattle.network.specs.Simple.{Simple, Joined, Mem as Has}
+use Rattle.network.specs.Simple.{Simple, Joined}
 use Rattle.network.specs.Order.{weigh}
 use Rattle.network.specs.Gather.{diffOf}
 use Rattle.network.specs.Mem.{Mem, total}

@@ -10,7 +10,7 @@ use lib.Dec.{ltb, eqb}
 use lib.IntN.{ℤ}
 use Rattle.network.specs.Network.{Edge, Region, Plan, sizeOf, at, plan, planFor, kill, adjust, shifted, isZero, turn, turnIf, prepare}
 use Rattle.network.proofs.Restrict.{prepare-num}
-use Rattle.network.proofs.Ends.{prepare-live, left}
+use Rattle.network.proofs.Ends.{prepare-live}
 use Rattle.network.proofs.SimpleLaws.{Turned, prepared-simple, prepared-turned, ends-apart}
 use Rattle.network.specs.Steps.{unbias}
 use Rattle.network.specs.Net.{rows}
@@ -21,7 +21,9 @@ use Rattle.network.proofs.network.BaseWalk.{Plain}
 use lib.Ieee.{Float}
 use borrow.Author.Tests.{eqb-true, eqb-false}
 use Rattle.arithmetic.proofs.SeqLaws.{eqb-refl}
-use Rattle.network.specs.Simple.{Simple, Joined, Mem as Has}
+use Rattle.network.specs.Simple.{Simple, Joined}
+use Rattle.arithmetic.proofs.AllLaws.{and-left}
+use Rattle.arithmetic.specs.Seq.{Mem as Has}
 
 pub at-rows : (E : ℕ → Edge) → ((j : ℕ) → E j .num ≡ j) → (k n i : ℕ) → k ≤ i → i < k + n → E i .live ≡ true → at (rows E k n) i ≡ some (E i)
 unfolding at rows

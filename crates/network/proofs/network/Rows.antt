@@ -13,7 +13,7 @@ use Rattle.network.proofs.network.SoundSet.{eq-or-ne}
 use lib.Dec.{eqb}
 use borrow.Author.Tests.{eqb-true}
 use Rattle.arithmetic.proofs.SeqLaws.{eqb-refl}
-use Rattle.network.specs.Simple.{Mem as Has}
+use Rattle.arithmetic.specs.Seq.{Mem as Has}
 
 module _ {A : Type 0} where
   pub length-rows : (f : ℕ → A) (k n : ℕ) → length (rows f k n) ≡ n

@@ -1,0 +1,4 @@
+pub mod Spot
+pub mod RootsEcho
+pub mod LabelEcho
+pub mod RegionsEcho
