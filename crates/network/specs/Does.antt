@@ -5,7 +5,7 @@ use mathlib.Core.List.{List}
 use mathlib.Core.Option.{Option, none, some}
 use Prim.Native.Nat.{ℕ, _+_, _≤_, _<_, _^_}
 use lib.ListN.{getD}
-use Rattle.network.specs.Tree.{Tree}
+use Rattle.memory.specs.Tree.{Tree}
 use Rattle.network.specs.Mem.{Mem, view}
 use Rattle.network.specs.Steps.{mate}
 use lib.Ieee.{Float}

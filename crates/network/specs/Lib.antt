@@ -5,12 +5,9 @@ pub mod Sizes
 pub mod Sees
 pub mod GatePairs
 pub mod Order
-pub mod Sort
-pub mod TwoKeys
 pub mod Sorts
 pub mod Gather
 pub mod Whole
-pub mod Tree
 pub mod Mem
 pub mod Steps
 pub mod Does

@@ -6,7 +6,7 @@ use lib.Dec.{T}
 use lib.Ieee.{binary32, fits, nan, Float}
 use lib.ListN.{length, getD, set}
 use Rattle.arithmetic.specs.Seg.{seg}
-use Rattle.network.specs.Tree.{Tree}
+use Rattle.memory.specs.Tree.{Tree}
 
 pub record Mem : Type 0 where
   pub weight : List ℕ

@@ -5,7 +5,7 @@ use mathlib.Core.List.{List, map}
 use lib.ListN.{length, getD}
 use Rattle.arithmetic.specs.Seq.{upto}
 use Rattle.arithmetic.specs.Seg.{seg, put}
-use Rattle.network.specs.Sort.{sorted}
+use Rattle.memory.specs.Sort.{sorted}
 
 -- the labels of the m gates from src on
 unfoldable pub labelsOf : List ℕ → ℕ → ℕ → List ℕ

@@ -7,7 +7,7 @@ use Prim.Native.Nat.{ℕ, _≤_, _<_}
 use lib.Ieee.{nan, Float}
 use lib.ListN.{getD}
 use Rattle.network.specs.Network.{Edge, State, Event, event, step, choose, quot, inRange}
-use Rattle.network.specs.Tree.{Tree}
+use Rattle.memory.specs.Tree.{Tree}
 use Rattle.network.specs.declared.network.Turned.{Turned}
 use Rattle.network.specs.declared.network.Turned.the-variants.{Merged, Ended, Refused}
 use Rattle.network.specs.declared.network.Ran.{Ran}

@@ -224,7 +224,7 @@ pub fn sort_pairs(w: &mut [u32], n: usize, m: usize, k: usize)
     number(w, base, m);
     labels_of(w, n, n, m, base + m + m);
     labels_of(w, n, 5 * n, m, base + m + m + m);
-    crate::sort::sort2(w, base, m, m, k);
+    memory::sort::sort2(w, base, m, m, k);
 }
 
 // Two labels and the velocities at either end.

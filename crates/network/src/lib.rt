@@ -1,6 +1,5 @@
 // The network of regions: edges between regions that see each other, and the merges that join them.
 pub mod edges;
+pub mod merge;
 pub mod network;
 pub mod sizes;
-pub mod sort;
-pub mod tree;

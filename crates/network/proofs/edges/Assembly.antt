@@ -13,7 +13,7 @@ use Rattle.arithmetic.specs.Seg.{seg, put}
 use Rattle.arithmetic.proofs.SegLaws.{length-seg, getD-seg, length-put, seg-put-below, seg-put-same}
 use Rattle.arithmetic.specs.Seq.{upto, each, All}
 use Rattle.arithmetic.proofs.SeqLaws.{upto-length}
-use Rattle.network.specs.Sort.{pick, bucket, sorted}
+use Rattle.memory.specs.Sort.{pick, bucket, sorted}
 use Rattle.network.specs.Edges.{Shape, Direction, left, right, top, bottom, sees, Pair, pairs, used}
 use Rattle.network.specs.declared.edges.Frame.{Frame}
 use Rattle.network.specs.Sees.{shape}

@@ -8,8 +8,8 @@ use Rattle.arithmetic.specs.Seq.{upto}
 use Rattle.arithmetic.proofs.SeqLaws.{upto-length}
 use Rattle.arithmetic.specs.Seg.{seg, put}
 use Rattle.arithmetic.proofs.SegLaws.{length-put, length-seg, getD-seg, getD-put-below, getD-put-in, seg-put-below, seg-put-same}
-use Rattle.network.specs.Sort.{sorted}
-use Rattle.network.specs.TwoKeys.{Lay, both}
+use Rattle.memory.specs.Sort.{sorted}
+use Rattle.memory.specs.TwoKeys.{Lay, both}
 use Rattle.network.specs.Sorts.{labelsOf, Reads, Sorts, Sorted}
 use Rattle.network.proofs.edges.Fills.{length-labels}
 

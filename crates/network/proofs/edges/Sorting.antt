@@ -11,7 +11,7 @@ use lib.ListN.{length, getD}
 use borrow.Author.Tests.{ltb-true}
 use Rattle.arithmetic.specs.Seq.{upto, keep, each, All}
 use Rattle.arithmetic.proofs.SeqLaws.{keep-each, each-same, keep-swap, map-append}
-use Rattle.network.specs.Sort.{pick, bucket, sorted}
+use Rattle.memory.specs.Sort.{pick, bucket, sorted}
 use Rattle.network.specs.Edges.{Shape, Direction, left, right, top, bottom, sees, skip, Pair, firstIs, secondIs, pairs, records, used}
 use Rattle.network.specs.GatePairs.{GatePair, both, gatePairTo, gatePairsAt, gatePairs, pairOf, greater}
 use Rattle.network.specs.Order.{ordered, runs}

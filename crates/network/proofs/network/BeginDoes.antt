@@ -8,8 +8,8 @@ use native.Mathlib.Omega.{arith}
 use lib.ListN.{length, getD, set, length-set}
 use lib.Seq.{getD-set-same, getD-set-other}
 use Rattle.arithmetic.proofs.SegLaws.{length-seg}
-use Rattle.network.specs.Tree.{Tree, Weighed}
-use Rattle.network.proofs.tree.TreeLaws.{tree-set}
+use Rattle.memory.specs.Tree.{Tree, Weighed}
+use Rattle.memory.proofs.tree.TreeLaws.{tree-set}
 use Rattle.network.specs.Mem.{Mem, view, Room, enext-set, rnext-set, elen-set, rlen-set, count-set}
 use Rattle.network.specs.Does.{Does}
 use Rattle.network.specs.Begin.{slotsFrom, regionsFrom, linkAt, linkEdge, linkFrom, begun, Space, Linkable}

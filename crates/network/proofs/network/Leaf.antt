@@ -11,8 +11,8 @@ use lib.Seq.{getD-set-same, getD-set-other}
 use lib.Dec.{ltb, eqb}
 use borrow.Author.Tests.{lt-ltb, le-ltb, eq-eqb, ne-eqb}
 use lib.Ieee.{nan, Float, neg, binary32, add}
-use Rattle.network.specs.Tree.{Tree, Weighed}
-use Rattle.network.proofs.tree.TreeLaws.{tree-set}
+use Rattle.memory.specs.Tree.{Tree, Weighed}
+use Rattle.memory.proofs.tree.TreeLaws.{tree-set}
 use Rattle.network.specs.Mem.{Mem, view, Room, Sound, total, weight-set, first-set, second-set, enext-set, rnext-set, mark-set, size-set, elen-set, rlen-set, count-set, diff-set}
 use Rattle.network.specs.Steps.{turnAt, baseEdge, mate, absorbAt, attachAt, splice, grow}
 use Rattle.network.specs.Does.{Does, Apart}

@@ -8,7 +8,7 @@ use native.Mathlib.Omega.{arith}
 use lib.Dec.{eqb}
 use lib.ListN.{length, getD, set, length-set}
 use borrow.Author.Tests.{eq-eqb, ne-eqb}
-use Rattle.network.specs.Tree.{Tree, Weighed}
+use Rattle.memory.specs.Tree.{Tree, Weighed}
 use Rattle.network.specs.Mem.{Mem, view, Room, Sound, weight-set, enext-set, rnext-set, count-set}
 use Rattle.network.specs.Steps.{accepts, walkBase, walkMoved, walkRaise, splice, grow, readied, handed, then, merged}
 use Rattle.network.specs.Does.{Does, Raised, Gains, Fit}

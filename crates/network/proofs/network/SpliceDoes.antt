@@ -4,8 +4,8 @@ use mathlib.Core.List.{List, [], _∷_}
 use Prim.Native.Nat.{ℕ, zero, suc, _+_, _*_, _-_, _≤_, _<_, _^_}
 use native.Mathlib.Omega.{arith}
 use lib.ListN.{length, getD, set, length-set}
-use Rattle.network.specs.Tree.{Tree}
-use Rattle.network.proofs.tree.TreeLaws.{tree-set}
+use Rattle.memory.specs.Tree.{Tree}
+use Rattle.memory.proofs.tree.TreeLaws.{tree-set}
 use Rattle.network.specs.Mem.{Mem, view, Room, enext-set, rnext-set, size-set, elen-set, rlen-set}
 use Rattle.network.specs.Steps.{splice, grow}
 use Rattle.network.specs.Does.{Does}

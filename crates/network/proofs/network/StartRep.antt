@@ -13,7 +13,7 @@ use lib.Seq.{getD-set-same, getD-set-other}
 use borrow.Author.Tests.{lt-ltb, le-ltb}
 use Rattle.arithmetic.proofs.SegLaws.{length-seg}
 use Rattle.network.specs.Network.{Edge, Region, State, sizeOf}
-use Rattle.network.specs.Tree.{Tree, Weighed}
+use Rattle.memory.specs.Tree.{Tree, Weighed}
 use Rattle.network.specs.Mem.{Mem, view, Room, Sound, total, enext-set, rnext-set, elen-set, rlen-set, count-set}
 use Rattle.network.specs.Steps.{unbias}
 use Rattle.network.specs.Does.{Does}

@@ -13,7 +13,7 @@ use lib.ListN.{length, getD}
 use borrow.Author.Tests.{lt-ltb, le-ltb}
 use Rattle.network.specs.Network.{Edge, Region, State, Plan, Event, sizeOf, at, plan, planFor, eventOf, event, step, raised, better, choose, quot, bounded, inRange}
 use Rattle.network.proofs.Choice.{Best as Heaviest, best-chosen}
-use Rattle.network.specs.Tree.{Tree, Best, Beats}
+use Rattle.memory.specs.Tree.{Tree, Best, Beats}
 use Rattle.network.specs.Mem.{Mem, view, Room, Sound}
 use Rattle.network.specs.Steps.{unbias, merged, numberOf}
 use Rattle.network.specs.Does.{Does, Raised, Gains, Fit}

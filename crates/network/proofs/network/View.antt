@@ -7,7 +7,7 @@ use lib.ListN.{length, getD, set, take, drop, length-set}
 use lib.Seq.{drop-drop}
 use Rattle.arithmetic.specs.Seg.{seg}
 use Rattle.arithmetic.proofs.SegLaws.{getD-seg, seg-set-in, seg-set-out, length-seg}
-use Rattle.network.specs.Tree.{Weighed}
+use Rattle.memory.specs.Tree.{Weighed}
 use Rattle.network.specs.Mem.{Mem, view, Room, weight-set, first-set, second-set, enext-set, rnext-set, mark-set, size-set, elen-set, rlen-set, count-set, diff-set}
 use lib.Ieee.{Float}
 

@@ -8,7 +8,7 @@ use native.Mathlib.Omega.{arith}
 use lib.Dec.{leb}
 use lib.ListN.{length, getD, set, length-set}
 use borrow.Author.Tests.{le-leb, lt-leb}
-use Rattle.network.proofs.tree.TreeLaws.{tree-set}
+use Rattle.memory.proofs.tree.TreeLaws.{tree-set}
 use Rattle.network.specs.Mem.{Mem, view, Room, Sound, count-set}
 use Rattle.network.specs.Steps.{baseEdge, walkBase, movedEdge, walkMoved, accepts, walkRaise}
 use Rattle.network.specs.Does.{Does, Raised, Gains}

@@ -11,7 +11,7 @@ use Rattle.network.proofs.edges.sort_pairs.Reads as reads
 use Rattle.network.proofs.edges.sort_pairs.Lts as lts
 use Rattle.network.proofs.edges.labels_of.Reads as labels-of-reads
 use Rattle.network.proofs.edges.number.Reads as number-reads
-use Rattle.network.proofs.sort.sort2.Reads as sort2-reads
+use Rattle.memory.proofs.sort.sort2.Reads as sort2-reads
 
 -- src/lib.rt:210:16
 mul-base : tie.Need-mul-base

@@ -13,7 +13,7 @@ use Rattle.network.proofs.network.begin.Lts as lts
 use Rattle.network.proofs.network.fill_regions.Reads as fill-regions-reads
 use Rattle.network.proofs.network.fill_slots.Reads as fill-slots-reads
 use Rattle.network.proofs.network.link_all.Reads as link-all-reads
-use Rattle.network.proofs.tree.build.Reads as build-reads
+use Rattle.memory.proofs.tree.build.Reads as build-reads
 
 -- src/lib.rt:499:5
 build-requires : tie.Need-build-requires

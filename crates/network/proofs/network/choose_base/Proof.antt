@@ -10,7 +10,7 @@ use Rattle.network.proofs.network.choose_base.Statement.{statement}
 use Rattle.network.proofs.network.choose_base.Tie as tie
 use Rattle.network.proofs.network.choose_base.Reads as reads
 use Rattle.network.proofs.network.choose_base.Lts as lts
-use Rattle.network.proofs.network.merge.Reads as merge-reads
+use Rattle.network.proofs.merge.merge.Reads as merge-reads
 
 ends : (c : tie.Start) → (getD (c .args .w .now) (3 * c .args .m + c .args .e) 0 < c .args .n) × (getD (c .args .w .now) (4 * c .args .m + c .args .e) 0 < c .args .n)
 ends c =

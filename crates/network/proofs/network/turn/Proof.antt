@@ -11,7 +11,7 @@ use Rattle.network.proofs.network.turn.Reads as reads
 use Rattle.network.proofs.network.turn.Lts as lts
 use Rattle.network.proofs.network.choose_base.Reads as choose-base-reads
 use Rattle.network.proofs.network.number.Reads as number-reads
-use Rattle.network.proofs.tree.best.Reads as best-reads
+use Rattle.memory.proofs.tree.best.Reads as best-reads
 
 -- src/lib.rt:390:13
 best-requires : tie.Need-best-requires

@@ -13,7 +13,7 @@ use Rattle.network.proofs.sizes.count_sizes.Statement.{statement}
 use Rattle.network.proofs.sizes.count_sizes.Tie as tie
 use Rattle.network.proofs.sizes.count_sizes.Reads as reads
 use Rattle.network.proofs.sizes.count_sizes.Lts as lts
-use Rattle.network.proofs.sort.fill.Reads as fill-reads
+use Rattle.memory.proofs.sort.fill.Reads as fill-reads
 
 abbrev Inv-loop : tie.InvT-loop
 Inv-loop w₀ n at k g₀ w g = (g ≤ n) × (Sizes w₀ n at k × ((w ≡ put w₀ at (tabulate k (sizeIn (take g (seg w₀ 0 n))))) × (length w ≡ length w₀)))
@@ -23,7 +23,6 @@ abbrev μ-loop : tie.MeasureT-loop
 
 at : (c : tie.In-loop Inv-loop μ-loop) → Sized (c .before .before .before .before .fill .last .0) (c .before .loop .w) (c .before .before .before .before .before .before .before .args .n) (c .before .before .before .before .before .before .before .args .at) (c .before .before .before .before .before .before .before .args .k) (c .before .loop .g)
 at c = let a = c .before .before .before .before .before .before .before .args in let l = c .before .loop in sized (c .before .before .before .before .fill .last .0) (l .w) (a .n) (a .at) (a .k) (l .g) (l .inv .1 .0) (l .inv .1 .1 .0) (c .loop-test .taken)
-
 
 -- src/sizes.rt:15:5
 fill-requires : tie.Need-fill-requires Inv-loop μ-loop

@@ -1,0 +1,3 @@
+// Tools over one lent slice: fill, copy, a stable counting sort, and a winner tree.
+pub mod sort;
+pub mod tree;
