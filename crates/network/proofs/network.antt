@@ -26,5 +26,6 @@ pub mod NumberIs
 pub mod Turns
 pub mod Settles
 pub mod Joint
+pub mod Started
 pub mod BeginDoes
 pub mod StartRep

@@ -115,7 +115,7 @@ module _ (wide : Float) (k m : ℕ) (L : List ℕ) (ps : List Pair) (s : Mem) (F
   in-rs : (j : ℕ) → j < m → j < length (used k ps)
   in-rs j h = omega (arith, F .count)
 
-  good : (j : ℕ) → j < m → Good k ps (getD (used k ps) j blank)
+  pub good : (j : ℕ) → j < m → Good k ps (getD (used k ps) j blank)
   good j h = all-place (Good k ps) (used k ps) blank (used-good k ps) j (in-rs j h)
 
   pub weight-of : (j : ℕ) → j < m → getD (s .weight) j 0 ≡ getD (used k ps) j blank .count
@@ -192,7 +192,7 @@ module _ (wide : Float) (k m : ℕ) (L : List ℕ) (ps : List Pair) (s : Mem) (F
   size-of l h = ap (λ (x : List ℕ). getD x l 0) (F .size) ∙ tab-at (sizeIn L) (k + 1) l 0 h
 
   -- the regions 0 to k of the tables
-  pub region : ℕ → Region
+  unfoldable pub region : ℕ → Region
   region l = record { label = l; size = sizeIn L l; node = l; count = pos 0 }
 
   pub regions-are : rows (rawRegion s) 0 (k + 1) ≡ rows region 0 (k + 1)

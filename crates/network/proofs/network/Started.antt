@@ -1,0 +1,196 @@
+-- The tables hold a region 0 that no edge meets, for the gates without a region: without it the run of the tables is that of the
+-- definition's network. Assumes nothing.
+use Prim.Native.Nat.{ℕ, zero, suc, _+_, _*_, _≤_, _<_, _^_}
+use native.Mathlib.Omega.{arith}
+use native.Mathlib.Numerals.{add-one}
+use mathlib.Core.Path.{_≡_, refl, sym, ap, _∙_, subst}
+use mathlib.Core.Bool.{Bool, true, false, not, cond}
+use mathlib.Core.List.{List, [], _∷_, map}
+use mathlib.Core.Option.{Option, none, some}
+use lib.Dec.{eqb}
+use lib.IntN.{ℤ, pos}
+use lib.ListN.{length, getD}
+use lib.Ieee.{Float}
+use borrow.Author.Tests.{ne-eqb, eq-eqb, eqb-true}
+use Rattle.arithmetic.specs.Seq.{All, upto, keep, all}
+use Rattle.arithmetic.proofs.SeqLaws.{eqb-refl}
+use Rattle.network.specs.Edges.{Pair, used}
+use Rattle.network.specs.Network.{Edge, Region, State, Event, alone, start, sizeIn, merges, run, trace, replay, inRange, countOf}
+use Rattle.network.specs.Mem.{Mem, view}
+use Rattle.network.specs.Steps.{unbias}
+use Rattle.network.specs.Net.{rows, edgeOf, regionOf}
+use Rattle.network.specs.Settle.{Done, settle}
+use Rattle.network.specs.TurnIs.{gatesIn, RanIs}
+use Rattle.network.specs.Begin.{rawRegion, rawNet, AllIs}
+use Rattle.network.specs.declared.network.Ran.{Ran}
+use Rattle.network.specs.declared.network.Ran.the-variants.{Settled, Denied}
+use Rattle.network.proofs.Restrict.{edgeIn, regionIn, restrict, OkE, OkR, Closed, eventIn, trace-in}
+use Rattle.network.proofs.Own.{merges-in, final-in}
+use Rattle.network.proofs.network.Rows.{length-rows}
+use Rattle.network.proofs.network.Settles.{outcome, settle-run}
+use Rattle.network.proofs.network.Joint.{Filled, good, first-of, second-of, edges-are, region, regions-are}
+
+-- ---- lists given row by row
+
+all-rows : {A : Type 0} (P : A → Type 0) (f : ℕ → A) (k n : ℕ) → ((i : ℕ) → k ≤ i → i < k + n → P (f i)) → All P (rows f k n)
+unfolding rows
+all-rows P f k zero h = tt
+all-rows P f k (suc n) h = (h k (omega arith) (omega arith), all-rows P f (suc k) n (λ i a b. h i (omega arith) (omega arith)))
+
+keep-rows : {A : Type 0} (t : A → Bool) (f : ℕ → A) (k n : ℕ) → ((i : ℕ) → k ≤ i → t (f i) ≡ true) → keep t (rows f k n) ≡ rows f k n
+unfolding rows keep
+keep-rows t f k zero h = refl
+keep-rows t f k (suc n) h = rw (h k (omega arith), keep-rows t f (suc k) n (λ i a. h i (omega arith))) refl
+
+keep-every : {A : Type 0} (t : A → Bool) (l : List A) → ((x : A) → t x ≡ true) → keep t l ≡ l
+unfolding keep
+keep-every t [] h = refl
+keep-every t (x ∷ l) h = rw (h x, keep-every t l h) refl
+
+-- the count of a region by its row
+count-row : (f : ℕ → Region) (k n l : ℕ) → ((i : ℕ) → f i .label ≡ i) → k ≤ l → l < k + n → countOf (rows f k n) l ≡ f l .count
+unfolding countOf rows
+count-row f k zero l h a b = absurd (omega arith)
+count-row f k (suc n) l h a b = go (eqb l (f k .label)) refl (λ c. count-row f (suc k) n l h c (omega arith))
+  where
+    go : (t : Bool) → eqb l (f k .label) ≡ t → (suc k ≤ l → countOf (rows f (suc k) n) l ≡ f l .count) → cond t (f k .count) (countOf (rows f (suc k) n) l) ≡ f l .count
+    go true e ih = ap (λ (i : ℕ). f i .count) (sym (eqb-true l (f k .label) e ∙ h k))
+    go false e ih = ih (omega (arith, borrow.Author.Tests.eqb-false l (f k .label) e, h k))
+
+-- ---- on the side of region 0 lies nothing else
+
+abbrev some-label : ℕ → Bool
+some-label l = not (eqb l 0)
+
+abbrev any-edge : ℕ → Bool
+any-edge i = true
+
+label-ok : (l : ℕ) → 0 < l → not (eqb l 0) ≡ true
+label-ok l h = ap (λ (b : Bool). not b) (ne-eqb l 0 (λ e. omega arith))
+
+module _ (wide : Float) (k m : ℕ) (L : List ℕ) (ps : List Pair) (s : Mem) (F : Filled wide k m L (used k ps) s) where
+  pub tables : State
+  tables = rawNet m (k + 1) s
+
+  pub network : State
+  network = start wide (used k ps) (map (sizeIn L) (upto k 1))
+
+  edges-ok : All (OkE some-label any-edge) (rows (edgeOf s) 0 m)
+  edges-ok = all-rows (OkE some-label any-edge) (edgeOf s) 0 m (λ j a b.
+      let h : j < m = omega arith in
+      let g = good wide k m L ps s F j h in
+      unfold edgeOf in (label-ok (getD (s .first) j 0) (omega (arith, first-of wide k m L ps s F j h, g .low, g .less)), label-ok (getD (s .second) j 0) (omega (arith, second-of wide k m L ps s F j h, g .low))))
+
+  closed : Closed some-label any-edge tables
+  unfolding tables rawNet
+  closed = record {
+    edges-ok = edges-ok;
+    regions-ok = all-rows (OkR some-label any-edge) (rawRegion s) 0 (k + 1) (λ i a b. unfold rawRegion in refl);
+  }
+
+  regions-from : (i n : ℕ) → rows (region wide k m L ps s F) i n ≡ alone i (map (sizeIn L) (upto n i))
+  unfolding rows alone upto region
+  regions-from i zero = refl
+  regions-from i (suc n) = ap (λ (l : List Region). record { label = i; size = sizeIn L i; node = i; count = pos 0 } ∷ l) (regions-from (suc i) n)
+
+  restricted : restrict some-label any-edge tables ≡ network
+  unfolding restrict tables rawNet network start
+  restricted = λ i. record { edges = es i; regions = rs i }
+    where
+      es : keep (edgeIn some-label any-edge) (rows (edgeOf s) 0 m) ≡ Rattle.network.specs.Network.numbered wide 0 (used k ps)
+      es = keep-every (edgeIn some-label any-edge) (rows (edgeOf s) 0 m) (λ e. unfold edgeIn in refl) ∙ edges-are wide k m L ps s F
+
+      named : (i : ℕ) → 1 ≤ i → regionIn some-label any-edge (region wide k m L ps s F i) ≡ true
+      named i h = unfold regionIn region in label-ok i h
+
+      without-0 : keep (regionIn some-label any-edge) (rows (region wide k m L ps s F) 0 (suc k)) ≡ keep (regionIn some-label any-edge) (rows (region wide k m L ps s F) 1 k)
+      without-0 = unfold rows keep regionIn region in refl
+
+      rs : keep (regionIn some-label any-edge) (rows (rawRegion s) 0 (k + 1)) ≡ alone 1 (map (sizeIn L) (upto k 1))
+      rs =
+          ap (keep (regionIn some-label any-edge)) (regions-are wide k m L ps s F ∙ ap (rows (region wide k m L ps s F) 0) (add-one k))
+          ∙ without-0
+          ∙ keep-rows (regionIn some-label any-edge) (region wide k m L ps s F) 1 k named
+          ∙ regions-from 1 k
+
+  -- ---- so the two runs are one
+
+  pub merges-are : merges tables ≡ merges network
+  merges-are = sym (keep-every any-edge (merges tables) (λ i. refl)) ∙ merges-in some-label any-edge tables closed ∙ ap merges restricted
+
+  pub trace-is : trace tables (merges tables) ≡ trace network (merges network)
+  trace-is =
+      sym (keep-every (eventIn some-label any-edge) (trace tables (merges tables)) (λ v. unfold eventIn in refl))
+      ∙ trace-in some-label any-edge (merges tables) tables closed
+      ∙ ap (trace (restrict some-label any-edge tables)) (keep-every any-edge (merges tables) (λ i. refl) ∙ merges-are)
+      ∙ ap (λ (t : State). trace t (merges network)) restricted
+
+  pub final-is : restrict some-label any-edge (replay tables (merges tables)) ≡ replay network (merges network)
+  final-is = final-in some-label any-edge tables closed ∙ ap (λ (t : State). replay t (merges t)) restricted
+
+  -- the tables' run, said of the definition's network
+  unfoldable pub ending : Bool → Option Done
+  ending b = cond b (some (record { last = replay tables (merges tables); merges = length (merges network) })) none
+
+  pub settle-is : settle m tables 0 ≡ ending (all inRange (trace network (merges network)))
+  unfolding outcome ending merges
+  settle-is =
+      settle-run m tables 0
+      ∙ ap (λ (x : ℕ). outcome tables (run x tables) 0) (sym edge-number)
+      ∙ ap (λ (t : List Event). cond (all inRange t) (some (record { last = replay tables (merges tables); merges = 0 + length (merges tables) })) none) trace-is
+      ∙ ap (λ (x : ℕ). cond (all inRange (trace network (merges network))) (some (record { last = replay tables (merges tables); merges = x })) none) (omega (arith, ap length merges-are))
+    where
+      edge-number : length (tables .edges) ≡ m
+      edge-number = unfold tables rawNet in length-rows (edgeOf s) 0 m
+
+  -- ---- what the run of the tables leaves
+
+  pub record Left (w : List ℕ) (d : List Float) (r : Ran) : Type 0 where
+    pub settled : r ≡ Settled (length (merges network))
+    pub counts : (l : ℕ) → 1 ≤ l → l ≤ k → unbias (getD (view m (k + 1) w d .count) l 0) ≡ countOf (replay network (merges network) .regions) l
+    pub most : (l : ℕ) → l ≤ k → getD (view m (k + 1) w d .count) l 0 ≤ 2000
+
+  module _ (w : List ℕ) (d : List Float) (r : Ran) (h : AllIs m (k + 1) s w d r) where
+    ran : (b : Bool) → all inRange (trace network (merges network)) ≡ b → RanIs m (k + 1) (gatesIn s) (ending b) w d r
+    unfolding AllIs tables
+    ran b e = subst (λ (o : Option Done). RanIs m (k + 1) (gatesIn s) o w d r) (settle-is ∙ ap ending e) h
+
+    pub refused : all inRange (trace network (merges network)) ≡ false → r ≡ Denied
+    unfolding RanIs ending
+    refused e = ran false e
+
+    named : (node : ℕ → ℕ) (i : ℕ) → 1 ≤ i → regionIn some-label any-edge (regionOf (gatesIn s) node (view m (k + 1) w d) i) ≡ true
+    unfolding regionIn regionOf
+    named node i a = label-ok i a
+
+    without : (node : ℕ → ℕ) → keep (regionIn some-label any-edge) (rows (regionOf (gatesIn s) node (view m (k + 1) w d)) 0 (suc k)) ≡ keep (regionIn some-label any-edge) (rows (regionOf (gatesIn s) node (view m (k + 1) w d)) 1 k)
+    unfolding rows keep regionIn regionOf
+    without node = refl
+
+    last-regions : (node : ℕ → ℕ) → replay tables (merges tables) .regions ≡ rows (regionOf (gatesIn s) node (view m (k + 1) w d)) 0 (k + 1)
+        → replay network (merges network) .regions ≡ rows (regionOf (gatesIn s) node (view m (k + 1) w d)) 1 k
+    last-regions node e =
+        sym (ap (λ (t : State). t .regions) final-is)
+        ∙ side
+        ∙ without node
+        ∙ keep-rows (regionIn some-label any-edge) (regionOf (gatesIn s) node (view m (k + 1) w d)) 1 k (named node)
+      where
+        side : restrict some-label any-edge (replay tables (merges tables)) .regions ≡ keep (regionIn some-label any-edge) (rows (regionOf (gatesIn s) node (view m (k + 1) w d)) 0 (suc k))
+        side = unfold restrict in ap (keep (regionIn some-label any-edge)) (e ∙ ap (rows (regionOf (gatesIn s) node (view m (k + 1) w d)) 0) (add-one k))
+
+    count-of : (node : ℕ → ℕ) (l : ℕ) → regionOf (gatesIn s) node (view m (k + 1) w d) l .count ≡ unbias (getD (view m (k + 1) w d .count) l 0)
+    unfolding regionOf
+    count-of node l = refl
+
+    pub left : all inRange (trace network (merges network)) ≡ true → Left w d r
+    unfolding RanIs ending
+    left e =
+        let R = ran true e in
+        record {
+          settled = R .0;
+          counts = λ l a b.
+              sym (ap (λ (x : List Region). countOf x l) (last-regions (R .1) (R .2))
+              ∙ count-row (regionOf (gatesIn s) (R .1) (view m (k + 1) w d)) 1 k l (λ i. unfold regionOf in refl) a (omega arith)
+              ∙ count-of (R .1) l);
+          most = λ l b. R .3 l (omega arith);
+        }
