@@ -249,6 +249,15 @@ seg-set-in {A} w b n i x h k =
     (λ e. getD-set-other w (b + i) (b + j) x d (λ q. e (omega arith)) ∙ sym (getD-seg w b n j d (omega arith)) ∙ sym (getD-set-other (seg w b n) i j x d e))
     (eq-or-ne j i))
 
+-- a part of a part
+pub seg-part : {A : Type 0} (w : List A) (a k b n : ℕ) → b + n ≤ k → a + k ≤ length w → seg (seg w a k) b n ≡ seg w (a + b) n
+seg-part w a k b n h l =
+    let lk : length (seg w a k) ≡ k = length-seg w a k l in
+    ext-any (seg (seg w a k) b n) (seg w (a + b) n) (length-seg (seg w a k) b n (omega arith) ∙ sym (length-seg w (a + b) n (omega arith)))
+    (λ j d p.
+    let q : j < n = omega (arith, length-seg (seg w a k) b n (omega arith)) in
+    getD-seg (seg w a k) b n j d q ∙ getD-seg w a k (b + j) d (omega arith) ∙ ap (λ (i : ℕ). getD w i d) (omega arith) ∙ sym (getD-seg w (a + b) n j d q))
+
 -- ---- a part that was lent and has come back: the part is what the callee left, and all else is as it was
 module _ {A : Type 0} (w : List A) (a k : ℕ) (ys : List A) (e : length ys ≡ k) (h : a + k ≤ length w) where
   pub lent-seg : seg (putMid a k w ys) a k ≡ ys

@@ -27,5 +27,6 @@ pub mod Turns
 pub mod Settles
 pub mod Joint
 pub mod Started
+pub mod Reduction
 pub mod BeginDoes
 pub mod StartRep

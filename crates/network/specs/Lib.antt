@@ -17,4 +17,5 @@ pub mod Settle
 pub mod Rep
 pub mod TurnIs
 pub mod Begin
+pub mod Reduce
 pub mod Evaluating

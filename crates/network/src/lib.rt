@@ -2,4 +2,5 @@
 pub mod edges;
 pub mod merge;
 pub mod network;
+pub mod reduce;
 pub mod sizes;

@@ -72,7 +72,7 @@ module _ (wide : Float) (k m : ℕ) (L : List ℕ) (ps : List Pair) (s : Mem) (F
   pub tables : State
   tables = rawNet m (k + 1) s
 
-  pub network : State
+  unfoldable pub network : State
   network = start wide (used k ps) (map (sizeIn L) (upto k 1))
 
   edges-ok : All (OkE some-label any-edge) (rows (edgeOf s) 0 m)
@@ -127,6 +127,22 @@ module _ (wide : Float) (k m : ℕ) (L : List ℕ) (ps : List Pair) (s : Mem) (F
 
   pub final-is : restrict some-label any-edge (replay tables (merges tables)) ≡ replay network (merges network)
   final-is = final-in some-label any-edge tables closed ∙ ap (λ (t : State). replay t (merges t)) restricted
+
+  none-0 : (rs : List Region) → countOf (keep (regionIn some-label any-edge) rs) 0 ≡ pos 0
+  unfolding countOf keep regionIn
+  none-0 [] = refl
+  none-0 (r ∷ rs) = go (eqb (r .label) 0) refl (none-0 rs)
+    where
+      go : (b : Bool) → eqb (r .label) 0 ≡ b → countOf (keep (λ r. not (eqb (r .label) 0)) rs) 0 ≡ pos 0 → countOf (cond (not b) (r ∷ keep (λ r. not (eqb (r .label) 0)) rs) (keep (λ r. not (eqb (r .label) 0)) rs)) 0 ≡ pos 0
+      go true e ih = ih
+      go false e ih = rw (ne-eqb 0 (r .label) (λ z. borrow.Author.Tests.eqb-false (r .label) 0 e (sym z))) ih
+
+  -- no region has label 0
+  pub no-region-0 : countOf (replay network (merges network) .regions) 0 ≡ pos 0
+  no-region-0 = ap (λ (t : State). countOf (t .regions) 0) (sym final-is) ∙ side
+    where
+      side : countOf (restrict some-label any-edge (replay tables (merges tables)) .regions) 0 ≡ pos 0
+      side = unfold restrict in none-0 (replay tables (merges tables) .regions)
 
   -- the tables' run, said of the definition's network
   unfoldable pub ending : Bool → Option Done

@@ -1,0 +1,58 @@
+-- From labels to the counts of all regions: the layout of the work memory, what it asks, and what it leaves. Definitions only.
+use Prim.Native.Nat.{ℕ, _+_, _*_, _≤_, _<_}
+use mathlib.Core.Path.{_≡_}
+use mathlib.Core.Bool.{Bool, true, false}
+use mathlib.Core.List.{List, map}
+use lib.ListN.{length, getD}
+use lib.Ieee.{Float}
+use Rattle.arithmetic.specs.Seq.{upto, all, tabulate}
+use Rattle.arithmetic.specs.Seg.{seg}
+use Rattle.network.specs.Edges.{Shape, pairs, used}
+use Rattle.network.specs.Network.{State, start, sizeIn, merges, trace, replay, inRange, countOf}
+use Rattle.network.specs.Steps.{unbias}
+use Rattle.network.specs.declared.edges.Frame.{Frame}
+use Rattle.network.specs.declared.network.Ran.{Ran}
+use Rattle.network.specs.declared.network.Ran.the-variants.{Settled, Denied}
+
+-- ---- the layout, for n gates and k regions: labels from 0, sizes of labels 0 to k, their counts (with 1,000 added), and the tables of
+-- edges and nodes. Before the tables are filled, the pairs and their sort lie from n on.
+
+-- where the sizes begin
+unfoldable pub sizesAt : ℕ → ℕ
+sizesAt n = n
+
+-- where the counts begin
+unfoldable pub countsAt : ℕ → ℕ → ℕ
+countsAt n k = n + (k + 1)
+
+-- where the tables of edges and nodes begin
+unfoldable pub tablesAt : ℕ → ℕ
+tablesAt n = 13 * n
+
+-- the network of labelled gates, k being the number of regions and wide 2 × Nyquist
+unfoldable pub networkBy : Float → Shape → ℕ → List ℕ → List Float → State
+networkBy wide shape k labels vel = start wide (used k (pairs shape labels vel)) (map (sizeIn labels) (upto k 1))
+
+-- question 9 of every merge
+unfoldable pub goodBy : State → Bool
+goodBy t = all inRange (trace t (merges t))
+
+-- what is asked of the sweep and of the memory
+pub record Reduces (f : Frame) (w : List ℕ) (d vel : List Float) (n k : ℕ) : Type 0 where
+  pub whole : n ≡ f .rays * f .gates
+  pub some : 1 ≤ n
+  pub few : k ≤ n
+  pub small : n ≤ 1440000
+  pub vels : length vel ≡ n
+  pub label : (j : ℕ) → j < n → getD w j 0 ≤ k
+  pub words : 96 * n + 64 ≤ length w
+  pub floats : 16 * n + 16 ≤ length d
+
+-- what is left, t being the network: a refusal by question 9, or the number of merges, with sizes and counts in their places
+pub record Reduced (t : State) (n k : ℕ) (w v : List ℕ) (r : Ran) : Type 0 where
+  pub refused : goodBy t ≡ false → r ≡ Denied
+  pub settled : goodBy t ≡ true → r ≡ Settled (length (merges t))
+  pub counts : goodBy t ≡ true → (l : ℕ) → l ≤ k → unbias (getD v (countsAt n k + l) 0) ≡ countOf (replay t (merges t) .regions) l
+  pub most : goodBy t ≡ true → (l : ℕ) → l ≤ k → getD v (countsAt n k + l) 0 ≤ 2000
+  pub sizes : seg v (sizesAt n) (k + 1) ≡ tabulate (k + 1) (sizeIn (seg w 0 n))
+  pub labels : seg v 0 n ≡ seg w 0 n

@@ -1,0 +1,29 @@
+// From labels to the counts of all regions: edges, sizes and all merges, over one layout of the work memory (specs/Reduce.antt).
+ghost use Rattle.arithmetic.specs.Seg.{seg};
+ghost use Rattle.network.specs.Sees.{shape};
+ghost use Rattle.network.specs.Reduce.{networkBy, Reduces, Reduced};
+
+// The labels of n gates are the first n words, k the number of regions, wide 2 × Nyquist.
+pub fn reduce(
+    w: &mut [u32],
+    d: &mut [f64],
+    vel: &[f32],
+    f: crate::edges::Frame,
+    n: usize,
+    k: usize,
+    wide: f64,
+) -> crate::network::Ran
+    requires { ⌜ Reduces f (now w) (now d) (now vel) n k ⌝ }
+    ensures { λ r. ⌜ Reduced (networkBy wide (shape f) k (seg (now (w .entry)) 0 n) (now (vel .entry))) n k (now (w .entry)) (now (w .exit)) r ⌝ }
+{
+    let t = 13 * n;
+    let nodes = k + 1;
+    let e = crate::edges::find_edges(w, d, vel, f, n, k, t, wide);
+    crate::sizes::count_sizes(w, n, n, nodes);
+    memory::sort::copy(w, n, t + 7 * e + 3 * nodes, nodes);
+    let end = t + 7 * e + 7 * nodes;
+    let r = crate::network::merge_all(&mut w[t..end], d, e, nodes);
+    memory::sort::copy(w, t + 7 * e + 6 * nodes, n + nodes, nodes);
+    w[n + nodes] = 1000;
+    r
+}
