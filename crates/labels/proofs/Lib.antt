@@ -1,0 +1,15 @@
+pub mod FloatOrder
+pub mod ForestLaws
+pub mod OwnLaws
+pub mod RankLaws
+pub mod OverLaws
+pub mod WindowLaws
+pub mod RegionFacts
+pub mod Connected
+pub mod BandLaws
+pub mod JointLaws
+pub mod CountLaws
+pub mod FoldLaws
+pub mod WholeLaws
+pub mod SpreadLaws
+pub mod Closed
