@@ -113,10 +113,10 @@ module _ (gates : ℕ) (vel : List Float) (mask : List ℕ) (limits : List Float
       let sum : sizes iv (joint gates iv) j + x ≡ sizes iv (joint gates iv) k + y = sym (label-some i j l b) ∙ q ∙ label-some h k m d in
       let jk : j ≡ k = bands-equal j k x y sum x-pos y-pos x-le y-le (decide j k) in
       let xy : rank (firsts (part iv (joint gates iv) j)) (suc r) ≡ rank (firsts (part iv (joint gates iv) j)) (suc s) =
-          ap (rank (firsts (part iv (joint gates iv) j))) (sym e)
-          ∙ omega (arith, ap (sizes iv (joint gates iv)) jk)
-          ∙ ap (λ (t : ℕ). rank (firsts (part iv (joint gates iv) t)) (getD (joint gates iv) h 0)) (sym jk)
-          ∙ ap (rank (firsts (part iv (joint gates iv) j))) f in
+      ap (rank (firsts (part iv (joint gates iv) j))) (sym e)
+      ∙ omega (arith, ap (sizes iv (joint gates iv)) jk)
+      ∙ ap (λ (t : ℕ). rank (firsts (part iv (joint gates iv) t)) (getD (joint gates iv) h 0)) (sym jk)
+      ∙ ap (rank (firsts (part iv (joint gates iv) j))) f in
       (jk, same-rank gates iv i h r s j e f b (d ∙ ap suc (sym jk)) xy)
     where
       decide : (m n : ℕ) → ((m < n) ⊎ (n < m)) ⊎ (m ≡ n)

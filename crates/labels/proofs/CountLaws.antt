@@ -147,10 +147,10 @@ module _ (iv w rs : List ℕ) (F : Forest (marks iv) w rs) where
           let k : ℕ = getD c b 0 + 1 in
           let r : rank (firsts (part iv rs b)) (getD rs g 0) ≡ rank (firsts (part iv rs b)) g + 1 = ap (rank (firsts (part iv rs b))) e ∙ hit e b f .1 in
           let cnt : (j : ℕ) → j < length (set c b k) → getD (set c b k) j 0 ≡ getD c₀ j 0 + rank (firsts (part iv rs j)) (g + 1) =
-              λ j q. ⊎-elim
-              (λ s. s .1 ∙ omega (arith, N .count b lb, hit e b f .0) ∙ ap (λ (y : ℕ). getD c₀ y 0 + rank (firsts (part iv rs y)) (g + 1)) (sym (s .0)))
-              (λ s. s .1 ∙ N .count j (omega (arith, length-set c b k)) ∙ ap (λ (y : ℕ). getD c₀ j 0 + y) (sym (other j (λ t. s .0 (omega arith)))))
-              (read-set c b k j lb) in
+          λ j q. ⊎-elim
+          (λ s. s .1 ∙ omega (arith, N .count b lb, hit e b f .0) ∙ ap (λ (y : ℕ). getD c₀ y 0 + rank (firsts (part iv rs y)) (g + 1)) (sym (s .0)))
+          (λ s. s .1 ∙ N .count j (omega (arith, length-set c b k)) ∙ ap (λ (y : ℕ). getD c₀ j 0 + y) (sym (other j (λ t. s .0 (omega arith)))))
+          (read-set c b k j lb) in
           labelled-as k (set c b k) (length-set c b k) cnt (omega (arith, N .count b lb, final-is nz)) (omega arith))
 
       pub number-under : (getD w g 0 ≡ 0 → ⊥) → (getD w g 0 - 1 ≡ g → ⊥) → Numbering iv rs c₀ (set labels g (getD labels (getD w g 0 - 1) 0)) c (g + 1)
@@ -163,10 +163,10 @@ module _ (iv w rs : List ℕ) (F : Forest (marks iv) w rs) where
           let pos : 0 < rank (firsts (part iv rs (getD iv p 0 - 1))) (getD rs p 0) = N .numbered p b nz in
           let e : getD iv p 0 ≡ getD iv g 0 = same-band p pos (P .same) in
           let move : (y z : ℕ) → y ≡ z → (s t : ℕ) → s ≡ t → rank (firsts (part iv rs (y - 1))) s ≡ rank (firsts (part iv rs (z - 1))) t =
-              λ y z q s t o. ap (λ (v : ℕ). rank (firsts (part iv rs (v - 1))) s) q ∙ ap (rank (firsts (part iv rs (z - 1)))) o in
+          λ y z q s t o. ap (λ (v : ℕ). rank (firsts (part iv rs (v - 1))) s) q ∙ ap (rank (firsts (part iv rs (z - 1)))) o in
           let fin-eq : final iv rs c₀ p ≡ final iv rs c₀ g =
-              ap (λ (v : ℕ). cond (eqb v 0) 0 (getD c₀ (v - 1) 0 + rank (firsts (part iv rs (v - 1))) (getD rs p 0))) e
-              ∙ ap (λ (v : ℕ). cond (eqb (getD iv g 0) 0) 0 (getD c₀ (getD iv g 0 - 1) 0 + rank (firsts (part iv rs (getD iv g 0 - 1))) v)) (P .same) in
+          ap (λ (v : ℕ). cond (eqb v 0) 0 (getD c₀ (v - 1) 0 + rank (firsts (part iv rs (v - 1))) (getD rs p 0))) e
+          ∙ ap (λ (v : ℕ). cond (eqb (getD iv g 0) 0) 0 (getD c₀ (getD iv g 0 - 1) 0 + rank (firsts (part iv rs (getD iv g 0 - 1))) v)) (P .same) in
           labelled-as (getD labels p 0) c refl (λ j q. N .count j q ∙ ap (λ (y : ℕ). getD c₀ j 0 + y) (sym (miss (under-not-first g n m) j)))
           (N .done p b ∙ fin-eq) (omega (arith, move (getD iv p 0) (getD iv g 0) e (getD rs p 0) (getD rs g 0) (P .same)))
         where

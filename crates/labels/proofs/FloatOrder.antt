@@ -84,9 +84,9 @@ fractions s t r x y z d e f D E F p q =
     let Z : ℕ = z * e * d in
     let p₂ : below s X t Y ≡ true = sym (below-scale f F s (x * e) t (y * d)) ∙ p in
     let q₁ : (below t (y * f * d) r (z * e * d) || level t (y * f * d) r (z * e * d)) ≡ true =
-        ap (λ (b : Bool). b || level t (y * f * d) r (z * e * d)) (sym (below-scale d D t (y * f) r (z * e)))
-        ∙ ap (λ (b : Bool). below t (y * f) r (z * e) || b) (sym (level-scale d D t (y * f) r (z * e)))
-        ∙ q in
+    ap (λ (b : Bool). b || level t (y * f * d) r (z * e * d)) (sym (below-scale d D t (y * f) r (z * e)))
+    ∙ ap (λ (b : Bool). below t (y * f) r (z * e) || b) (sym (level-scale d D t (y * f) r (z * e)))
+    ∙ q in
     let q₂ : (below t Y r Z || level t Y r Z) ≡ true = subst (λ (n : ℕ). (below t n r Z || level t n r Z) ≡ true) (mul-right-comm y f d) q₁ in
     let u : below s X r Z ≡ true = below-trans s t r X Y Z p₂ q₂ in
     below-scale e E s (x * f) r (z * d)

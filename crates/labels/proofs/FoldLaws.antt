@@ -176,7 +176,7 @@ module _ (gates : ℕ) (vel : List Float) (mask : List ℕ) (limits : List Float
     by-bands labels r e at n =
         let S : State (regions gates vel mask limits) (length limits - 1) = all (length limits - 1) 0 (nothing (length mask)) (omega arith) begin in
         let a : labels ≡ (regions gates vel mask limits) .labels =
-            ext-getD 0 labels ((regions gates vel mask limits) .labels) (e ∙ sym (S .long)) (λ i q. at i (omega arith) ∙ sym (S .new i (omega arith) (band-small i (omega arith)))) in
+        ext-getD 0 labels ((regions gates vel mask limits) .labels) (e ∙ sym (S .long)) (λ i q. at i (omega arith) ∙ sym (S .new i (omega arith) (band-small i (omega arith)))) in
         let b : r ≡ (regions gates vel mask limits) .number = n ∙ sym (S .number) in
         λ i. record { labels = a i; number = b i }
       where

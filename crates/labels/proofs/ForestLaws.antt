@@ -174,7 +174,7 @@ module _ (inside : List Bool) (w rs : List ℕ) (F : Forest inside w rs) (l : Li
         out = λ i o. ⊎-elim (λ h. absurd (not-both (getD inside hi false) in-hi (ap (λ (y : ℕ). getD inside y false) (sym (h .0)) ∙ o))) (λ h. h .1 ∙ F .out i o) (read-set w hi (suc lo) i lx);
         out-root = λ i o. out-root i (F .out-root i o) (cases i);
         parent = λ i k. ⊎-elim (λ h. at-hi i (h .0) (h .1)) (λ h. at-other i k (h .1)) (read-set w hi (suc lo) i lx);
-        first = λ i e. ⊎-elim (λ h. top i (h .0) (h .1 ) e) (λ h. rest i (h .0) (F .first i (sym (h .1) ∙ e)) (cases i)) (read-set w hi (suc lo) i lx);
+        first = λ i e. ⊎-elim (λ h. top i (h .0) (h .1) e) (λ h. rest i (h .0) (F .first i (sym (h .1) ∙ e)) (cases i)) (read-set w hi (suc lo) i lx);
         low = λ i. low i (F .low i) (cases i);
       }
     where

@@ -1,7 +1,7 @@
 -- The links within bands, and the roots of one band among the joint roots. Assumes nothing.
 use Prim.Native.Nat.{ℕ, zero, suc, _+_, _-_, _%_, _≤_, _<_, min, max}
 use native.Mathlib.Omega.{arith}
-use native.Mathlib.Nat.{not-suc-le-zero}
+use native.Mathlib.Nat.{not-suc-le-zero, zero-mod}
 use native.Mathlib.Numerals.{add-one}
 use mathlib.Core.Path.{_≡_, refl, sym, ap, _∙_, subst}
 use mathlib.Core.Logic.{_⊎_, inl, inr, ⊎-elim}
@@ -21,6 +21,11 @@ use Rattle.labels.proofs.OwnLaws.{own-in, own-out, length-own}
 use Rattle.labels.proofs.RegionFacts.{roots-long, long-joins}
 use Rattle.labels.specs.Bands.{marks, aboveIn, beforeIn, linksIn, laterIn, joint, part}
 use Rattle.labels.proofs.BandLaws.{marks-in, marks-out, length-marks}
+
+-- a gate that does not start a ray is not the first
+pub mod-pos : (g d : ℕ) → (g % d ≡ 0 → ⊥) → 1 ≤ g
+mod-pos zero d n = absurd (n (zero-mod d))
+mod-pos (suc g) d n = omega arith
 
 -- ---- a link that three tests decide
 none-first : (q r : Bool) (x : Link) → cond (false && q && r) (x ∷ []) [] ≡ []

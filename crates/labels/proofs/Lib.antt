@@ -13,3 +13,4 @@ pub mod FoldLaws
 pub mod WholeLaws
 pub mod SpreadLaws
 pub mod Closed
+pub mod SheetLaws

@@ -53,10 +53,10 @@ module _ (limits vel : List Float) (mask iv w : List ℕ) (g b x : ℕ) (S : Spr
 
 pub spread-end : (limits vel : List Float) (mask iv w : List ℕ) (g : ℕ) → Spreading limits vel mask iv w g → length mask ≤ g → Bands limits vel mask iv × (w ≡ own (marks iv))
 spread-end limits vel mask iv w g S h = (
-    record { long = S .long-iv; at = λ i q. S .band i (omega arith) },
-    ext-getD 0 w (own (marks iv)) (S .long-w ∙ sym (length-own (marks iv) ∙ length-marks iv ∙ S .long-iv))
-    (λ i q. ⊎-elim
-    (λ e. S .none i (omega (arith, S .long-w)) e ∙ sym (own-out (marks iv) i (marks-out iv i e)))
-    (λ n. S .some i (omega (arith, S .long-w)) n ∙ sym (own-in (marks iv) i (marks-in iv i n)))
-    (eq-or-ne (getD iv i 0) 0)),
-  )
+  record { long = S .long-iv; at = λ i q. S .band i (omega arith) },
+  ext-getD 0 w (own (marks iv)) (S .long-w ∙ sym (length-own (marks iv) ∙ length-marks iv ∙ S .long-iv))
+      (λ i q. ⊎-elim
+      (λ e. S .none i (omega (arith, S .long-w)) e ∙ sym (own-out (marks iv) i (marks-out iv i e)))
+      (λ n. S .some i (omega (arith, S .long-w)) n ∙ sym (own-in (marks iv) i (marks-in iv i n)))
+      (eq-or-ne (getD iv i 0) 0)),
+)

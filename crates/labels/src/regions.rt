@@ -1,0 +1,1 @@
+// regions.rs: the regions of a sweep by its limits.
