@@ -14,3 +14,4 @@ pub mod WholeLaws
 pub mod SpreadLaws
 pub mod Closed
 pub mod SheetLaws
+pub mod GateLaws

@@ -4,7 +4,7 @@
 ghost use mathlib.Core.Path.{_≡_};
 ghost use mathlib.Core.Bool.{Bool};
 ghost use mathlib.Core.List.{List, foldl};
-ghost use Prim.Native.Nat.{ℕ, _+_, _≤_, _<_, _^_};
+ghost use Prim.Native.Nat.{ℕ, suc, _+_, _≤_, _<_, _^_};
 ghost use lib.ListN.{length, getD, replicate};
 ghost use Rattle.labels.specs.Label.{join, Link};
 ghost use Rattle.labels.specs.Forest.{Forest, Some, Gate, Root};
@@ -110,6 +110,96 @@ pub fn link_all(u: &mut [u32], n: usize, gates: u32)
     let mut g: u32 = 0;
     while g < m {
         link(u, n, gates, g);
+        g += 1;
+    }
+}
+
+// Gate `g` counted for its band, if it is the first of its area.
+pub fn count_gate(u: &mut [u32], n: usize, g: usize)
+    requires { ⌜ Treed (bandsOf (now u) n) (wordsOf (now u) n) ⌝ }
+    requires { ⌜ (g < n) × (n + n ≤ length (now u)) × (getD (bandsOf (now u) n) g 0 ≤ length (countsOf (now u) n)) ⌝ }
+    requires { ⌜ ((j : ℕ) → j < length (countsOf (now u) n) → getD (countsOf (now u) n) j 0 + 1 < 2 ^ 32) ⌝ }
+    ensures { λ _. ⌜ ((rs : List ℕ) → Forest (marks (bandsOf (now (u .entry)) n)) (wordsOf (now (u .entry)) n) rs → Counted (bandsOf (now (u .entry)) n) rs (countsOf (now (u .entry)) n) g → Counted (bandsOf (now (u .entry)) n) rs (countsOf (now (u .exit)) n) (g + 1)) ⌝ }
+    ensures { λ _. ⌜ Counts (now (u .entry)) (now (u .exit)) n ⌝ }
+{
+    let v = u[n + g];
+    if v == 0 {
+        return;
+    }
+    let p = (v - 1) as usize;
+    if p != g {
+        return;
+    }
+    let b = (u[g] - 1) as usize;
+    let at = n + n + b;
+    let k = u[at];
+    u[at] = k + 1;
+}
+
+// How many regions each band has, over counters that are 0.
+pub fn count(u: &mut [u32], n: usize)
+    requires { ⌜ Treed (bandsOf (now u) n) (wordsOf (now u) n) ⌝ }
+    requires { ⌜ (n + n ≤ length (now u)) × ((i : ℕ) → getD (bandsOf (now u) n) i 0 ≤ length (countsOf (now u) n)) ⌝ }
+    requires { ⌜ countsOf (now u) n ≡ replicate (length (countsOf (now u) n)) 0 ⌝ }
+    ensures { λ _. ⌜ ((rs : List ℕ) → Forest (marks (bandsOf (now (u .entry)) n)) (wordsOf (now (u .entry)) n) rs → Counted (bandsOf (now (u .entry)) n) rs (countsOf (now (u .exit)) n) n) ⌝ }
+    ensures { λ _. ⌜ Counts (now (u .entry)) (now (u .exit)) n ⌝ }
+{
+    let mut g = 0;
+    while g < n {
+        count_gate(u, n, g);
+        g += 1;
+    }
+}
+
+// From how many each has to how many those before it have; gives how many there are in all.
+pub fn starts(c: &mut [u32]) -> u32
+    requires { ⌜ total (now c) (length (now c)) < 2 ^ 32 ⌝ }
+    ensures { λ r. ⌜ (r ≡ total (now (c .entry)) (length (now (c .entry)))) × ((j : ℕ) → j < length (now (c .entry)) → getD (now (c .exit)) j 0 ≡ total (now (c .entry)) j) ⌝ }
+{
+    let n = c.len();
+    let mut s: u32 = 0;
+    let mut j = 0;
+    while j < n {
+        let t = c[j];
+        c[j] = s;
+        s = s + t;
+        j += 1;
+    }
+    s
+}
+
+// The label of gate `g` over its band, where all gates before have theirs.
+pub fn label_gate(u: &mut [u32], n: usize, g: usize)
+    requires { ⌜ n + n ≤ length (now u) ⌝ }
+    requires { ⌜ Ahead (wordsOf (now u) n) (bandsOf (now u) n) (countsOf (now u) n) g ⌝ }
+    ensures { λ _. ⌜ ((iv rs c₀ : List ℕ) → Forest (marks iv) (wordsOf (now (u .entry)) n) rs → Numbering iv rs c₀ (bandsOf (now (u .entry)) n) (countsOf (now (u .entry)) n) g → Numbering iv rs c₀ (bandsOf (now (u .exit)) n) (countsOf (now (u .exit)) n) (g + 1)) ⌝ }
+    ensures { λ _. ⌜ wordsOf (now (u .exit)) n ≡ wordsOf (now (u .entry)) n ⌝ }
+{
+    let v = u[n + g];
+    if v == 0 {
+        return;
+    }
+    let p = (v - 1) as usize;
+    if p == g {
+        let b = (u[g] - 1) as usize;
+        let at = n + n + b;
+        let k = u[at] + 1;
+        u[at] = k;
+        u[g] = k;
+        return;
+    }
+    u[g] = u[p];
+}
+
+// All labels over the bands, from the counters' starts.
+pub fn number(u: &mut [u32], n: usize)
+    requires { ⌜ n + n ≤ length (now u) ⌝ }
+    requires { ⌜ Ready (wordsOf (now u) n) (bandsOf (now u) n) (countsOf (now u) n) ⌝ }
+    ensures { λ _. ⌜ ((rs : List ℕ) → Forest (marks (bandsOf (now (u .entry)) n)) (wordsOf (now (u .entry)) n) rs → ((i r : ℕ) → getD rs i 0 ≡ suc r → getD (bandsOf (now (u .entry)) n) r 0 ≡ getD (bandsOf (now (u .entry)) n) i 0) → Numbering (bandsOf (now (u .entry)) n) rs (countsOf (now (u .entry)) n) (bandsOf (now (u .exit)) n) (countsOf (now (u .exit)) n) n) ⌝ }
+{
+    let mut g = 0;
+    while g < n {
+        label_gate(u, n, g);
         g += 1;
     }
 }
