@@ -15,3 +15,4 @@ pub mod SpreadLaws
 pub mod Closed
 pub mod SheetLaws
 pub mod GateLaws
+pub mod TallyLaws

@@ -13,6 +13,8 @@ use Rattle.arithmetic.proofs.SegLaws.{eq-or-ne}
 use Rattle.labels.proofs.ForestLaws.{read-set}
 use Rattle.labels.proofs.OwnLaws.{own-in, own-out, length-own}
 use Rattle.labels.specs.Bands.{Band, Bands, marks}
+use Rattle.arithmetic.specs.Seg.{seg}
+use Rattle.labels.proofs.SheetLaws.{store-band, store-word}
 use Rattle.labels.proofs.BandLaws.{marks-in, marks-out, length-marks}
 
 pub record Spreading (limits vel : List Float) (mask iv w : List ℕ) (g : ℕ) : Type 0 where
@@ -60,3 +62,19 @@ spread-end limits vel mask iv w g S h = (
       (λ n. S .some i (omega (arith, S .long-w)) n ∙ sym (own-in (marks iv) i (marks-in iv i n)))
       (eq-or-ne (getD iv i 0) 0)),
 )
+
+pub spread-begin : (limits vel : List Float) (mask iv w : List ℕ) → length iv ≡ length mask → length w ≡ length mask → Spreading limits vel mask iv w 0
+spread-begin limits vel mask iv w e f = record { long-iv = e; long-w = f; band = λ i q. absurd (no i q); none = λ i q. absurd (no i q); some = λ i q. absurd (no i q) }
+  where
+    no : (i : ℕ) → i < 0 → ⊥
+    no i q = omega arith
+
+-- one gate's two stores in the slice
+pub spread-store : (limits vel : List Float) (mask u : List ℕ) (n : ℕ) → n + n ≤ length u → length mask ≡ n → (g : ℕ) → g < n → (b x : ℕ) → Spreading limits vel mask (seg u 0 n) (seg u n n) g → Band limits (getD vel g nan) (getD mask g 0) b
+    → (b ≡ 0 → x ≡ 0) → ((b ≡ 0 → ⊥) → x ≡ suc g) → Spreading limits vel mask (seg (set (set u g b) (n + g) x) 0 n) (seg (set (set u g b) (n + g) x) n n) (g + 1)
+spread-store limits vel mask u n fits m g h b x S B z s =
+    let r = store-band u n fits g b h in
+    let t = store-word (set u g b) n (omega (arith, length-set u g b)) g x h in
+    let e : seg (set (set u g b) (n + g) x) 0 n ≡ set (seg u 0 n) g b = t .0 ∙ r .0 in
+    let f : seg (set (set u g b) (n + g) x) n n ≡ set (seg u n n) g x = t .1 ∙ ap (λ (l : List ℕ). set l g x) (r .1) in
+    rw (e, f) (spread-step limits vel mask (seg u 0 n) (seg u n n) g b x S (omega arith) B z s)
