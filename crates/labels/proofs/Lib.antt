@@ -16,3 +16,5 @@ pub mod Closed
 pub mod SheetLaws
 pub mod GateLaws
 pub mod TallyLaws
+pub mod BlockLaws
+pub mod PartLaws

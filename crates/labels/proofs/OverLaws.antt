@@ -3,7 +3,9 @@ use Prim.Native.Nat.{ℕ, zero, suc, _+_, _≤_, _<_}
 use native.Mathlib.Omega.{arith}
 use mathlib.Core.Path.{_≡_, refl, sym, ap, _∙_}
 use mathlib.Core.List.{List}
-use lib.ListN.{length, getD}
+use lib.ListN.{length, getD, set, length-set}
+use mathlib.Core.Logic.{_⊎_, ⊎-elim}
+use Rattle.labels.proofs.ForestLaws.{read-set}
 use Rattle.arithmetic.proofs.SeqLaws.{tab-at, tab-length}
 use Rattle.labels.specs.Label.{Found}
 use Rattle.labels.specs.Regions.{over, added}
@@ -36,3 +38,35 @@ added-long f a = tab-length (λ g. over (f .number) (getD (f .labels) g 0) (getD
 pub added-number : (f a : Found) → (added f a) .number ≡ f .number + a .number
 unfolding added
 added-number f a = refl
+
+-- ---- labels of the second n words put over the first n, as far as gate g
+pub record Putting (u v : List ℕ) (n from g : ℕ) : Type 0 where
+  pub long : length v ≡ length u
+  pub done : (i : ℕ) → i < g → getD v i 0 ≡ over from (getD u i 0) (getD u (n + i) 0)
+  pub rest : (i : ℕ) → g ≤ i → getD v i 0 ≡ getD u i 0
+
+pub put-begin : (u : List ℕ) (n from : ℕ) → Putting u u n from 0
+put-begin u n from = record { long = refl; done = λ i q. absurd (no i q); rest = λ i q. refl }
+  where
+    no : (i : ℕ) → i < 0 → ⊥
+    no i q = omega arith
+
+pub put-step : (u v : List ℕ) (n from g : ℕ) → Putting u v n from g → g < length u → (x : ℕ) → x ≡ over from (getD v g 0) (getD v (n + g) 0) → Putting u (set v g x) n from (g + 1)
+put-step u v n from g P h x e =
+    record {
+      long = length-set v g x ∙ P .long;
+      done = λ i q. ⊎-elim (λ s. s .1 ∙ here ∙ ap (λ (y : ℕ). over from (getD u y 0) (getD u (n + y) 0)) (sym (s .0))) (λ s. s .1 ∙ P .done i (less i q (s .0))) (at i);
+      rest = λ i q. ⊎-elim (λ s. absurd (past i q (s .0))) (λ s. s .1 ∙ P .rest i (omega arith)) (at i);
+    }
+  where
+    at : (i : ℕ) → ((i ≡ g) × (getD (set v g x) i 0 ≡ x)) ⊎ ((i ≡ g → ⊥) × (getD (set v g x) i 0 ≡ getD v i 0))
+    at i = read-set v g x i (omega (arith, P .long))
+
+    here : x ≡ over from (getD u g 0) (getD u (n + g) 0)
+    here = e ∙ ap (λ (y : ℕ). over from y (getD v (n + g) 0)) (P .rest g (omega arith)) ∙ ap (over from (getD u g 0)) (P .rest (n + g) (omega arith))
+
+    less : (i : ℕ) → i < g + 1 → (i ≡ g → ⊥) → i < g
+    less i q n = omega arith
+
+    past : (i : ℕ) → g + 1 ≤ i → i ≡ g → ⊥
+    past i q n = omega arith

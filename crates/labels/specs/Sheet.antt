@@ -1,5 +1,5 @@
 -- One lent slice of three parts: bands and then labels in the first n words, the union-find in the next n, and the counters of the bands after that. Definitions only.
-use Prim.Native.Nat.{ℕ, _+_, _-_, _≤_, _<_, _^_}
+use Prim.Native.Nat.{ℕ, _+_, _*_, _-_, _≤_, _<_, _^_}
 use mathlib.Core.Path.{_≡_}
 use mathlib.Core.List.{List}
 use lib.Ieee.{Float}
@@ -41,3 +41,27 @@ pub record Fitting (gates : ℕ) (limits : List Float) (u : List ℕ) (n : ℕ) 
   pub rising : Rising limits
   pub few-limits : length limits < 2 ^ 32
   pub long : length u ≡ n + n + (length limits - 1)
+
+-- the same for one block of intervals, after n words of labels
+pub record Block (gates : ℕ) (limits : List Float) (u : List ℕ) (n : ℕ) : Type 0 where
+  pub some-gates : 0 < n → 0 < gates
+  pub rising : Rising limits
+  pub few-limits : length limits < 2 ^ 32
+  pub some-limits : 0 < length limits
+  pub long : n + n + n + (length limits - 1) ≤ length u
+
+-- three words a gate and 64 more
+pub record Ample (gates : ℕ) (limits : List Float) (u : List ℕ) (n : ℕ) : Type 0 where
+  pub some-gates : 0 < n → 0 < gates
+  pub rising : Rising limits
+  pub few-limits : length limits < 2 ^ 32
+  pub long : length u ≡ n + n + n + 64
+
+-- what a sweep's gates and limits are to be, and the words lent for them
+pub record Sweep (gates : ℕ) (velocity : List Float) (valid : List ℕ) (limits : List Float) (u : List ℕ) : Type 0 where
+  pub masks : length valid ≡ length velocity
+  pub small : length velocity + 1 < 2 ^ 32
+  pub some-gates : 0 < length velocity → 0 < gates
+  pub rising : Rising limits
+  pub few-limits : length limits < 2 ^ 32
+  pub long : length u ≡ 3 * length velocity + 64

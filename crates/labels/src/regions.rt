@@ -6,13 +6,12 @@ ghost use mathlib.Core.List.{List, _++_};
 ghost use Prim.Native.Nat.{ℕ, suc, _+_, _*_, _-_, _≤_, _<_, _^_};
 ghost use lib.ListN.{length, getD, replicate};
 ghost use Rattle.arithmetic.specs.Asked.{Rising};
-ghost use Rattle.arithmetic.specs.Seg.{seg};
 ghost use Rattle.labels.specs.Label.{own, Found};
-ghost use Rattle.labels.specs.Regions.{within, regions, added, Interval};
+ghost use Rattle.labels.specs.Regions.{within, regions, over, added, Interval};
 ghost use Rattle.labels.specs.Forest.{Forest};
 ghost use Rattle.labels.specs.Bands.{Band, Bands, marks, joint};
 ghost use Rattle.labels.specs.Numbering.{sizes, Tally};
-ghost use Rattle.labels.specs.Sheet.{bandsOf, wordsOf, countsOf, Counts, Same, Fitting};
+ghost use Rattle.labels.specs.Sheet.{bandsOf, wordsOf, countsOf, Counts, Same, Fitting, Block, Ample, Sweep};
 
 // Whether a valid velocity lies in an interval: at or above its lower limit, below its upper one.
 pub fn holds(lower: f64, upper: f64, x: f32, m: u8) -> bool
@@ -142,5 +141,141 @@ pub fn at_once(
     prepare(gates, velocity, valid, limits, u, n);
     let r = tally(u, n);
     label::number(u, n);
+    r
+}
+
+// A label of this block of intervals goes over the old one, counted on from `from`.
+pub fn relabel(from: u32, old: u32, new: u32) -> u32
+    requires { ⌜ new + from < 2 ^ 32 ⌝ }
+    ensures { λ r. ⌜ r ≡ over from old new ⌝ }
+{
+    if new == 0 {
+        return old;
+    }
+    new + from
+}
+
+// The labels of the second n words put over those of the first n.
+pub fn put_over(u: &mut [u32], n: usize, from: u32)
+    requires { ⌜ n + n ≤ length (now u) ⌝ }
+    requires { ⌜ ((i : ℕ) → i < n → getD (now u) (n + i) 0 + from < 2 ^ 32) ⌝ }
+    ensures { λ _. ⌜ ((i : ℕ) → i < n → getD (now (u .exit)) i 0 ≡ over from (getD (now (u .entry)) i 0) (getD (now (u .entry)) (n + i) 0)) ⌝ }
+{
+    let mut g = 0;
+    while g < n {
+        let old = u[g];
+        let new = u[n + g];
+        u[g] = relabel(from, old, new);
+        g += 1;
+    }
+}
+
+// The regions of one block of intervals over what was found before. Gives the last number.
+pub fn block(
+    gates: u32,
+    velocity: &[f32],
+    valid: &[u8],
+    limits: &[f64],
+    u: &mut [u32],
+    n: usize,
+    from: u32,
+) -> u32
+    requires { ⌜ Same n (now velocity) (now valid) ⌝ }
+    requires { ⌜ Block gates (now limits) (now u) n ⌝ }
+    requires { ⌜ from + (regions gates (now velocity) (now valid) (now limits)) .number < 2 ^ 32 ⌝ }
+    ensures { λ r. ⌜ record { labels = bandsOf (now (u .exit)) n; number = r } ≡ added (record { labels = bandsOf (now (u .entry)) n; number = from }) (regions gates (now (velocity .entry)) (now (valid .entry)) (now (limits .entry))) ⌝ }
+{
+    let e = n + n + n + (limits.len() - 1);
+    let r = at_once(gates, velocity, valid, limits, &mut u[n..e], n);
+    put_over(u, n, from);
+    from + r
+}
+
+// The last limit of the block that starts at limit `i` of `m`: 64 intervals, or those that are left.
+pub fn block_end(i: usize, m: usize) -> usize
+    requires { ⌜ i + 1 < m ⌝ }
+    ensures { λ r. ⌜ (i < r) × (r < m) × (r ≤ i + 64) ⌝ }
+{
+    if m - i < 65 {
+        return m - 1;
+    }
+    i + 64
+}
+
+// Block after block, where there are more intervals than counters.
+pub fn blocks(
+    gates: u32,
+    velocity: &[f32],
+    valid: &[u8],
+    limits: &[f64],
+    u: &mut [u32],
+    n: usize,
+) -> u32
+    requires { ⌜ Same n (now velocity) (now valid) ⌝ }
+    requires { ⌜ Ample gates (now limits) (now u) n ⌝ }
+    ensures { λ r. ⌜ record { labels = bandsOf (now (u .exit)) n; number = r } ≡ regions gates (now (velocity .entry)) (now (valid .entry)) (now (limits .entry)) ⌝ }
+{
+    let z = 0;
+    clear(&mut u[z..n]);
+    let m = limits.len();
+    let mut k: u32 = 0;
+    let mut i = 0;
+    while i + 1 < m {
+        let j = block_end(i, m);
+        let e = j + 1;
+        k = block(gates, velocity, valid, &limits[i..e], u, n, k);
+        i = j;
+    }
+    k
+}
+
+// How many intervals `m` limits have.
+pub fn spans(m: usize) -> usize
+    ensures { λ r. ⌜ r ≡ m - 1 ⌝ }
+{
+    if m == 0 {
+        return 0;
+    }
+    m - 1
+}
+
+// Labels in the first n words: all intervals at once where each has a counter, else block after block.
+pub fn label_gates(
+    gates: u32,
+    velocity: &[f32],
+    valid: &[u8],
+    limits: &[f64],
+    u: &mut [u32],
+    n: usize,
+) -> u32
+    requires { ⌜ Same n (now velocity) (now valid) ⌝ }
+    requires { ⌜ Ample gates (now limits) (now u) n ⌝ }
+    ensures { λ r. ⌜ record { labels = bandsOf (now (u .exit)) n; number = r } ≡ regions gates (now (velocity .entry)) (now (valid .entry)) (now (limits .entry)) ⌝ }
+{
+    let k = spans(limits.len());
+    if n + 64 < k {
+        return blocks(gates, velocity, valid, limits, u, n);
+    }
+    let z = 0;
+    let e = n + n + k;
+    at_once(gates, velocity, valid, limits, &mut u[z..e], n)
+}
+
+// The regions of a sweep: a label for each gate and how many regions there are. All other words lent are 0 at the end.
+pub fn find_regions(
+    gates: u32,
+    velocity: &[f32],
+    valid: &[u8],
+    limits: &[f64],
+    u: &mut [u32],
+) -> u32
+    requires { ⌜ Sweep gates (now velocity) (now valid) (now limits) (now u) ⌝ }
+    ensures { λ r. ⌜ r ≡ (regions gates (now (velocity .entry)) (now (valid .entry)) (now (limits .entry))) .number ⌝ }
+    ensures { λ _. ⌜ now (u .exit) ≡ (regions gates (now (velocity .entry)) (now (valid .entry)) (now (limits .entry))) .labels ++ replicate (2 * length (now (velocity .entry)) + 64) 0 ⌝ }
+{
+    let n = velocity.len();
+    let e = u.len();
+    let r = label_gates(gates, velocity, valid, limits, u, n);
+    clear(&mut u[n..e]);
     r
 }
