@@ -98,6 +98,11 @@ module _ (gates : ℕ) (vel : List Float) (mask : List ℕ) (limits : List Float
       ∙ ap (λ (y : ℕ). getD starts y 0 + rank (firsts (part iv (joint gates iv) y)) (getD (joint gates iv) i 0)) k
       ∙ ap (λ (y : ℕ). y + rank (firsts (part iv (joint gates iv) j)) (getD (joint gates iv) i 0)) (starts-at j (omega (arith, B .at i l .small (omega arith))))
 
+  pub label-pos : (i j : ℕ) → i < length mask → getD iv i 0 ≡ suc j → 0 < getD ((regions gates vel mask limits) .labels) i 0
+  label-pos i j l b =
+      let k : getD iv i 0 - 1 ≡ j = omega arith in
+      omega (arith, label-some i j l b, subst (λ (t : ℕ). 0 < rank (firsts (part iv (joint gates iv) t)) (getD (joint gates iv) i 0)) k (has-rank i l (λ z. omega arith)))
+
   -- ---- gates of one label, not 0, are joined within one interval
   pub same-label-joined : (i h j k : ℕ) → i < length mask → h < length mask → getD iv i 0 ≡ suc j → getD iv h 0 ≡ suc k
       → getD ((regions gates vel mask limits) .labels) i 0 ≡ getD ((regions gates vel mask limits) .labels) h 0 → (j ≡ k) × Joined (laterIn gates iv 0) i h

@@ -123,14 +123,6 @@ own-is inside i r h = go (getD inside i false) refl
 pub rooted-own : (ls : List Link) (inside : List Bool) → Rooted ls (own inside)
 rooted-own ls inside i r h = subst (λ (k : ℕ). Joined ls i k × (k ≤ i)) (sym (own-is inside i r h)) (stay i, omega arith)
 
--- two gates of one root are joined by links, and two gates that are joined have one root
-pub one-root-joined : (gates : ℕ) (inside : List Bool) (i j r : ℕ) → getD (roots gates inside) i 0 ≡ suc r → getD (roots gates inside) j 0 ≡ suc r → Joined (links gates inside) i j
-unfolding roots
-one-root-joined gates inside i j r e f =
-    let ls = links gates inside in
-    let R : Rooted ls (foldl join (own inside) ls) = rooted-all ls ls (own inside) (λ l m. m) (rooted-own ls inside) in
-    joined-trans ls i r j (R i r e .0) (joined-sym ls j r (R j r f .0))
-
 -- ---- labels: the rank of a root tells roots apart
 
 pub keep-in : {A : Type 0} (p : A → Bool) (x : A) (xs : List A) → p x ≡ true → In x xs → In x (keep p xs)
@@ -186,33 +178,3 @@ in-length [] i r e = absurd (nil e)
     nil q = omega arith
 in-length (x ∷ rs) zero r e = omega arith
 in-length (x ∷ rs) (suc i) r e = omega (arith, in-length rs i r e)
-
--- a root is the first gate of its area
-root-first : (gates : ℕ) (inside : List Bool) (i r : ℕ) → getD (roots gates inside) i 0 ≡ suc r → In (suc r) (firsts (roots gates inside))
-unfolding roots firsts
-root-first gates inside i r e = keep-in (λ q. eqb (getD rs (q - 1) 0) q) (suc r) (upto (length rs) 1) test (upto-in (length rs) 1 (suc r) (omega arith) (omega (arith, in-length rs r r at)))
-  where
-    ls : List Link
-    ls = links gates inside
-
-    rs : List ℕ
-    rs = foldl join (own inside) ls
-
-    at : getD rs r 0 ≡ suc r
-    at = sym (joined-one-root ls (own inside) i r (rooted-all ls ls (own inside) (λ l m. m) (rooted-own ls inside) i r e .0)) ∙ e
-
-    test : eqb (getD rs (suc r - 1) 0) (suc r) ≡ true
-    test = eq-eqb (getD rs (suc r - 1) 0) (suc r) (ap (λ (k : ℕ). getD rs k 0) (omega arith) ∙ at)
-
--- two inside gates of one label are joined by links
-pub same-label-joined : (gates : ℕ) (inside : List Bool) (i j r s : ℕ) → getD (roots gates inside) i 0 ≡ suc r → getD (roots gates inside) j 0 ≡ suc s
-    → rank (firsts (roots gates inside)) (suc r) ≡ rank (firsts (roots gates inside)) (suc s) → Joined (links gates inside) i j
-same-label-joined gates inside i j r s e f h = one-root-joined gates inside i j s (e ∙ ap suc (go (ltb r s) (ltb s r) refl refl)) f
-  where
-    fs : List ℕ
-    fs = firsts (roots gates inside)
-
-    go : (b c : Bool) → ltb r s ≡ b → ltb s r ≡ c → r ≡ s
-    go true c p q = omega (arith, h, rank-strict fs (suc r) (suc s) (omega (arith, ltb-true r s p)) (root-first gates inside j s f))
-    go false true p q = omega (arith, h, rank-strict fs (suc s) (suc r) (omega (arith, ltb-true s r q)) (root-first gates inside i r e))
-    go false false p q = omega (arith, ltb-false r s p, ltb-false s r q)

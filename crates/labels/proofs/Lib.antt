@@ -18,3 +18,5 @@ pub mod GateLaws
 pub mod TallyLaws
 pub mod BlockLaws
 pub mod PartLaws
+pub mod Ways
+pub mod RegionLaws
