@@ -1,16 +1,15 @@
 -- The band of a gate: halving, and limits that never fall. Assumes nothing.
 use Prim.Native.Nat.{ℕ, zero, suc, _+_, _-_, _≤_, _<_}
 use native.Mathlib.Omega.{arith}
-use mathlib.Core.Path.{_≡_, refl, sym, ap, _∙_, subst}
-use mathlib.Core.Logic.{_⊎_, inl, inr, ⊎-elim}
-use mathlib.Core.Bool.{Bool, true, false, cond, not, _&&_}
-use mathlib.Core.List.{List, [], _∷_, map}
-use lib.Dec.{eqb, ltb}
+use mathlib.Core.Path.{_≡_, refl, sym, ap, _∙_}
+use mathlib.Core.Logic.{⊎-elim}
+use mathlib.Core.Bool.{Bool, true, false, not}
+use mathlib.Core.List.{List}
+use lib.Dec.{eqb}
 use lib.Ieee.{Float, nan, lt, le}
-use lib.ListN.{length, getD, length-map, List·getD-map, List·getD-eq-default}
-use borrow.Author.Tests.{eq-eqb, ne-eqb, eqb-true, eqb-false, ltb-true, ltb-false}
-use Rattle.labels.specs.Regions.{Interval, within}
-use Rattle.labels.specs.Label.{own}
+use lib.ListN.{length, getD, length-map, List·getD-map}
+use borrow.Author.Tests.{eq-eqb, ne-eqb}
+use Rattle.labels.specs.Regions.{within}
 use Rattle.arithmetic.proofs.SegLaws.{eq-or-ne, lt-or-le}
 use Rattle.labels.proofs.ForestLaws.{not-both}
 use Rattle.labels.proofs.OwnLaws.{within-not, within-low, within-high}
@@ -28,7 +27,7 @@ climb l c v a (suc d) h p =
 pub climbs : (l : List Float) → Rising l → (v : Float) (a b : ℕ) → a ≤ b → b < length l → lt v (getD l a nan) ≡ true → lt v (getD l b nan) ≡ true
 climbs l c v a b h k p = ap (λ (y : ℕ). lt v (getD l y nan)) (omega arith) ∙ climb l c v a (b - a) (omega arith) p
 
-flag : (b : Bool) → (b ≡ true → ⊥) → b ≡ false
+pub flag : (b : Bool) → (b ≡ true → ⊥) → b ≡ false
 flag true n = absurd (n refl)
 flag false n = refl
 

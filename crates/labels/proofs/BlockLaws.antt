@@ -1,20 +1,18 @@
 -- Limits cut into blocks: the regions of the first limits, with those of the next block put over them. Assumes nothing.
-use Prim.Native.Nat.{ℕ, zero, suc, _+_, _-_, _≤_, _<_, _^_, min}
+use Prim.Native.Nat.{ℕ, zero, suc, _+_, _-_, _≤_, _<_, min}
 use native.Mathlib.Omega.{arith}
 use native.Mathlib.Nat.{not-suc-le-zero}
-use mathlib.Core.Path.{_≡_, refl, sym, ap, _∙_, subst}
+use mathlib.Core.Path.{_≡_, refl, sym, ap, _∙_}
 use mathlib.Core.Logic.{⊎-elim}
 use mathlib.Core.List.{List, [], _∷_, _++_, foldl, foldl-append}
-use lib.Dec.{T}
-use lib.Ieee.{Float, nan, le}
-use lib.ListN.{length, getD, take, drop, replicate, length-take, length-drop, length-replicate, getD-replicate, List·getD-eq-default}
-use lib.Seq.{ext-getD, getD-take, getD-drop, length-take-le}
+use lib.Ieee.{Float, nan}
+use lib.ListN.{length, getD, take, drop, length-take, length-drop, length-replicate, getD-replicate}
+use lib.Seq.{ext-getD, getD-take, getD-drop}
 use Rattle.arithmetic.specs.Asked.{Rising}
 use Rattle.arithmetic.proofs.SegLaws.{lt-or-le}
 use Rattle.labels.specs.Label.{Found, areas}
 use Rattle.labels.specs.Regions.{Interval, windows, windowsFrom, inside, over, added, grow, nothing, regions}
 use Rattle.labels.proofs.OverLaws.{over-old, over-new, added-at, added-long}
-use Rattle.labels.proofs.RegionFacts.{Regions, regions-are}
 
 -- ---- areas over areas over areas
 pub over-over : (k j old mid new : ℕ) → over k old (over j mid new) ≡ over (k + j) (over k old mid) new

@@ -1,28 +1,29 @@
 -- The regions in closed form: a gate's label is how many regions the bands below its own have, and the rank of its root in its band; and gates of one label are joined within their band. Assumes nothing.
-use Prim.Native.Nat.{ℕ, zero, suc, _+_, _-_, _≤_, _<_}
+use Prim.Native.Nat.{ℕ, suc, _+_, _-_, _≤_, _<_}
 use native.Mathlib.Omega.{arith}
 use native.Mathlib.Decide.{decLt}
-use native.Mathlib.Nat.{not-suc-le-zero}
-use mathlib.Core.Path.{_≡_, refl, sym, ap, _∙_, subst}
-use mathlib.Core.Logic.{_⊎_, inl, inr, ⊎-elim, by-cases}
-use mathlib.Core.Bool.{Bool, true, false, cond}
-use mathlib.Core.List.{List, [], _∷_, map, foldl}
+use mathlib.Core.Path.{_≡_, sym, ap, _∙_, subst}
+use mathlib.Core.Logic.{_⊎_, inl, inr, by-cases}
+use mathlib.Core.Bool.{Bool, cond}
+use mathlib.Core.List.{List}
 use lib.Dec.{eqb}
-use lib.Ieee.{Float, nan}
+use lib.Ieee.{Float}
 use lib.ListN.{length, getD}
 use borrow.Author.Tests.{eq-eqb, ne-eqb}
-use Rattle.arithmetic.specs.Seq.{upto, tabulate, keep}
-use Rattle.labels.specs.Label.{Link, own, join, firsts, rank, Found}
+use Rattle.arithmetic.specs.Seq.{upto, tabulate}
+use Rattle.labels.specs.Label.{own, join, firsts, rank}
 use Rattle.labels.specs.Regions.{regions}
-use Rattle.arithmetic.proofs.SegLaws.{eq-or-ne}
 use Rattle.arithmetic.proofs.SeqLaws.{tab-at}
 use Rattle.labels.proofs.RankLaws.{rank-le}
-use Rattle.labels.proofs.Connected.{In, here, there, Joined, joined-one-root, joined-trans, joined-sym, Rooted, rooted-all, rooted-own, rank-strict, rank-mono, keep-in, upto-in, in-length}
+use Rattle.labels.proofs.Connected.{In, Joined, joined-one-root, joined-trans, joined-sym, Rooted, rooted-all, rooted-own, rank-strict, keep-in, upto-in, in-length}
 use Rattle.labels.specs.Bands.{Bands, marks, part, joint, laterIn}
 use Rattle.labels.specs.Numbering.{final, sizes}
-use Rattle.labels.proofs.BandLaws.{marks-in}
-use Rattle.labels.proofs.JointLaws.{joint-own, joint-some, joint-long, length-part, part-in}
+use Rattle.labels.proofs.JointLaws.{joint-own, joint-some, part-in}
 use Rattle.labels.proofs.FoldLaws.{labels-are, sizes-below}
+use Rattle.labels.proofs.ForestLaws.{some-pred}
+
+decide : (m n : ℕ) → ((m < n) ⊎ (n < m)) ⊎ (m ≡ n)
+decide m n = by-cases (decLt m n) (λ k. inl (inl k)) (λ k. by-cases (decLt n m) (λ l. inl (inr l)) (λ l. inr (omega arith)))
 
 -- each root is the first gate of its area
 module _ (gates : ℕ) (iv : List ℕ) where
@@ -54,17 +55,10 @@ module _ (gates : ℕ) (iv : List ℕ) where
       fs : List ℕ
       fs = firsts (part iv (joint gates iv) j)
 
-      decide : (m n : ℕ) → ((m < n) ⊎ (n < m)) ⊎ (m ≡ n)
-      decide m n = by-cases (decLt m n) (λ k. inl (inl k)) (λ k. by-cases (decLt n m) (λ l. inl (inr l)) (λ l. inr (omega arith)))
-
       equal : ((r < s) ⊎ (s < r)) ⊎ (r ≡ s) → r ≡ s
       equal (inr k) = k
       equal (inl (inl k)) = omega (arith, q, rank-strict fs (suc r) (suc s) (omega arith) (root-in h s j f d))
       equal (inl (inr k)) = omega (arith, q, rank-strict fs (suc s) (suc r) (omega arith) (root-in i r j e b))
-
-some-pred : (k : ℕ) → 0 < k → (s : ℕ) × (k ≡ suc s)
-some-pred zero h = absurd (not-suc-le-zero h)
-some-pred (suc s) h = (s, refl)
 
 -- ---- the labels in closed form
 module _ (gates : ℕ) (vel : List Float) (mask : List ℕ) (limits : List Float) (iv : List ℕ) (B : Bands limits vel mask iv) where
@@ -124,9 +118,6 @@ module _ (gates : ℕ) (vel : List Float) (mask : List ℕ) (limits : List Float
       ∙ ap (rank (firsts (part iv (joint gates iv) j))) f in
       (jk, same-rank gates iv i h r s j e f b (d ∙ ap suc (sym jk)) xy)
     where
-      decide : (m n : ℕ) → ((m < n) ⊎ (n < m)) ⊎ (m ≡ n)
-      decide m n = by-cases (decLt m n) (λ k. inl (inl k)) (λ k. by-cases (decLt n m) (λ l. inl (inr l)) (λ l. inr (omega arith)))
-
       bands-equal : (j k x y : ℕ) → sizes iv (joint gates iv) j + x ≡ sizes iv (joint gates iv) k + y → 0 < x → 0 < y → x ≤ length (firsts (part iv (joint gates iv) j)) → y ≤ length (firsts (part iv (joint gates iv) k)) → ((j < k) ⊎ (k < j)) ⊎ (j ≡ k) → j ≡ k
       bands-equal j k x y s p p₂ a b (inr e) = e
       bands-equal j k x y s p p₂ a b (inl (inl c)) = omega (arith, sizes-below iv (joint gates iv) j k c)

@@ -1,18 +1,17 @@
 -- The roots of label.rs's areas: two gates have one root exactly if links join them. Assumes nothing.
-use Prim.Native.Nat.{ℕ, zero, suc, _+_, _-_, _≤_, _<_, min, max}
+use Prim.Native.Nat.{ℕ, zero, suc, _+_, _≤_, _<_, min, max}
 use native.Mathlib.Omega.{arith}
 use mathlib.Core.Path.{_≡_, refl, sym, ap, _∙_, subst}
 use mathlib.Core.Bool.{Bool, true, false, cond}
-use mathlib.Core.List.{List, [], _∷_, map, foldl}
-use lib.Dec.{eqb, leb, ltb}
-use lib.ListN.{length, getD, List·getD-map}
-use borrow.Author.Tests.{eqb-true, eqb-false, leb-true, leb-false, ltb-true, ltb-false, le-leb, lt-leb, eq-eqb}
-use Rattle.labels.proofs.ForestLaws.{join-at, join-keeps}
+use mathlib.Core.List.{List, [], _∷_, foldl}
+use lib.Dec.{eqb, leb}
+use lib.ListN.{length, getD}
+use borrow.Author.Tests.{eqb-true, eqb-false, leb-true, leb-false, le-leb, lt-leb}
+use Rattle.labels.proofs.ForestLaws.{join-at, join-keeps, some-pred}
 use Rattle.labels.proofs.OwnLaws.{own-in, own-out}
-use Rattle.labels.proofs.RankLaws.{bit, rank-nil, rank-cons}
-use native.Mathlib.Nat.{not-suc-le-zero}
-use Rattle.labels.specs.Label.{Link, swap, join, own, links, roots, rank, firsts}
-use Rattle.arithmetic.specs.Seq.{upto, tabulate, keep}
+use Rattle.labels.proofs.RankLaws.{bit, rank-cons, test-mono, rank-mono}
+use Rattle.labels.specs.Label.{Link, swap, join, own, rank}
+use Rattle.arithmetic.specs.Seq.{upto, keep}
 
 -- ---- one join
 
@@ -71,10 +70,6 @@ joined-sym ls i j (back l m p) = joined-trans ls j (l .a) (l .b) (joined-sym ls 
 -- each root is joined to its gate, and not later
 abbrev pub Rooted : List Link → List ℕ → Type 0
 Rooted ls rs = (i r : ℕ) → getD rs i 0 ≡ suc r → Joined ls i r × (r ≤ i)
-
-some-pred : (k : ℕ) → 0 < k → (s : ℕ) × (k ≡ suc s)
-some-pred zero h = absurd (not-suc-le-zero h)
-some-pred (suc s) h = (s, refl)
 
 rooted-join : (ls : List Link) (rs : List ℕ) (l : Link) → In l ls → Rooted ls rs → Rooted ls (join rs l)
 unfolding swap
@@ -145,23 +140,6 @@ upto-in (suc n) i k h l = go (eqb k i) refl (λ (q : i < k). upto-in n (suc i) k
     go : (b : Bool) → eqb k i ≡ b → (i < k → In k (upto n (suc i))) → In k (i ∷ upto n (suc i))
     go true e r = subst (λ (j : ℕ). In k (j ∷ upto n (suc i))) (eqb-true k i e) here
     go false e r = there (r (omega (arith, eqb-false k i e)))
-
-test-mono : (f r s : ℕ) → r ≤ s → bit (leb f r) ≤ bit (leb f s)
-unfolding bit
-test-mono f r s h = go (leb f r) (leb f s) refl refl
-  where
-    go : (b c : Bool) → leb f r ≡ b → leb f s ≡ c → bit b ≤ bit c
-    go true true e k = omega arith
-    go true false e k = absurd (bad (leb-true f r e) (leb-false f s k))
-      where
-        bad : f ≤ r → s < f → ⊥
-        bad x y = omega arith
-    go false c e k = omega arith
-
-pub rank-mono : (fs : List ℕ) (r s : ℕ) → r ≤ s → rank fs r ≤ rank fs s
-unfolding rank keep
-rank-mono [] r s h = omega (arith, rank-nil r, rank-nil s)
-rank-mono (f ∷ fs) r s h = omega (arith, rank-cons f r fs, rank-cons f s fs, test-mono f r s h, rank-mono fs r s h)
 
 pub rank-strict : (fs : List ℕ) (r s : ℕ) → r < s → In s fs → rank fs r < rank fs s
 unfolding rank bit

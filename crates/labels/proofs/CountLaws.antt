@@ -1,22 +1,21 @@
 -- Counting and numbering, one gate at a time. Assumes nothing.
 use Prim.Native.Nat.{ℕ, zero, suc, _+_, _-_, _≤_, _<_, _^_}
 use native.Mathlib.Omega.{arith}
-use native.Mathlib.Nat.{not-suc-le-zero}
 use native.Mathlib.Numerals.{add-one}
 use mathlib.Core.Path.{_≡_, refl, sym, ap, _∙_, subst}
-use mathlib.Core.Logic.{_⊎_, inl, inr, ⊎-elim}
-use mathlib.Core.Bool.{Bool, true, false, cond}
-use mathlib.Core.List.{List, [], _∷_}
+use mathlib.Core.Logic.{_⊎_, ⊎-elim}
+use mathlib.Core.Bool.{Bool, false, cond}
+use mathlib.Core.List.{List}
 use lib.Dec.{eqb}
-use lib.ListN.{length, getD, set, replicate, length-set, length-replicate, getD-replicate}
+use lib.ListN.{length, getD, set, replicate, length-set, getD-replicate}
 use borrow.Author.Tests.{eq-eqb, ne-eqb}
 use Rattle.labels.specs.Label.{firsts, rank}
-use Rattle.labels.specs.Forest.{Parent, Forest}
+use Rattle.labels.specs.Forest.{Forest}
 use Rattle.arithmetic.proofs.SegLaws.{eq-or-ne}
 use Rattle.labels.proofs.ForestLaws.{not-both, read-set, gate-in, gate-out}
-use Rattle.labels.proofs.RankLaws.{rank-zero, rank-hit, rank-miss, rank-end, rank-le}
+use Rattle.labels.proofs.RankLaws.{rank-zero, rank-hit, rank-miss, rank-le}
 use Rattle.labels.specs.Bands.{marks, part}
-use Rattle.labels.specs.Numbering.{final, total, Counted, Numbering, Ahead, Ready}
+use Rattle.labels.specs.Numbering.{final, total, Counted, Numbering, Ahead}
 use Rattle.labels.proofs.BandLaws.{marks-in, marks-out, length-marks}
 use Rattle.labels.proofs.JointLaws.{part-in, part-out, length-part}
 
@@ -244,9 +243,6 @@ number-fits iv rs c₀ labels c g N j q = omega (arith, N .count j q, rank-le (f
 
 -- ---- what `label_one` asks
 module _ (w labels c : List ℕ) (g : ℕ) (A : Ahead w labels c g) where
-  pub ahead-in : g < length labels
-  ahead-in = omega (arith, A .here, A .numbering .long, iv-long (A .iv) w (A .rs) (A .forest))
-
   pub ahead-band : getD labels g 0 ≤ length c
   ahead-band = omega (arith, A .band, A .numbering .rest g (omega arith))
 

@@ -1,5 +1,5 @@
 -- The order of floats: a value below u, and u not above w, is below w. Assumes nothing.
-use Prim.Native.Nat.{ℕ, zero, suc, _+_, _*_, _≤_, _<_}
+use Prim.Native.Nat.{ℕ, _+_, _*_, _<_}
 use native.Mathlib.Omega.{arith}
 use native.Mathlib.Nat.{mul-right-comm, mul-le-mul-right, mul-lt-mul-of-pos-right, le-of-mul-le-mul-right, le-antisymm, le-of-eq, zero-mul, add-mul}
 use mathlib.Core.Path.{_≡_, refl, sym, ap, _∙_, subst}

@@ -3,14 +3,14 @@ use Prim.Native.Nat.{ℕ, zero, suc, _+_, _-_, _≤_, _<_}
 use native.Mathlib.Omega.{arith}
 use native.Mathlib.Numerals.{add-one}
 use mathlib.Core.Path.{_≡_, refl, sym, ap, _∙_, subst}
-use mathlib.Core.Logic.{_⊎_, inl, inr, ⊎-elim}
-use mathlib.Core.Bool.{Bool, true, false, cond}
-use mathlib.Core.List.{List, [], _∷_, map, foldl}
-use lib.Dec.{eqb, leb}
+use mathlib.Core.Logic.{⊎-elim}
+use mathlib.Core.Bool.{Bool, false, cond}
+use mathlib.Core.List.{List, foldl}
+use lib.Dec.{eqb}
 use lib.Ieee.{Float, nan}
-use lib.ListN.{length, getD, replicate, drop, length-map, length-replicate, getD-replicate, List·getD-eq-default}
+use lib.ListN.{length, getD, drop, length-replicate, getD-replicate, List·getD-eq-default}
 use lib.Seq.{ext-getD}
-use borrow.Author.Tests.{ne-eqb, eq-eqb, le-leb, lt-leb, leb-true, leb-false}
+use borrow.Author.Tests.{ne-eqb, eq-eqb}
 use Rattle.labels.specs.Regions.{inside, within, over, added, grow, regions, nothing, windows, Interval}
 use Rattle.labels.specs.Label.{roots, firsts, rank, labelled, areas, Found}
 use Rattle.labels.specs.Forest.{Forest}
@@ -20,10 +20,10 @@ use Rattle.labels.proofs.RankLaws.{rank-zero, rank-end}
 use Rattle.labels.proofs.OverLaws.{over-old, over-new, added-at, added-long}
 use Rattle.labels.proofs.RegionFacts.{map-at}
 use Rattle.labels.proofs.WindowLaws.{windows-step, windows-end}
-use Rattle.labels.specs.Bands.{Bands, Band, window, marks, part, joint}
-use Rattle.labels.specs.Numbering.{final, sizes, total, Counted, Numbering}
-use Rattle.labels.proofs.JointLaws.{roots-part, joint-bands, joint-long, length-part, part-in, part-out}
-use Rattle.labels.proofs.CountLaws.{iv-long, rs-long}
+use Rattle.labels.specs.Bands.{Bands, window, marks, part, joint}
+use Rattle.labels.specs.Numbering.{final, sizes, total, Counted}
+use Rattle.labels.proofs.JointLaws.{roots-part, length-part, part-in, part-out}
+use Rattle.labels.proofs.CountLaws.{iv-long}
 
 -- the counters hold the sizes, so their sums are the sizes' sums
 pub totals : (iv w rs c : List ℕ) → Forest (marks iv) w rs → Counted iv rs c (length w) → (j : ℕ) → j ≤ length c → total c j ≡ sizes iv rs j

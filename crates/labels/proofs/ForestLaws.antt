@@ -1,12 +1,11 @@
 -- Stores that keep a forest: a path halved, two areas made one. Assumes nothing.
-use Prim.Native.Nat.{ℕ, zero, suc, _+_, _-_, _≤_, _<_, _^_, min, max}
+use Prim.Native.Nat.{ℕ, zero, suc, _+_, _-_, _≤_, _<_, min, max}
 use native.Mathlib.Omega.{arith}
-use native.Mathlib.Nat.{not-suc-le-zero}
 use native.Mathlib.Numerals.{add-one}
 use mathlib.Core.Path.{_≡_, refl, sym, ap, _∙_, subst}
 use mathlib.Core.Logic.{_⊎_, inl, inr, ⊎-elim}
 use mathlib.Core.Bool.{Bool, true, false, cond}
-use mathlib.Core.List.{List, [], _∷_, map, foldl}
+use mathlib.Core.List.{List, [], _∷_, map}
 use lib.Dec.{eqb}
 use lib.ListN.{length, getD, set, length-set, length-map, List·getD-map}
 use lib.Seq.{getD-set-same, getD-set-other}
@@ -14,6 +13,7 @@ use borrow.Author.Tests.{eqb-true, eqb-false}
 use Rattle.arithmetic.proofs.SegLaws.{eq-or-ne}
 use Rattle.labels.specs.Label.{Link, swap, join}
 use Rattle.labels.specs.Forest.{Parent, Forest, Some, Root}
+use native.Mathlib.Nat.{not-suc-le-zero}
 
 pub in-length : (l : List Bool) (i : ℕ) → getD l i false ≡ true → i < length l
 in-length [] i e = absurd (no e)
@@ -22,6 +22,11 @@ in-length [] i e = absurd (no e)
     no q = let z : _≡_ {A = ℕ} 0 1 = cc in omega arith
 in-length (x ∷ l) zero e = omega arith
 in-length (x ∷ l) (suc i) e = omega (arith, in-length l i e)
+
+-- a number that is not 0
+pub some-pred : (k : ℕ) → 0 < k → (s : ℕ) × (k ≡ suc s)
+some-pred zero h = absurd (not-suc-le-zero h)
+some-pred (suc s) h = (s, refl)
 
 pub not-both : (b : Bool) → b ≡ true → b ≡ false → ⊥
 not-both b p q = let z : _≡_ {A = ℕ} 0 1 = cc in omega arith
@@ -247,9 +252,6 @@ some-after w w₂ s rs F = record { inside = s .inside; rs = rs; forest = F; sma
 
 pub gate-after : (inside : List Bool) (w rs w₂ rs₂ : List ℕ) → Forest inside w rs → Forest inside w₂ rs₂ → (g : ℕ) → 0 < getD w g 0 → 0 < getD w₂ g 0
 gate-after inside w rs w₂ rs₂ F F₂ g h = F₂ .parent g (gate-in inside w rs F g h) .some
-
-pub gate-below : (w : List ℕ) → Some w → (g : ℕ) → 0 < getD w g 0 → g < length w
-gate-below w s g h = omega (arith, s .forest .long, in-length (s .inside) g (gate-in (s .inside) w (s .rs) (s .forest) g h))
 
 -- ---- `unite`
 module _ (inside : List Bool) (w₁ w₂ rs : List ℕ) (a b r s : ℕ) (A : Root inside w₁ rs a r) (B : Root inside w₂ rs b s) where

@@ -1,5 +1,5 @@
 -- One gate counted and one gate labelled, in the slice. Assumes nothing.
-use Prim.Native.Nat.{ℕ, zero, suc, _+_, _-_, _≤_, _<_, _^_}
+use Prim.Native.Nat.{ℕ, _+_, _-_, _≤_, _<_, _^_}
 use native.Mathlib.Omega.{arith}
 use mathlib.Core.Path.{_≡_, refl, sym, ap, _∙_, subst}
 use mathlib.Core.List.{List}
@@ -10,7 +10,7 @@ use Rattle.labels.specs.Bands.{marks, Treed}
 use Rattle.labels.specs.Numbering.{Counted, Numbering, Ahead, Ready}
 use Rattle.labels.specs.Sheet.{Counts}
 use Rattle.labels.proofs.CountLaws.{band-of, outside-not-first, under-not-first, first-root, count-skip, count-first, number-out, number-first, number-under, ahead-band, ahead-some, ahead-fits, ahead-less, number-fits, count-bound}
-use Rattle.labels.proofs.SheetLaws.{bands-long, words-long, counts-long, band-at, word-at, count-at, store-band, store-count}
+use Rattle.labels.proofs.SheetLaws.{words-long, counts-long, band-at, word-at, count-at, store-band, store-count}
 
 module _ (u : List ℕ) (n : ℕ) (fits : n + n ≤ length u) (g : ℕ) (here : g < n) where
   in-words : g < length (seg u n n)

@@ -1,7 +1,7 @@
 -- The links within bands, and the roots of one band among the joint roots. Assumes nothing.
 use Prim.Native.Nat.{ℕ, zero, suc, _+_, _-_, _%_, _≤_, _<_, min, max}
 use native.Mathlib.Omega.{arith}
-use native.Mathlib.Nat.{not-suc-le-zero, zero-mod}
+use native.Mathlib.Nat.{zero-mod}
 use native.Mathlib.Numerals.{add-one}
 use mathlib.Core.Path.{_≡_, refl, sym, ap, _∙_, subst}
 use mathlib.Core.Logic.{_⊎_, inl, inr, ⊎-elim}
@@ -11,16 +11,16 @@ use Rattle.arithmetic.specs.Seq.{each, upto}
 use lib.Dec.{eqb, leb}
 use lib.ListN.{length, getD, length-map, List·getD-map, List·getD-eq-default}
 use lib.Seq.{ext-getD}
-use borrow.Author.Tests.{lt-leb, le-leb, leb-true, leb-false, eq-eqb, ne-eqb, eqb-true, eqb-false}
+use borrow.Author.Tests.{lt-leb, le-leb, leb-true, leb-false, eq-eqb, ne-eqb, eqb-true}
 use Rattle.labels.specs.Label.{Link, own, join, swap, above, before, linksAt, links, roots}
 use Rattle.labels.specs.Forest.{Forest}
 use Rattle.arithmetic.proofs.SeqLaws.{tab-at, tab-length}
 use Rattle.arithmetic.proofs.SegLaws.{eq-or-ne, lt-or-le}
-use Rattle.labels.proofs.ForestLaws.{not-both, join-at, swap-zero, join-cases, length-join}
-use Rattle.labels.proofs.OwnLaws.{own-in, own-out, length-own}
-use Rattle.labels.proofs.RegionFacts.{roots-long, long-joins}
+use Rattle.labels.proofs.ForestLaws.{join-at, swap-zero, some-pred}
+use Rattle.labels.proofs.OwnLaws.{own-in, own-out}
+use Rattle.labels.proofs.RegionFacts.{roots-long}
 use Rattle.labels.specs.Bands.{marks, aboveIn, beforeIn, linksIn, laterIn, joint, part}
-use Rattle.labels.proofs.BandLaws.{marks-in, marks-out, length-marks}
+use Rattle.labels.proofs.BandLaws.{marks-in}
 
 -- a gate that does not start a ray is not the first
 pub mod-pos : (g d : ℕ) → (g % d ≡ 0 → ⊥) → 1 ≤ g
@@ -162,18 +162,14 @@ module _ (iv : List ℕ) (j : ℕ) where
       y : ℕ
       y = getD R (l .b) 0
 
-      pred : (k : ℕ) → 0 < k → (s : ℕ) × (k ≡ suc s)
-      pred zero p = absurd (not-suc-le-zero p)
-      pred (suc s) p = (s, refl)
-
       from-b : x ≤ y → getD R i 0 ≡ y → x ≡ suc r → getD iv r 0 ≡ getD iv i 0
       from-b le q f =
-          let (s, k) = pred y (omega arith) in
+          let (s, k) = some-pred y (omega arith) in
           O (l .a) r f ∙ e ∙ sym (O (l .b) s k) ∙ O i s (q ∙ k)
 
       from-a : y ≤ x → getD R i 0 ≡ x → y ≡ suc r → getD iv r 0 ≡ getD iv i 0
       from-a le q f =
-          let (s, k) = pred x (omega arith) in
+          let (s, k) = some-pred x (omega arith) in
           O (l .b) r f ∙ sym e ∙ sym (O (l .a) s k) ∙ O i s (q ∙ k)
 
       order : (b : Bool) → leb x y ≡ b → getD R i 0 ≡ max x y → min x y ≡ suc r → getD iv r 0 ≡ getD iv i 0
@@ -347,10 +343,6 @@ joint-own gates iv = joint-bands gates iv (map (λ b. eqb b 1) iv) 0 (λ i. List
 -- and every gate of a band has one
 pub joint-some : (gates : ℕ) (iv : List ℕ) (i : ℕ) → (getD iv i 0 ≡ 0 → ⊥) → 0 < getD (joint gates iv) i 0
 joint-some gates iv = whole iv 0 gates (map (λ b. eqb b 1) iv) (λ i. List·getD-map (λ b. eqb b 1) iv i 0) (length-map iv (λ b. eqb b 1)) .some
-
-pub joint-long : (gates : ℕ) (iv : List ℕ) → length (joint gates iv) ≡ length iv
-unfolding joint
-joint-long gates iv = long-joins (laterIn gates iv 0) (own (marks iv)) ∙ length-own (marks iv) ∙ length-marks iv
 
 -- ---- part
 pub length-part : (iv R : List ℕ) (j : ℕ) → length (part iv R j) ≡ length iv

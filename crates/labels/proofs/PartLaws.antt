@@ -1,8 +1,7 @@
 -- One block of intervals in the slice: labels in the first n words, the block's own work after them. Assumes nothing.
-use Prim.Native.Nat.{ℕ, zero, suc, _+_, _-_, _≤_, _<_, _^_, min}
+use Prim.Native.Nat.{ℕ, suc, _+_, _-_, _≤_, _<_, _^_, min}
 use native.Mathlib.Omega.{arith}
-use native.Mathlib.Numerals.{add-one}
-use mathlib.Core.Path.{_≡_, refl, sym, ap, _∙_, subst}
+use mathlib.Core.Path.{_≡_, sym, ap, _∙_}
 use mathlib.Core.List.{List, _++_}
 use lib.Ieee.{Float}
 use lib.ListN.{length, getD, take, drop, replicate, length-take, length-drop, length-replicate}
@@ -15,8 +14,8 @@ use Rattle.labels.specs.Label.{Found}
 use Rattle.labels.specs.Regions.{over, added, nothing, regions}
 use Rattle.labels.specs.Sheet.{Same, Fitting, Block, Ample}
 use Rattle.labels.proofs.OverLaws.{added-at, added-long, added-number}
-use Rattle.labels.proofs.RegionFacts.{Regions, regions-are}
-use Rattle.labels.proofs.BlockLaws.{begin, next, rising-part, regions-long}
+use Rattle.labels.proofs.RegionFacts.{regions-are}
+use Rattle.labels.proofs.BlockLaws.{begin, next, rising-part}
 
 -- ---- one block: u at first, ys the part that was lent, x with the labels put over
 module _ (gates : ℕ) (vel : List Float) (mask : List ℕ) (limits : List Float) (u : List ℕ) (n : ℕ) (S : Same n vel mask) (A : Block gates limits u n) where

@@ -2,13 +2,13 @@
 use Prim.Native.Nat.{ℕ, zero, suc, _+_, _-_, _≤_, _<_}
 use native.Mathlib.Omega.{arith}
 use native.Mathlib.Nat.{not-suc-le-zero}
-use mathlib.Core.Path.{_≡_, refl, sym, ap, _∙_, subst}
-use mathlib.Core.Logic.{_⊎_, inl, inr, ⊎-elim}
+use mathlib.Core.Path.{_≡_, refl, ap, _∙_}
+use mathlib.Core.Logic.{⊎-elim}
 use mathlib.Core.Bool.{Bool, true, false, cond, _&&_}
-use mathlib.Core.List.{List, [], _∷_, _++_, map}
+use mathlib.Core.List.{List, [], _∷_}
 use lib.Dec.{eqb, leb}
 use lib.ListN.{length, getD}
-use borrow.Author.Tests.{le-leb, lt-leb, leb-true, ne-eqb, eq-eqb}
+use borrow.Author.Tests.{leb-false, le-leb, lt-leb, leb-true, ne-eqb, eq-eqb}
 use Rattle.arithmetic.specs.Seq.{upto, keep}
 use Rattle.labels.specs.Label.{rank, firsts}
 use Rattle.arithmetic.proofs.SegLaws.{eq-or-ne}
@@ -115,22 +115,27 @@ pub rank-le : (fs : List ℕ) (r : ℕ) → rank fs r ≤ length fs
 rank-le [] r = omega (arith, rank-nil r)
 rank-le (f ∷ fs) r = omega (arith, rank-cons f r fs, bit-le (leb f r), rank-le fs r)
 
-test-mono : (f r : ℕ) → bit (leb f r) ≤ bit (leb f (suc r))
+pub test-mono : (f r s : ℕ) → r ≤ s → bit (leb f r) ≤ bit (leb f s)
 unfolding bit
-test-mono f r = go (leb f r) refl
+test-mono f r s h = go (leb f r) (leb f s) refl refl
   where
-    go : (b : Bool) → leb f r ≡ b → bit b ≤ bit (leb f (suc r))
-    go true e = omega (arith, ap bit (le-leb f (suc r) (omega (arith, leb-true f r e))))
-    go false e = omega arith
+    go : (b c : Bool) → leb f r ≡ b → leb f s ≡ c → bit b ≤ bit c
+    go true true e k = omega arith
+    go true false e k = absurd (bad (leb-true f r e) (leb-false f s k))
+      where
+        bad : f ≤ r → s < f → ⊥
+        bad x y = omega arith
+    go false c e k = omega arith
 
-rank-mono : (l : List ℕ) (r : ℕ) → rank l r ≤ rank l (suc r)
-rank-mono [] r = omega (arith, rank-nil r, rank-nil (suc r))
-rank-mono (x ∷ l) r = omega (arith, rank-cons x r l, rank-cons x (suc r) l, test-mono x r, rank-mono l r)
+pub rank-mono : (fs : List ℕ) (r s : ℕ) → r ≤ s → rank fs r ≤ rank fs s
+unfolding rank keep
+rank-mono [] r s h = omega (arith, rank-nil r, rank-nil s)
+rank-mono (f ∷ fs) r s h = omega (arith, rank-cons f r fs, rank-cons f s fs, test-mono f r s h, rank-mono fs r s h)
 
 -- a list that holds 1 + r has more elements up to 1 + r than up to r
 pub rank-more : (l : List ℕ) (i r : ℕ) → i < length l → getD l i 0 ≡ suc r → rank l r < rank l (suc r)
 unfolding bit
 rank-more [] i r h e = absurd (not-suc-le-zero h)
 rank-more (x ∷ l) zero r h e =
-    omega (arith, rank-cons x r l, rank-cons x (suc r) l, rank-mono l r, ap bit (lt-leb x r (omega arith)), ap bit (le-leb x (suc r) (omega arith)))
-rank-more (x ∷ l) (suc i) r h e = omega (arith, rank-cons x r l, rank-cons x (suc r) l, test-mono x r, rank-more l i r (omega arith) e)
+    omega (arith, rank-cons x r l, rank-cons x (suc r) l, rank-mono l r (suc r) (omega arith), ap bit (lt-leb x r (omega arith)), ap bit (le-leb x (suc r) (omega arith)))
+rank-more (x ∷ l) (suc i) r h e = omega (arith, rank-cons x r l, rank-cons x (suc r) l, test-mono x r (suc r) (omega arith), rank-more l i r (omega arith) e)

@@ -2,20 +2,18 @@
 use Prim.Native.Nat.{ℕ, zero, suc, _+_, _-_, _≤_, _<_}
 use native.Mathlib.Omega.{arith}
 use native.Mathlib.Nat.{not-suc-le-zero}
-use mathlib.Core.Path.{_≡_, refl, sym, ap, _∙_, subst}
+use mathlib.Core.Path.{_≡_, refl, sym, ap, _∙_}
 use mathlib.Core.Logic.{_⊎_, inl, inr, ⊎-elim}
-use mathlib.Core.Bool.{Bool, true, false, cond, _&&_}
+use mathlib.Core.Bool.{Bool, true, false}
 use mathlib.Core.List.{List, [], _∷_, map, foldl}
-use lib.Dec.{eqb, leb}
 use lib.Ieee.{Float, nan, lt, le}
-use lib.ListN.{length, getD, replicate, length-map, length-replicate, getD-replicate, List·getD-map, List·getD-eq-default}
-use borrow.Author.Tests.{eqb-true, le-leb, lt-leb}
+use lib.ListN.{length, getD, replicate, length-replicate, getD-replicate, List·getD-eq-default}
 use Rattle.labels.specs.Label.{own, join, links, roots, firsts, rank, labelled, areas, Found, Link, swap}
 use Rattle.arithmetic.specs.Asked.{Rising}
 use Rattle.arithmetic.proofs.SeqLaws.{tab-at, tab-length}
 use Rattle.arithmetic.proofs.SegLaws.{lt-or-le, eq-or-ne}
-use Rattle.labels.specs.Regions.{inside, over, added, grow, regions, nothing, windows, windowsFrom, within, Interval}
-use Rattle.labels.proofs.ForestLaws.{join-at, length-join, swap-zero, not-both}
+use Rattle.labels.specs.Regions.{inside, over, added, grow, regions, nothing, windows, windowsFrom, within}
+use Rattle.labels.proofs.ForestLaws.{join-at, length-join, swap-zero}
 use Rattle.labels.proofs.OwnLaws.{own-out, length-own, within-from, within-to}
 use Rattle.labels.proofs.RankLaws.{rank-zero, rank-hit, rank-miss, rank-end, rank-le, rank-more}
 use Rattle.labels.proofs.OverLaws.{over-old, over-new, added-at, added-long}

@@ -1,22 +1,20 @@
 -- What the crates above use of the regions of a sweep, for limits that never fall. A gate is a place of the mask; interval j lies between limits j and j + 1. Assumes nothing.
-use Prim.Native.Nat.{ℕ, zero, suc, _+_, _-_, _≤_, _<_}
+use Prim.Native.Nat.{ℕ, zero, suc, _≤_, _<_}
 use native.Mathlib.Omega.{arith}
-use mathlib.Core.Path.{_≡_, refl, sym, ap, _∙_, subst}
-use mathlib.Core.Logic.{_⊎_, inl, inr, ⊎-elim}
+use mathlib.Core.Path.{_≡_, refl, sym}
+use mathlib.Core.Logic.{⊎-elim}
 use mathlib.Core.List.{List}
 use lib.Ieee.{Float, nan}
 use lib.ListN.{length, getD, List·getD-eq-default}
-use borrow.Author.Tests.{eqb-true}
 use Rattle.arithmetic.specs.Asked.{Rising}
 use Rattle.arithmetic.proofs.SegLaws.{lt-or-le}
-use Rattle.labels.specs.Label.{Found}
 use Rattle.labels.specs.Regions.{regions}
-use Rattle.labels.specs.Bands.{Bands}
-use Rattle.labels.proofs.RegionFacts.{Regions, regions-are}
+use Rattle.labels.proofs.RegionFacts.{regions-are}
 use Rattle.labels.proofs.BlockLaws.{regions-long}
-use Rattle.labels.proofs.Connected.{Joined}
 use Rattle.labels.proofs.Closed.{label-none, label-pos, same-label-joined, joined-same-label}
-use Rattle.labels.proofs.Ways.{Beside, Way, Lies, Banded, banded, in-sweep, band-lies, lies-band, joined-way, beside-joined}
+use Rattle.labels.proofs.Ways.{Beside, Way, Lies, banded, band-lies, lies-band, joined-way, beside-joined}
+use Rattle.labels.proofs.OwnLaws.{within-valid}
+use Rattle.labels.specs.Bands.{window}
 
 -- one label for each gate, for any limits
 pub labels-long : (gates : ℕ) (vel : List Float) (mask : List ℕ) (limits : List Float) → length ((regions gates vel mask limits) .labels) ≡ length mask
@@ -54,6 +52,12 @@ module _ (gates : ℕ) (vel : List Float) (mask : List ℕ) (limits : List Float
       go (suc j) e =
           let q = band-lies gates vel mask limits (banded vel mask limits rising .iv) (banded vel mask limits rising .are) i j e in
           (j, q .0, q .1)
+
+  -- and is valid
+  pub labelled-valid : (i : ℕ) → 0 < getD ((regions gates vel mask limits) .labels) i 0 → getD mask i 0 ≡ 1
+  labelled-valid i p =
+      let q = labelled-lies i p in
+      within-valid (window limits (q .0)) (getD vel i nan) (getD mask i 0) (q .2)
 
   -- gates of one label, not 0, are joined by a way of neighbouring gates that all lie in one interval
   pub one-label-joined : (i h : ℕ) → 0 < getD ((regions gates vel mask limits) .labels) i 0 → getD ((regions gates vel mask limits) .labels) h 0 ≡ getD ((regions gates vel mask limits) .labels) i 0

@@ -1,7 +1,7 @@
 -- The tally, from call to call: u at first, ys its counters cleared, v with the regions counted, zs the counters' starts. Assumes nothing.
-use Prim.Native.Nat.{ℕ, zero, suc, _+_, _-_, _≤_, _<_, _^_}
+use Prim.Native.Nat.{ℕ, _+_, _-_, _≤_, _<_, _^_}
 use native.Mathlib.Omega.{arith}
-use mathlib.Core.Path.{_≡_, refl, sym, ap, _∙_, subst}
+use mathlib.Core.Path.{_≡_, sym, ap, _∙_, subst}
 use mathlib.Core.List.{List}
 use lib.ListN.{length, getD, drop, replicate, length-replicate}
 use borrow.Rule.Slice.PartMut.{midOf, putMid}

@@ -1,24 +1,24 @@
 -- Ways from gate to neighbouring gate within one interval, and the bands of any gates. Assumes nothing.
-use Prim.Native.Nat.{ℕ, zero, suc, _+_, _-_, _%_, _≤_, _<_}
+use Prim.Native.Nat.{ℕ, zero, suc, _-_, _%_, _≤_, _<_}
 use native.Mathlib.Omega.{arith}
 use mathlib.Core.Path.{_≡_, refl, sym, ap, _∙_, subst}
 use mathlib.Core.Logic.{_⊎_, inl, inr, ⊎-elim}
 use mathlib.Core.Bool.{Bool, true, false, cond, not, _&&_}
 use mathlib.Core.List.{List, [], _∷_, _++_}
 use lib.Dec.{eqb, leb}
-use lib.Ieee.{Float, nan, lt, le}
+use lib.Ieee.{Float, nan}
 use lib.ListN.{length, getD, List·getD-eq-default}
-use borrow.Author.Tests.{eq-eqb, ne-eqb, eqb-true, eqb-false, leb-true}
+use borrow.Author.Tests.{eq-eqb, ne-eqb, eqb-true, leb-true}
 use Rattle.arithmetic.specs.Asked.{Rising}
 use Rattle.arithmetic.specs.Seq.{upto, tabulate, each}
 use Rattle.arithmetic.proofs.SeqLaws.{tab-at, tab-length}
 use Rattle.arithmetic.proofs.SegLaws.{eq-or-ne, lt-or-le}
 use Rattle.labels.specs.Label.{Link}
-use Rattle.labels.specs.Regions.{within, Interval}
+use Rattle.labels.specs.Regions.{within}
 use Rattle.labels.specs.Bands.{window, Band, Bands, aboveIn, beforeIn, linksIn, laterIn}
 use Rattle.labels.proofs.FloatOrder.{and-both, lt-not-le}
 use Rattle.labels.proofs.OwnLaws.{within-from, within-to}
-use Rattle.labels.proofs.BandLaws.{climbs}
+use Rattle.labels.proofs.BandLaws.{climbs, flag}
 use Rattle.labels.proofs.JointLaws.{above-one, before-one}
 use Rattle.labels.proofs.Connected.{In, here, there, Joined, stay, along, back, upto-in}
 
@@ -46,10 +46,6 @@ seek limits x m (suc k) = cond (within (window limits k) x m) (suc k) (seek limi
 pub one-interval : (limits : List Float) → Rising limits → (x : Float) (m j k : ℕ) → j < k → suc k < length limits → within (window limits j) x m ≡ true → within (window limits k) x m ≡ true → ⊥
 unfolding window
 one-interval limits R x m j k h l p q = lt-not-le x (getD limits k nan) (climbs limits R x (suc j) k h (omega arith) (within-to (window limits j) x m p)) (within-from (window limits k) x m q)
-
-flag : (b : Bool) → (b ≡ true → ⊥) → b ≡ false
-flag true n = absurd (n refl)
-flag false n = refl
 
 module _ (limits : List Float) (R : Rising limits) (x : Float) (m : ℕ) where
   sought : (k : ℕ) → k ≤ length limits - 1 → (seek limits x m k ≤ k) × ((j : ℕ) → j < k → within (window limits j) x m ≡ eqb (seek limits x m k) (suc j))

@@ -1,20 +1,20 @@
 -- The call from phase to phase, over plain values. Assumes nothing.
 use Prim.Native.Nat.{ℕ, suc, _+_, _-_, _≤_, _<_, _^_}
 use native.Mathlib.Omega.{arith}
-use mathlib.Core.Path.{_≡_, refl, sym, ap, _∙_, subst}
+use mathlib.Core.Path.{_≡_, sym, ap, _∙_, subst}
 use mathlib.Core.List.{List, foldl}
 use lib.Ieee.{Float}
 use lib.ListN.{length, getD, drop}
 use Rattle.arithmetic.specs.Asked.{Rising}
 use Rattle.arithmetic.specs.Seg.{seg}
-use Rattle.labels.specs.Label.{own, join, Found}
+use Rattle.labels.specs.Label.{own, join}
 use Rattle.labels.specs.Regions.{regions}
 use Rattle.labels.specs.Forest.{Forest}
 use Rattle.labels.specs.Bands.{Bands, marks, laterIn, joint, Treed}
 use Rattle.labels.specs.Numbering.{sizes, Tally, Ready, Numbering}
 use Rattle.labels.specs.Sheet.{Joins, Counts, Same, Fitting}
 use Rattle.labels.proofs.OwnLaws.{alone}
-use Rattle.labels.proofs.RegionFacts.{Regions, regions-are}
+use Rattle.labels.proofs.RegionFacts.{regions-are}
 use Rattle.labels.proofs.JointLaws.{joint-own}
 use Rattle.labels.proofs.FoldLaws.{number-is, by-bands, sizes-below, band-few}
 use Rattle.labels.proofs.SheetLaws.{words-long, counts-long}

@@ -1,5 +1,5 @@
 -- The intervals of limits, one after another. Assumes nothing.
-use Prim.Native.Nat.{ℕ, zero, suc, _+_, _-_, _≤_, _<_}
+use Prim.Native.Nat.{ℕ, zero, suc, _+_, _≤_, _<_}
 use native.Mathlib.Omega.{arith}
 use native.Mathlib.Nat.{not-suc-le-zero}
 use native.Mathlib.Numerals.{add-one}
@@ -7,7 +7,7 @@ use mathlib.Core.Path.{_≡_, refl, sym, ap, _∙_}
 use mathlib.Core.List.{List, [], _∷_}
 use lib.Ieee.{Float, nan}
 use lib.ListN.{length, getD, drop}
-use Rattle.labels.specs.Regions.{windows, windowsFrom, Interval}
+use Rattle.labels.specs.Regions.{windows, windowsFrom}
 
 pub windows-suc : (l : List Float) (j : ℕ) → suc j < length l → windows (drop j l) ≡ record { lower = getD l j nan; upper = getD l (suc j) nan } ∷ windows (drop (suc j) l)
 unfolding windows windowsFrom

@@ -1,22 +1,18 @@
+-- `labels::label::count` meets its contract. The invariant: each counter holds how many areas of its band have their first gate before g. Assumes nothing.
 use Rattle.labels.proofs.GateLaws.{counts-none, counts-both, counts-asks, counted-after}
-use Rattle.labels.proofs.SheetLaws.{words-long, counts-long}
-use Rattle.labels.proofs.CountLaws.{count-begin, count-bound}
+use Rattle.labels.proofs.CountLaws.{count-begin}
 use Rattle.labels.specs.Sheet.{Counts}
 use Rattle.labels.specs.Numbering.{Counted}
-use Rattle.labels.specs.Bands.{marks, Treed}
+use Rattle.labels.specs.Bands.{marks}
 use Rattle.labels.specs.Forest.{Forest}
 use Rattle.arithmetic.specs.Seg.{seg}
-use borrow.Author.Needs.{needs}
 use native.Mathlib.Omega.{arith}
-use mathlib.Core.Path.{_≡_, refl, sym, ap, _∙_, subst}
-use mathlib.Core.List.{List, [], _∷_, _++_}
-use Prim.Native.Nat.{ℕ, zero, suc, _+_, _-_, _*_, _≤_, _<_}
-use lib.ListN.{length, getD, set, take, drop, replicate, length-set}
+use mathlib.Core.Path.{_≡_, refl, _∙_, subst}
+use mathlib.Core.List.{List}
+use Prim.Native.Nat.{ℕ, _+_, _-_, _≤_}
+use lib.ListN.{length, drop}
 use Rattle.labels.proofs.label.count.Statement.{statement}
 use Rattle.labels.proofs.label.count.Tie as tie
-use Rattle.labels.proofs.label.count.Reads as reads
-use Rattle.labels.proofs.label.count.Lts as lts
-use Rattle.labels.proofs.label.count_gate.Reads as count-gate-reads
 
 abbrev Inv-loop : tie.InvT-loop
 Inv-loop u₀ n g₀ u g = (g ≤ n) × (length u ≡ length u₀) × Counts u₀ u n × ((rs : List ℕ) → Forest (marks (seg u₀ 0 n)) (seg u₀ n n) rs → Counted (seg u₀ 0 n) rs (drop (n + n) u) g)
@@ -24,28 +20,23 @@ Inv-loop u₀ n g₀ u g = (g ≤ n) × (length u ≡ length u₀) × Counts u�
 abbrev μ-loop : tie.MeasureT-loop
 μ-loop u₀ n g₀ u g = n - g
 
--- src/label.rt:148:5
 loop-holds : tie.Need-loop-holds Inv-loop μ-loop
 loop-holds c = let s = c .before in
     let a = s .args in
     (omega arith, refl, counts-none (a .u .now) (a .n), λ rs F. count-begin (seg (a .u .now) 0 (a .n)) rs (drop (a .n + a .n) (a .u .now)) (s .pre .1 .1))
 
--- src/label.rt:149:9
 count-gate-requires : tie.Need-count-gate-requires Inv-loop μ-loop
 count-gate-requires c κs = let s = c .before .before .before .before in
     let a = s .args in
     let l = c .before .before .loop in
     counts-asks (a .u .now) (l .u) (a .n) (s .pre .1 .0 .0) (l .inv .1) (l .inv .2) (s .pre .0) (s .pre .1 .0 .1) (l .g) (c .before .loop-test .taken) (l .inv .3)
 
--- src/label.rt:150:9
 add-g : tie.Need-add-g Inv-loop μ-loop
 add-g c = omega arith
 
--- src/label.rt:148:5
 loop-less : tie.Need-loop-less Inv-loop μ-loop
 loop-less c = omega arith
 
--- src/label.rt:148:5
 loop-again : tie.Need-loop-again Inv-loop μ-loop
 loop-again c = let s = c .before .before .before .before .before .before .before in
     let a = s .args in
@@ -53,11 +44,9 @@ loop-again c = let s = c .before .before .before .before .before .before .before
     let f = c .before .before .count-gate in
     (omega arith, f .kept .0 ∙ l .inv .1, counts-both (a .u .now) (l .u) (f .last .0) (a .n) (l .inv .2) (f .ensures .1), λ rs F. counted-after (a .u .now) (l .u) (f .last .0) (a .n) (l .inv .2) rs (l .g) (f .ensures .0) F (l .inv .3 rs F))
 
--- src/label.rt:140:1
 same-length : tie.Need-same-length Inv-loop μ-loop
 same-length c = c .before .loop .inv .1
 
--- src/label.rt:140:1
 returns : tie.Need-returns Inv-loop μ-loop
 returns c = let s = c .before .before .before in
     let a = s .args in

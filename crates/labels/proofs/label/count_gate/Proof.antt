@@ -1,15 +1,12 @@
+-- `labels::label::count_gate` meets its contract. Assumes nothing.
 use Rattle.labels.proofs.GateLaws.{band-some, count-in, count-fits, none-counted, later-counted, first-counted, first-counts, counts-none}
-use Rattle.arithmetic.specs.Seg.{seg}
 use native.Mathlib.Omega.{arith}
-use mathlib.Core.Path.{_≡_, refl, sym, ap, _∙_}
-use mathlib.Core.List.{List, [], _∷_, _++_}
-use Prim.Native.Nat.{ℕ, zero, suc, _+_, _-_, _*_, _≤_, _<_}
-use lib.ListN.{length, getD, set, take, drop, replicate, length-set}
+use mathlib.Core.Path.{_≡_}
+use Prim.Native.Nat.{_+_, _-_, _≤_, _<_}
+use lib.ListN.{length, getD}
 use borrow.Author.Needs.{needs}
 use Rattle.labels.proofs.label.count_gate.Statement.{statement}
 use Rattle.labels.proofs.label.count_gate.Tie as tie
-use Rattle.labels.proofs.label.count_gate.Reads as reads
-use Rattle.labels.proofs.label.count_gate.Lts as lts
 
 -- the band of a gate with a word, and the place of its counter
 some : (c : tie.Start) → (getD (c .args .u .now) (c .args .n + c .args .g) 0 ≡ 0 → ⊥) → 1 ≤ getD (c .args .u .now) (c .args .g) 0
@@ -18,89 +15,69 @@ some c = band-some (c .args .u .now) (c .args .n) (c .pre .1 .0 .1) (c .args .g)
 place : (c : tie.Start) → (getD (c .args .u .now) (c .args .n + c .args .g) 0 ≡ 0 → ⊥) → c .args .n + c .args .n + (getD (c .args .u .now) (c .args .g) 0 - 1) < length (c .args .u .now)
 place c = count-in (c .args .u .now) (c .args .n) (c .pre .1 .0 .1) (c .args .g) (c .pre .1 .0 .0) (c .pre .0) (c .pre .1 .0 .2)
 
--- src/label.rt:125:15
 add-v : tie.Need-add-v
 add-v c = search needs
 
--- src/label.rt:125:13
 mul-v : tie.Need-mul-v
 mul-v c = search needs
 
--- src/label.rt:125:13
 slice-read-v : tie.Need-slice-read-v
 slice-read-v c = search needs
 
--- src/label.rt:127:9
 returns : tie.Need-returns
 returns c = let s = c .before .before in
     let a = s .args in
     (none-counted (a .u .now) (a .n) (s .pre .1 .0 .1) (a .g) (s .pre .1 .0 .0) (s .pre .0) (s .pre .1 .0 .2) (c .if1 .taken), counts-none (a .u .now) (a .n))
 
--- src/label.rt:129:14
 sub-p : tie.Need-sub-p
 sub-p c = search needs
 
--- src/label.rt:129:13
 cast-p : tie.Need-cast-p
 cast-p c = omega (arith, c .before .slice-known .given (c .before .before .args .n + c .before .before .args .g))
 
--- src/label.rt:131:9
 returns-2 : tie.Need-returns-2
 returns-2 c = let s = c .before .before .before in
     let a = s .args in
     (later-counted (a .u .now) (a .n) (s .pre .1 .0 .1) (a .g) (s .pre .1 .0 .0) (s .pre .0) (s .pre .1 .0 .2) (c .before .if1 .left) (c .if2 .taken), counts-none (a .u .now) (a .n))
 
--- src/label.rt:133:14
 mul-b : tie.Need-mul-b
 mul-b c = search needs
 
--- src/label.rt:133:14
 slice-read-b : tie.Need-slice-read-b
 slice-read-b c = search needs
 
--- src/label.rt:133:14
 sub-b : tie.Need-sub-b
 sub-b c = some (c .before .before .before .before) (c .before .before .if1 .left)
 
--- src/label.rt:133:13
 cast-b : tie.Need-cast-b
 cast-b c = omega (arith, place (c .before .before .before .before) (c .before .before .if1 .left))
 
--- src/label.rt:134:14
 add-at : tie.Need-add-at
 add-at c = search needs
 
--- src/label.rt:134:14
 add-at-2 : tie.Need-add-at-2
 add-at-2 c = omega (arith, place (c .before .before .before .before) (c .before .before .if1 .left))
 
--- src/label.rt:135:13
 mul-k : tie.Need-mul-k
 mul-k c = omega (arith, place (c .before .before .before .before) (c .before .before .if1 .left))
 
--- src/label.rt:135:13
 slice-read-k : tie.Need-slice-read-k
 slice-read-k c = place (c .before .before .before .before .before) (c .before .before .before .if1 .left)
 
--- src/label.rt:136:13
 add-u : tie.Need-add-u
 add-u c = let s = c .before .before .before .before .before in
     let a = s .args in
     omega (arith, count-fits (a .u .now) (a .n) (s .pre .1 .0 .1) (a .g) (s .pre .1 .0 .0) (s .pre .0) (s .pre .1 .0 .2) (s .pre .1 .1) (c .before .before .before .if1 .left))
 
--- src/label.rt:136:5
 mul-u : tie.Need-mul-u
 mul-u c = omega (arith, place (c .before .before .before .before .before) (c .before .before .before .if1 .left))
 
--- src/label.rt:136:5
 slice-write-u : tie.Need-slice-write-u
 slice-write-u c = place (c .before .before .before .before .before) (c .before .before .before .if1 .left)
 
--- src/label.rt:118:1
 same-length : tie.Need-same-length
 same-length c = search needs
 
--- src/label.rt:118:1
 returns-3 : tie.Need-returns-3
 returns-3 c = let s = c .before .before .before .before .before in
     let a = s .args in

@@ -1,16 +1,14 @@
-use borrow.Author.Needs.{needs}
+-- `labels::label::find` meets its contract. The invariant: p is the word of gate x, and gate x is of the area of the gate asked for. Assumes nothing.
 use native.Mathlib.Omega.{arith}
-use mathlib.Core.Path.{_≡_, refl, sym, ap, _∙_}
-use mathlib.Core.List.{List, [], _∷_, _++_}
-use Prim.Native.Nat.{ℕ, zero, suc, _+_, _-_, _*_, _≤_, _<_, _^_}
-use lib.ListN.{length, getD, set, take, drop, replicate, length-set}
-use mathlib.Core.Bool.{Bool, true, false}
-use Rattle.labels.specs.Forest.{Forest, Some, Root}
+use mathlib.Core.Path.{_≡_, refl, sym, _∙_}
+use mathlib.Core.List.{List}
+use Prim.Native.Nat.{ℕ, suc, _+_, _-_, _<_, _^_}
+use lib.ListN.{length, getD, length-set}
+use mathlib.Core.Bool.{Bool}
+use Rattle.labels.specs.Forest.{Forest}
 use Rattle.labels.proofs.ForestLaws.{Turn, turn, gate-in, in-length, At, next, found}
 use Rattle.labels.proofs.label.find.Statement.{statement}
 use Rattle.labels.proofs.label.find.Tie as tie
-use Rattle.labels.proofs.label.find.Reads as reads
-use Rattle.labels.proofs.label.find.Lts as lts
 
 abbrev Inv-loop : tie.InvT-loop
 Inv-loop w₀ start x₀ p₀ w x p = (p ≡ getD w x 0) × ((inside : List Bool) (rs : List ℕ) → Forest inside w₀ rs → At inside w rs start x)

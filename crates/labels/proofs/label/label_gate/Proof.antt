@@ -1,15 +1,12 @@
+-- `labels::label::label_gate` meets its contract. Assumes nothing.
 use Rattle.labels.proofs.GateLaws.{ahead-here, next-some, next-in, next-fits, next-less, none-labelled, first-labelled, later-labelled, first-words, later-words}
-use Rattle.arithmetic.specs.Seg.{seg}
 use native.Mathlib.Omega.{arith}
-use mathlib.Core.Path.{_≡_, refl, sym, ap, _∙_}
-use mathlib.Core.List.{List, [], _∷_, _++_}
-use Prim.Native.Nat.{ℕ, zero, suc, _+_, _-_, _*_, _≤_, _<_}
-use lib.ListN.{length, getD, set, take, drop, replicate, length-set}
+use mathlib.Core.Path.{_≡_, refl}
+use Prim.Native.Nat.{_+_, _-_, _≤_, _<_}
+use lib.ListN.{length, getD, length-set}
 use borrow.Author.Needs.{needs}
 use Rattle.labels.proofs.label.label_gate.Statement.{statement}
 use Rattle.labels.proofs.label.label_gate.Tie as tie
-use Rattle.labels.proofs.label.label_gate.Reads as reads
-use Rattle.labels.proofs.label.label_gate.Lts as lts
 
 gate : (c : tie.Start) → c .args .g < c .args .n
 gate c = ahead-here (c .args .u .now) (c .args .n) (c .pre .0) (c .args .g) (c .pre .1)
@@ -24,118 +21,91 @@ place c = next-in (c .args .u .now) (c .args .n) (c .pre .0) (c .args .g) (c .pr
 less : (c : tie.Start) → (getD (c .args .u .now) (c .args .n + c .args .g) 0 ≡ 0 → ⊥) → (getD (c .args .u .now) (c .args .n + c .args .g) 0 - 1 ≡ c .args .g → ⊥) → getD (c .args .u .now) (c .args .n + c .args .g) 0 - 1 < c .args .g
 less c = next-less (c .args .u .now) (c .args .n) (c .pre .0) (c .args .g) (c .pre .1)
 
--- src/label.rt:178:15
 add-v : tie.Need-add-v
 add-v c = search needs
 
--- src/label.rt:178:13
 mul-v : tie.Need-mul-v
 mul-v c = search needs
 
--- src/label.rt:178:13
 slice-read-v : tie.Need-slice-read-v
 slice-read-v c = omega (arith, gate (c .before))
 
--- src/label.rt:180:9
 returns : tie.Need-returns
 returns c = let s = c .before .before in
     let a = s .args in
     (λ iv rs c₀ F N. none-labelled (a .u .now) (a .n) (s .pre .0) (a .g) (s .pre .1) iv rs c₀ F N (c .if1 .taken), refl)
 
--- src/label.rt:182:14
 sub-p : tie.Need-sub-p
 sub-p c = search needs
 
--- src/label.rt:182:13
 cast-p : tie.Need-cast-p
 cast-p c = omega (arith, c .before .slice-known .given (c .before .before .args .n + c .before .before .args .g))
 
--- src/label.rt:184:18
 mul-b : tie.Need-mul-b
 mul-b c = search needs
 
--- src/label.rt:184:18
 slice-read-b : tie.Need-slice-read-b
 slice-read-b c = omega (arith, gate (c .before .before .before .before), c .before .before .before .before .pre .0)
 
--- src/label.rt:184:18
 sub-b : tie.Need-sub-b
 sub-b c = some (c .before .before .before .before) (c .before .before .if1 .left)
 
--- src/label.rt:184:17
 cast-b : tie.Need-cast-b
 cast-b c = omega (arith, place (c .before .before .before .before) (c .before .before .if1 .left))
 
--- src/label.rt:185:18
 add-at : tie.Need-add-at
 add-at c = search needs
 
--- src/label.rt:185:18
 add-at-2 : tie.Need-add-at-2
 add-at-2 c = omega (arith, place (c .before .before .before .before) (c .before .before .if1 .left))
 
--- src/label.rt:186:17
 mul-k : tie.Need-mul-k
 mul-k c = omega (arith, place (c .before .before .before .before) (c .before .before .if1 .left))
 
--- src/label.rt:186:17
 slice-read-k : tie.Need-slice-read-k
 slice-read-k c = place (c .before .before .before .before .before) (c .before .before .before .if1 .left)
 
--- src/label.rt:186:17
 add-k : tie.Need-add-k
 add-k c = let s = c .before .before .before .before .before in
     let a = s .args in
     omega (arith, next-fits (a .u .now) (a .n) (s .pre .0) (a .g) (s .pre .1) (c .before .before .before .if1 .left))
 
--- src/label.rt:187:9
 mul-u : tie.Need-mul-u
 mul-u c = omega (arith, place (c .before .before .before .before .before) (c .before .before .before .if1 .left))
 
--- src/label.rt:187:9
 slice-write-u : tie.Need-slice-write-u
 slice-write-u c = place (c .before .before .before .before .before) (c .before .before .before .if1 .left)
 
--- src/label.rt:188:9
 mul-u-2 : tie.Need-mul-u-2
 mul-u-2 c = search needs
 
--- src/label.rt:188:9
 slice-write-u-2 : tie.Need-slice-write-u-2
 slice-write-u-2 c = let a = c .before .before .before .before .before .args in
     omega (arith, gate (c .before .before .before .before .before), c .before .before .before .before .before .pre .0, length-set (a .u .now) (a .n + a .n + (getD (a .u .now) (a .g) 0 - 1)) (getD (a .u .now) (a .n + a .n + (getD (a .u .now) (a .g) 0 - 1)) 0 + 1))
 
--- src/label.rt:189:9
 same-length : tie.Need-same-length
 same-length c = search needs
 
--- src/label.rt:189:9
 returns-2 : tie.Need-returns-2
 returns-2 c = let s = c .before .before .before .before .before in
     let a = s .args in
     (λ iv rs c₀ F N. first-labelled (a .u .now) (a .n) (s .pre .0) (a .g) (s .pre .1) iv rs c₀ F N (c .before .before .before .if1 .left) (c .before .before .if2 .taken), first-words (a .u .now) (a .n) (s .pre .0) (a .g) (s .pre .1) (getD (a .u .now) (a .n + a .n + (getD (a .u .now) (a .g) 0 - 1)) 0 + 1))
 
--- src/label.rt:191:12
 mul-u-3 : tie.Need-mul-u-3
 mul-u-3 c = omega (arith, gate (c .before .before .before), less (c .before .before .before) (c .before .if1 .left) (c .if2 .left))
 
--- src/label.rt:191:12
 slice-read-u : tie.Need-slice-read-u
 slice-read-u c = omega (arith, gate (c .before .before .before .before), c .before .before .before .before .pre .0, less (c .before .before .before .before) (c .before .before .if1 .left) (c .before .if2 .left))
 
--- src/label.rt:191:5
 mul-u-4 : tie.Need-mul-u-4
 mul-u-4 c = search needs
 
--- src/label.rt:191:5
 slice-write-u-3 : tie.Need-slice-write-u-3
 slice-write-u-3 c = omega (arith, gate (c .before .before .before .before), c .before .before .before .before .pre .0)
 
--- src/label.rt:172:1
 same-length-2 : tie.Need-same-length-2
 same-length-2 c = search needs
 
--- src/label.rt:172:1
 returns-3 : tie.Need-returns-3
 returns-3 c = let s = c .before .before .before .before in
     let a = s .args in

@@ -1,22 +1,17 @@
+-- `labels::label::link_all` meets its contract. The invariant: the joins that are left from gate g on give what all joins give from the first. Assumes nothing.
 use Rattle.labels.proofs.SheetLaws.{bands-long, words-long, joins-none, joins-both, still-treed, after}
 use Rattle.labels.proofs.JointLaws.{Joining, step, end}
 use Rattle.arithmetic.specs.Seg.{seg}
-use Rattle.labels.specs.Bands.{marks, linksIn, laterIn}
+use Rattle.labels.specs.Bands.{marks, linksIn}
 use Rattle.labels.specs.Sheet.{Joins}
 use Rattle.labels.specs.Forest.{Forest}
-use Rattle.labels.specs.Label.{join}
-use mathlib.Core.List.{foldl}
-use borrow.Author.Needs.{needs}
 use native.Mathlib.Omega.{arith}
-use mathlib.Core.Path.{_≡_, refl, sym, ap, _∙_}
-use mathlib.Core.List.{List, [], _∷_, _++_}
-use Prim.Native.Nat.{ℕ, zero, suc, _+_, _-_, _*_, _≤_, _<_}
-use lib.ListN.{length, getD, set, take, drop, replicate, length-set}
+use mathlib.Core.Path.{_≡_, refl, _∙_}
+use mathlib.Core.List.{List}
+use Prim.Native.Nat.{ℕ, _-_, _≤_}
+use lib.ListN.{length}
 use Rattle.labels.proofs.label.link_all.Statement.{statement}
 use Rattle.labels.proofs.label.link_all.Tie as tie
-use Rattle.labels.proofs.label.link_all.Reads as reads
-use Rattle.labels.proofs.label.link_all.Lts as lts
-use Rattle.labels.proofs.label.link.Reads as link-reads
 
 abbrev Inv-loop : tie.InvT-loop
 Inv-loop u₀ n gates m g₀ u g = (g ≤ n) × (length u ≡ length u₀) × Joins u₀ u n × ((rs : List ℕ) → Forest (marks (seg u₀ 0 n)) (seg u₀ n n) rs → Joining gates (seg u₀ 0 n) rs (seg u n n) g)
@@ -24,15 +19,12 @@ Inv-loop u₀ n gates m g₀ u g = (g ≤ n) × (length u ≡ length u₀) × Jo
 abbrev μ-loop : tie.MeasureT-loop
 μ-loop u₀ n gates m g₀ u g = n - g
 
--- src/label.rt:109:13
 cast-m : tie.Need-cast-m Inv-loop μ-loop
 cast-m c = omega (arith, words-long (c .before .args .u .now) (c .before .args .n) (c .before .pre .1 .0), c .before .pre .0 .small)
 
--- src/label.rt:111:5
 loop-holds : tie.Need-loop-holds Inv-loop μ-loop
 loop-holds c = (omega arith, refl, joins-none (c .before .args .u .now) (c .before .args .n), λ rs F. record { rs = rs; forest = F; left = refl })
 
--- src/label.rt:112:9
 link-requires : tie.Need-link-requires Inv-loop μ-loop
 link-requires c κs = let s = c .before .before .before .before in
     let a = s .args in
@@ -40,15 +32,12 @@ link-requires c κs = let s = c .before .before .before .before in
     let J = l .inv .3 (s .pre .0 .rs) (s .pre .0 .forest) in
     (still-treed (a .u .now) (l .u) (a .n) (l .inv .2) (s .pre .0) (J .rs) (J .forest), ((omega (arith, l .inv .1), s .pre .1 .1 (omega arith)), omega arith))
 
--- src/label.rt:113:9
 add-g : tie.Need-add-g Inv-loop μ-loop
 add-g c = omega (arith, words-long (c .before .before .before .before .before .before .before .args .u .now) (c .before .before .before .before .before .before .before .args .n) (c .before .before .before .before .before .before .before .pre .1 .0), c .before .before .before .before .before .before .before .pre .0 .small)
 
--- src/label.rt:111:5
 loop-less : tie.Need-loop-less Inv-loop μ-loop
 loop-less c = omega arith
 
--- src/label.rt:111:5
 loop-again : tie.Need-loop-again Inv-loop μ-loop
 loop-again c = let l = c .before .before .before .before .before .loop in
     let s = c .before .before .before .before .before .before .before in
@@ -62,11 +51,9 @@ loop-again c = let l = c .before .before .before .before .before .loop in
           step (a .gates) (seg (a .u .now) 0 (a .n)) rs (seg (l .u) (a .n) (a .n)) (seg (f .last .0) (a .n) (a .n)) (l .g) (omega (arith, bands-long (a .u .now) (a .n) (s .pre .1 .0))) J (after (a .u .now) (l .u) (a .n) (l .inv .2) (f .last .0) (J .rs) (λ b. linksIn (a .gates) b (l .g)) (f .ensures .0) (J .forest)),
     )
 
--- src/label.rt:103:1
 same-length : tie.Need-same-length Inv-loop μ-loop
 same-length c = c .before .loop .inv .1
 
--- src/label.rt:103:1
 returns : tie.Need-returns Inv-loop μ-loop
 returns c = let l = c .before .loop in
     let s = c .before .before .before in

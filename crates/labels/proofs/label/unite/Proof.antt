@@ -1,17 +1,13 @@
-use borrow.Author.Needs.{needs}
+-- `labels::label::unite` meets its contract. Assumes nothing.
 use native.Mathlib.Omega.{arith}
-use mathlib.Core.Path.{_≡_, refl, sym, ap, _∙_}
-use mathlib.Core.Bool.{Bool, true, false}
-use mathlib.Core.List.{List, [], _∷_, _++_}
-use Prim.Native.Nat.{ℕ, zero, suc, _+_, _-_, _*_, _≤_, _<_, _^_}
-use lib.ListN.{length, getD, set, take, drop, replicate, length-set}
-use Rattle.labels.specs.Forest.{Forest, Some, Root}
+use mathlib.Core.Path.{sym, _∙_}
+use mathlib.Core.List.{List}
+use Prim.Native.Nat.{ℕ, _+_, _<_, _^_}
+use lib.ListN.{length, length-set}
+use Rattle.labels.specs.Forest.{Root}
 use Rattle.labels.proofs.ForestLaws.{some-after, gate-after, r-below, s-below, united-left, united-right}
 use Rattle.labels.proofs.label.unite.Statement.{statement}
 use Rattle.labels.proofs.label.unite.Tie as tie
-use Rattle.labels.proofs.label.unite.Reads as reads
-use Rattle.labels.proofs.label.unite.Lts as lts
-use Rattle.labels.proofs.label.find.Reads as find-reads
 
 -- the two roots, for the forest that is there
 one : (c : tie.After-find) → Root (c .before .before .before .pre .0 .inside) (c .find .last .0) (c .before .before .before .pre .0 .rs) (c .before .before .before .args .a) (c .find .result)

@@ -1,36 +1,25 @@
+-- `labels::regions::at_once` meets its contract. Assumes nothing.
 use Rattle.labels.proofs.WholeLaws.{tally-asks, number-asks, whole}
 use Rattle.labels.specs.Sheet.{Fitting}
-use Rattle.arithmetic.specs.Seg.{seg}
 use native.Mathlib.Omega.{arith}
-use mathlib.Core.Path.{_≡_, refl, sym, ap, _∙_}
-use mathlib.Core.List.{List, [], _∷_, _++_}
-use Prim.Native.Nat.{ℕ, zero, suc, _+_, _-_, _*_, _≤_, _<_}
-use lib.ListN.{length, getD, set, take, drop, replicate, length-set}
+use mathlib.Core.Path.{_∙_}
 use borrow.Author.Needs.{needs}
 use Rattle.labels.proofs.regions.at_once.Statement.{statement}
 use Rattle.labels.proofs.regions.at_once.Tie as tie
-use Rattle.labels.proofs.regions.at_once.Reads as reads
-use Rattle.labels.proofs.regions.at_once.Lts as lts
-use Rattle.labels.proofs.label.number.Reads as number-reads
-use Rattle.labels.proofs.regions.prepare.Reads as prepare-reads
-use Rattle.labels.proofs.regions.tally.Reads as tally-reads
 
 -- the slice keeps its length, so it fits still
 same-fitting : (c : tie.After-prepare) → Fitting (c .before .before .before .before .before .before .args .gates) (c .before .before .before .before .before .before .args .limits .now) (c .prepare .last .1 .1 .1 .1 .0) (c .before .before .before .before .before .before .args .n)
 same-fitting c = let A = c .before .before .before .before .before .before .pre .1 in record { some-gates = A .some-gates; rising = A .rising; few-limits = A .few-limits; long = c .prepare .kept .1 .1 .1 .1 .0 ∙ A .long }
 
--- src/regions.rt:149:5
 prepare-requires : tie.Need-prepare-requires
 prepare-requires c κs = search needs
 
--- src/regions.rt:150:9
 tally-requires : tie.Need-tally-requires
 tally-requires c κs = let s = c .before .before .before .before .before .before .before .before .before in
     let a = s .args in
     let f = c .before .before .before .prepare in
     (omega (arith, f .kept .1 .1 .1 .1 .0, s .pre .1 .long), tally-asks (a .gates) (a .velocity .now) (a .valid .now) (a .limits .now) (f .last .1 .1 .1 .1 .0) (a .n) (s .pre .0) (same-fitting (c .before .before .before)) (f .ensures .0) (f .ensures .1))
 
--- src/regions.rt:151:5
 number-requires : tie.Need-number-requires
 number-requires c κs = let s = c .before .before .before .before .before .before .before .before .before .before .before .before .before in
     let a = s .args in
@@ -38,11 +27,9 @@ number-requires c κs = let s = c .before .before .before .before .before .befor
     let k = c .before .before .before .tally in
     number-asks (a .gates) (a .velocity .now) (a .valid .now) (a .limits .now) (f .last .1 .1 .1 .1 .0) (a .n) (s .pre .0) (same-fitting (c .before .before .before .before .before .before .before)) (f .ensures .0) (f .ensures .1) (k .last .0) (k .kept .0) (k .ensures .1) (k .result) (k .ensures .0)
 
--- src/regions.rt:137:1
 same-length : tie.Need-same-length
 same-length c = search needs
 
--- src/regions.rt:137:1
 returns : tie.Need-returns
 returns c = let s = c .before .before .before .before .before .before .before .before .before .before .before .before .before .before .before .before in
     let a = s .args in

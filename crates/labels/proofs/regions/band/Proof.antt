@@ -1,20 +1,13 @@
+-- `labels::regions::band` meets its contract. The invariant: no interval below lo and none from hi on holds the velocity. Assumes nothing.
 use borrow.Author.Needs.{needs}
 use native.Mathlib.Omega.{arith}
-use mathlib.Core.Path.{_≡_, refl, sym, ap, _∙_}
-use mathlib.Core.List.{List, [], _∷_, _++_}
-use Prim.Native.Nat.{ℕ, zero, suc, _+_, _-_, _*_, _/_, _≤_, _<_}
-use lib.ListN.{length, getD, set, take, drop, replicate, length-set}
+use mathlib.Core.Path.{refl, sym, ap, _∙_}
+use Prim.Native.Nat.{_+_, _-_, _/_}
+use lib.ListN.{length, getD}
 use lib.Ieee.{Float, nan, lt}
-use mathlib.Core.Bool.{true, false}
-use Rattle.labels.specs.Regions.{within, Interval}
-use Rattle.labels.specs.Bands.{Band}
 use Rattle.labels.proofs.BandLaws.{Search, start, take-low, take-high, found, missed, few-limits, masked}
 use Rattle.labels.proofs.regions.band.Statement.{statement}
 use Rattle.labels.proofs.regions.band.Tie as tie
-use Rattle.labels.proofs.regions.band.Reads as reads
-use Rattle.labels.proofs.regions.band.Lts as lts
-use Rattle.labels.proofs.regions.holds.Reads as holds-reads
-use Rattle.std.proofs.num.f32_to_f64_with_nan.Reads as f32-to-f64-with-nan-reads
 
 abbrev Inv-loop : tie.InvT-loop
 Inv-loop limits x m n v lo₀ hi₀ lo hi = Search limits x m lo hi
@@ -22,100 +15,78 @@ Inv-loop limits x m n v lo₀ hi₀ lo hi = Search limits x m lo hi
 abbrev μ-loop : tie.MeasureT-loop
 μ-loop limits x m n v lo₀ hi₀ lo hi = hi - lo
 
--- src/lib.rt:19:9
 returns : tie.Need-returns Inv-loop μ-loop
 returns c = few-limits (c .before .before .args .limits .now) (c .before .before .args .x) (c .before .before .args .m) (c .if1 .taken)
 
--- src/lib.rt:22:9
 returns-2 : tie.Need-returns-2 Inv-loop μ-loop
 returns-2 c = masked (c .before .before .before .args .limits .now) (c .before .before .before .args .x) (c .before .before .before .args .m) (c .if2 .taken)
 
--- src/lib.rt:24:9
 f32-to-f64-with-nan-requires : tie.Need-f32-to-f64-with-nan-requires Inv-loop μ-loop
 f32-to-f64-with-nan-requires c κs = search needs
 
--- src/lib.rt:26:18
 sub-hi : tie.Need-sub-hi Inv-loop μ-loop
 sub-hi c = omega arith
 
--- src/lib.rt:27:5
 loop-holds : tie.Need-loop-holds Inv-loop μ-loop
 loop-holds c = start (c .before .before .before .before .args .limits .now) (c .before .before .before .before .pre .0) (c .before .before .before .before .args .x) (c .before .before .before .before .args .m) (length (c .before .before .before .before .args .limits .now)) refl (c .before .before .if1 .left)
 
--- src/lib.rt:27:11
 add-loop : tie.Need-add-loop Inv-loop μ-loop
 add-loop c = omega arith
 
--- src/lib.rt:28:25
 sub-mid : tie.Need-sub-mid Inv-loop μ-loop
 sub-mid c = omega arith
 
--- src/lib.rt:28:19
 add-mid : tie.Need-add-mid Inv-loop μ-loop
 add-mid c = omega arith
 
--- src/lib.rt:29:16
 mul-if3 : tie.Need-mul-if3 Inv-loop μ-loop
 mul-if3 c = omega arith
 
--- src/lib.rt:29:16
 shared-slice-read-if3 : tie.Need-shared-slice-read-if3 Inv-loop μ-loop
 shared-slice-read-if3 c = omega arith
 
--- src/lib.rt:27:5
 loop-less : tie.Need-loop-less Inv-loop μ-loop
 loop-less c = omega arith
 
--- src/lib.rt:27:5
 loop-again : tie.Need-loop-again Inv-loop μ-loop
 loop-again c =
     let s = c .before .before .before .before .before .before .before .before in
     let l = c .before .before .before .loop in
     take-low (s .args .limits .now) (s .pre .0) (s .args .x) (s .args .m) (l .lo) (l .lo + (l .hi - l .lo) / 2) (l .hi) (omega arith) (omega arith) (l .inv) (ap (λ (y : Float). lt y (getD (s .args .limits .now) (l .lo + (l .hi - l .lo) / 2) nan)) (sym (c .before .before .before .before .f32-to-f64-with-nan .ensures)) ∙ c .if3 .taken)
 
--- src/lib.rt:27:5
 loop-less-2 : tie.Need-loop-less-2 Inv-loop μ-loop
 loop-less-2 c = omega arith
 
--- src/lib.rt:27:5
 loop-again-2 : tie.Need-loop-again-2 Inv-loop μ-loop
 loop-again-2 c =
     let s = c .before .before .before .before .before .before .before .before in
     let l = c .before .before .before .loop in
     take-high (s .args .limits .now) (s .pre .0) (s .args .x) (s .args .m) (l .lo) (l .lo + (l .hi - l .lo) / 2) (l .hi) (omega arith) (omega arith) (l .inv) (ap (λ (y : Float). lt y (getD (s .args .limits .now) (l .lo + (l .hi - l .lo) / 2) nan)) (sym (c .before .before .before .before .f32-to-f64-with-nan .ensures)) ∙ c .if3 .left)
 
--- src/lib.rt:35:13
 mul-a : tie.Need-mul-a Inv-loop μ-loop
 mul-a c = omega arith
 
--- src/lib.rt:35:13
 shared-slice-read-a : tie.Need-shared-slice-read-a Inv-loop μ-loop
 shared-slice-read-a c = omega arith
 
--- src/lib.rt:36:13
 mul-b : tie.Need-mul-b Inv-loop μ-loop
 mul-b c = omega arith
 
--- src/lib.rt:36:13
 shared-slice-read-b : tie.Need-shared-slice-read-b Inv-loop μ-loop
 shared-slice-read-b c = omega arith
 
--- src/lib.rt:37:8
 holds-requires : tie.Need-holds-requires Inv-loop μ-loop
 holds-requires c κs = search needs
 
--- src/lib.rt:38:16
 cast-result : tie.Need-cast-result Inv-loop μ-loop
 cast-result c = omega (arith, c .before .before .before .before .before .loop .inv .inside, c .before .before .before .before .before .before .before .before .before .before .pre .1)
 
--- src/lib.rt:38:9
 returns-3 : tie.Need-returns-3 Inv-loop μ-loop
 returns-3 c =
     let s = c .before .before .before .before .before .before .before .before .before .before in
     let l = c .before .before .before .before .before .loop in
     found (s .args .limits .now) (s .pre .0) (s .args .x) (s .args .m) (l .lo) (l .hi) (l .inv) (c .before .before .before .before .loop-test .left) (sym (c .before .holds .ensures) ∙ c .if4 .taken)
 
--- src/lib.rt:12:1
 returns-4 : tie.Need-returns-4 Inv-loop μ-loop
 returns-4 c =
     let s = c .before .before .before .before .before .before .before .before .before .before in

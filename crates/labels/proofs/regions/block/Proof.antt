@@ -1,75 +1,54 @@
+-- `labels::regions::block` meets its contract. Assumes nothing.
 use Rattle.labels.proofs.PartLaws.{part-asks, over-asks, last-fits, block-found}
-use Rattle.arithmetic.specs.Seg.{seg}
 use native.Mathlib.Omega.{arith}
-use mathlib.Core.Path.{_≡_, refl, sym, ap, _∙_}
-use mathlib.Core.List.{List, [], _∷_, _++_}
-use Prim.Native.Nat.{ℕ, zero, suc, _+_, _-_, _*_, _≤_, _<_}
-use lib.ListN.{length, getD, set, take, drop, replicate, length-set}
 use borrow.Author.Needs.{needs}
 use Rattle.labels.proofs.regions.block.Statement.{statement}
 use Rattle.labels.proofs.regions.block.Tie as tie
-use Rattle.labels.proofs.regions.block.Reads as reads
-use Rattle.labels.proofs.regions.block.Lts as lts
-use Rattle.labels.proofs.regions.at_once.Reads as at-once-reads
-use Rattle.labels.proofs.regions.put_over.Reads as put-over-reads
 
--- src/regions.rt:188:13
 add-e : tie.Need-add-e
 add-e c = search needs
 
--- src/regions.rt:188:13
 add-e-2 : tie.Need-add-e-2
 add-e-2 c = search needs
 
--- src/regions.rt:188:26
 sub-e : tie.Need-sub-e
 sub-e c = search needs
 
--- src/regions.rt:188:13
 add-e-3 : tie.Need-add-e-3
 add-e-3 c = search needs
 
--- src/regions.rt:189:53
 mul-at-once : tie.Need-mul-at-once
 mul-at-once c = search needs
 
--- src/regions.rt:189:53
 sub-at-once : tie.Need-sub-at-once
 sub-at-once c = search needs
 
--- src/regions.rt:189:53
 part-at-once-start : tie.Need-part-at-once-start
 part-at-once-start c = search needs
 
--- src/regions.rt:189:53
 part-at-once-end : tie.Need-part-at-once-end
 part-at-once-end c = search needs
 
--- src/regions.rt:189:9
 at-once-requires : tie.Need-at-once-requires
 at-once-requires c κs = let s = c .before .before .before .before .before in
     let a = s .args in
     (s .pre .0, part-asks (a .gates) (a .velocity .now) (a .valid .now) (a .limits .now) (a .u .now) (a .n) (s .pre .0) (s .pre .1 .0))
 
--- src/regions.rt:190:5
 put-over-requires : tie.Need-put-over-requires
 put-over-requires c κs = let s = c .before .before .before .before .before .before .before .before .before in
     let a = s .args in
     let f = c .before .before .before .at-once in
     over-asks (a .gates) (a .velocity .now) (a .valid .now) (a .limits .now) (a .u .now) (a .n) (s .pre .0) (s .pre .1 .0) (f .last .1 .1 .1 .1 .0) (f .result) (f .kept .1 .1 .1 .1 .0) (f .ensures) (a .from) (s .pre .1 .1)
 
--- src/regions.rt:191:5
 add-result : tie.Need-add-result
 add-result c = let s = c .before .before .before .before .before .before .before .before .before .before .before .before in
     let a = s .args in
     let f = c .before .before .before .before .before .before .at-once in
     omega (arith, last-fits (a .gates) (a .velocity .now) (a .valid .now) (a .limits .now) (a .u .now) (a .n) (s .pre .0) (s .pre .1 .0) (f .last .1 .1 .1 .1 .0) (f .result) (f .kept .1 .1 .1 .1 .0) (f .ensures) (a .from) (s .pre .1 .1))
 
--- src/regions.rt:174:1
 same-length : tie.Need-same-length
 same-length c = search needs
 
--- src/regions.rt:174:1
 returns : tie.Need-returns
 returns c = let s = c .before .before .before .before .before .before .before .before .before .before .before .before in
     let a = s .args in

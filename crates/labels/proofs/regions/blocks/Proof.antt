@@ -1,19 +1,12 @@
+-- `labels::regions::blocks` meets its contract. The invariant: labels and number are those of the intervals up to limit i. Assumes nothing.
 use borrow.Rule.Slice.PartMut.{putMid}
 use Rattle.labels.proofs.PartLaws.{Growing, grow-begin, block-asks, grow-next, grow-end}
-use Rattle.arithmetic.specs.Seg.{seg}
-use borrow.Author.Needs.{needs}
 use native.Mathlib.Omega.{arith}
-use mathlib.Core.Path.{_≡_, refl, sym, ap, _∙_}
-use mathlib.Core.List.{List, [], _∷_, _++_}
-use Prim.Native.Nat.{ℕ, zero, suc, _+_, _-_, _*_, _≤_, _<_}
-use lib.ListN.{length, getD, set, take, drop, replicate, length-set}
+use mathlib.Core.Path.{_≡_, refl, _∙_}
+use Prim.Native.Nat.{_-_, _≤_}
+use lib.ListN.{length}
 use Rattle.labels.proofs.regions.blocks.Statement.{statement}
 use Rattle.labels.proofs.regions.blocks.Tie as tie
-use Rattle.labels.proofs.regions.blocks.Reads as reads
-use Rattle.labels.proofs.regions.blocks.Lts as lts
-use Rattle.labels.proofs.regions.block.Reads as block-reads
-use Rattle.labels.proofs.regions.block_end.Reads as block-end-reads
-use Rattle.labels.proofs.regions.clear.Reads as clear-reads
 
 abbrev Inv-loop : tie.InvT-loop
 Inv-loop gates velocity valid limits u₀ n z m k₀ i₀ u k i = (i ≤ m) × (length u ≡ length u₀) × Growing gates velocity valid limits n u k i
@@ -28,27 +21,21 @@ kept c =
     let a = s .args in
     grow-begin (a .gates) (a .velocity .now) (a .valid .now) (a .limits .now) (a .n) (s .pre .0) (s .pre .1 .rising) (a .u .now) (c .clear .last .0) (omega (arith, s .pre .1 .long)) (c .clear .ensures) .0
 
--- src/regions.rt:219:11
 mul-clear : tie.Need-mul-clear Inv-loop μ-loop
 mul-clear c = omega arith
 
--- src/regions.rt:219:11
 sub-clear : tie.Need-sub-clear Inv-loop μ-loop
 sub-clear c = omega arith
 
--- src/regions.rt:219:11
 part-clear-start : tie.Need-part-clear-start Inv-loop μ-loop
 part-clear-start c = omega arith
 
--- src/regions.rt:219:11
 part-clear-end : tie.Need-part-clear-end Inv-loop μ-loop
 part-clear-end c = omega (arith, c .before .before .before .before .pre .1 .long)
 
--- src/regions.rt:219:5
 clear-requires : tie.Need-clear-requires Inv-loop μ-loop
 clear-requires c κs = tt
 
--- src/regions.rt:223:5
 loop-holds : tie.Need-loop-holds Inv-loop μ-loop
 loop-holds c = let s = c .before .before .before .before .before .before .before .before in
     let a = s .args in
@@ -56,35 +43,27 @@ loop-holds c = let s = c .before .before .before .before .before .before .before
     let b = grow-begin (a .gates) (a .velocity .now) (a .valid .now) (a .limits .now) (a .n) (s .pre .0) (s .pre .1 .rising) (a .u .now) (f .last .0) (omega (arith, s .pre .1 .long)) (f .ensures) in
     (omega arith, refl, b .1)
 
--- src/regions.rt:223:11
 add-loop : tie.Need-add-loop Inv-loop μ-loop
 add-loop c = omega arith
 
--- src/regions.rt:224:13
 block-end-requires : tie.Need-block-end-requires Inv-loop μ-loop
 block-end-requires c κs = omega arith
 
--- src/regions.rt:225:17
 add-e : tie.Need-add-e Inv-loop μ-loop
 add-e c = omega (arith, c .block-end .ensures)
 
--- src/regions.rt:226:43
 mul-block : tie.Need-mul-block Inv-loop μ-loop
 mul-block c = omega (arith, c .block-end .ensures)
 
--- src/regions.rt:226:43
 sub-block : tie.Need-sub-block Inv-loop μ-loop
 sub-block c = omega (arith, c .block-end .ensures)
 
--- src/regions.rt:226:43
 part-block-start : tie.Need-part-block-start Inv-loop μ-loop
 part-block-start c = omega (arith, c .block-end .ensures)
 
--- src/regions.rt:226:43
 part-block-end : tie.Need-part-block-end Inv-loop μ-loop
 part-block-end c = omega (arith, c .block-end .ensures)
 
--- src/regions.rt:226:9
 block-requires : tie.Need-block-requires Inv-loop μ-loop
 block-requires c κs = let s = c .before .before .before .before .before .before .before .before .before .before .before .before .before in
     let a = s .args in
@@ -93,11 +72,9 @@ block-requires c κs = let s = c .before .before .before .before .before .before
     let q = block-asks (a .gates) (a .velocity .now) (a .valid .now) (a .limits .now) (a .n) (s .pre .0) (s .pre .1 .rising) (l .u) (l .k) (l .i) (b .result) (l .inv .2) (b .ensures .0) (b .ensures .1) (b .ensures .2) (s .pre .1 .some-gates) (s .pre .1 .few-limits) (l .inv .1 ∙ kept (c .before .before .before .before .before .before .before) ∙ s .pre .1 .long) in
     (s .pre .0, q)
 
--- src/regions.rt:223:5
 loop-less : tie.Need-loop-less Inv-loop μ-loop
 loop-less c = omega (arith, c .before .before .before .before .before .block-end .ensures)
 
--- src/regions.rt:223:5
 loop-again : tie.Need-loop-again Inv-loop μ-loop
 loop-again c = let s = c .before .before .before .before .before .before .before .before .before .before .before .before .before .before .before .before in
     let a = s .args in
@@ -106,11 +83,9 @@ loop-again c = let s = c .before .before .before .before .before .before .before
     let f = c .before .before .block in
     (omega (arith, b .ensures .1), f .kept .1 .1 .1 .1 .0 ∙ l .inv .1, grow-next (a .gates) (a .velocity .now) (a .valid .now) (a .limits .now) (a .n) (s .pre .0) (s .pre .1 .rising) (l .u) (l .k) (l .i) (b .result) (l .inv .2) (b .ensures .0) (b .ensures .1) (f .last .1 .1 .1 .1 .0) (f .result) (f .ensures))
 
--- src/regions.rt:206:1
 same-length : tie.Need-same-length Inv-loop μ-loop
 same-length c = c .before .loop .inv .1 ∙ kept (c .before .before .before .before)
 
--- src/regions.rt:206:1
 returns : tie.Need-returns Inv-loop μ-loop
 returns c = let s = c .before .before .before .before .before .before .before .before .before .before in
     let a = s .args in

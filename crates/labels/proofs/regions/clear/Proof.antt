@@ -1,14 +1,11 @@
-use borrow.Author.Needs.{needs}
+-- `labels::regions::clear` meets its contract. The invariant: the words before i are 0. Assumes nothing.
 use native.Mathlib.Omega.{arith}
-use mathlib.Core.Path.{_≡_, refl, sym, ap, _∙_}
-use mathlib.Core.List.{List, [], _∷_, _++_}
-use Prim.Native.Nat.{ℕ, zero, suc, _+_, _-_, _*_, _≤_, _<_}
-use lib.ListN.{length, getD, set, take, drop, replicate, length-set}
+use mathlib.Core.Path.{_≡_, refl, _∙_}
+use Prim.Native.Nat.{ℕ, _-_, _≤_, _<_}
+use lib.ListN.{length, getD, length-set}
 use Rattle.labels.proofs.SheetLaws.{cleared, clear-step}
 use Rattle.labels.proofs.regions.clear.Statement.{statement}
 use Rattle.labels.proofs.regions.clear.Tie as tie
-use Rattle.labels.proofs.regions.clear.Reads as reads
-use Rattle.labels.proofs.regions.clear.Lts as lts
 
 abbrev Inv-loop : tie.InvT-loop
 Inv-loop labels₀ n i₀ labels i = (i ≤ n) × (length labels ≡ length labels₀) × ((j : ℕ) → j < i → getD labels j 0 ≡ 0)
@@ -16,40 +13,32 @@ Inv-loop labels₀ n i₀ labels i = (i ≤ n) × (length labels ≡ length labe
 abbrev μ-loop : tie.MeasureT-loop
 μ-loop labels₀ n i₀ labels i = n - i
 
--- src/lib.rt:202:5
 loop-holds : tie.Need-loop-holds Inv-loop μ-loop
 loop-holds c = (omega arith, refl, λ j q. absurd (no j q))
   where
     no : (j : ℕ) → j < 0 → ⊥
     no j q = omega arith
 
--- src/lib.rt:203:9
 mul-w : tie.Need-mul-w Inv-loop μ-loop
 mul-w c = omega arith
 
--- src/lib.rt:203:9
 slice-write-w : tie.Need-slice-write-w Inv-loop μ-loop
 slice-write-w c = omega arith
 
--- src/lib.rt:204:9
 add-i : tie.Need-add-i Inv-loop μ-loop
 add-i c = omega arith
 
--- src/lib.rt:202:5
 loop-less : tie.Need-loop-less Inv-loop μ-loop
 loop-less c = omega arith
 
--- src/lib.rt:202:5
 loop-again : tie.Need-loop-again Inv-loop μ-loop
 loop-again c =
     let l = c .before .loop in
     (omega arith, length-set (l .w) (l .i) 0 ∙ l .inv .1, clear-step (l .w) (l .i) (omega arith) (l .inv .2))
 
--- src/lib.rt:197:1
 same-length : tie.Need-same-length Inv-loop μ-loop
 same-length c = c .before .loop .inv .1
 
--- src/lib.rt:197:1
 returns : tie.Need-returns Inv-loop μ-loop
 returns c =
     let l = c .before .loop in

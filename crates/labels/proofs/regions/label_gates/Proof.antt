@@ -1,75 +1,52 @@
+-- `labels::regions::label_gates` meets its contract. Assumes nothing.
 use Rattle.labels.proofs.PartLaws.{whole-asks, whole-found}
 use Rattle.labels.specs.Regions.{regions}
-use native.Mathlib.Omega.{arith}
-use mathlib.Core.Path.{_≡_, refl, sym, ap, _∙_}
-use mathlib.Core.List.{List, [], _∷_, _++_}
-use Prim.Native.Nat.{ℕ, zero, suc, _+_, _-_, _*_, _≤_, _<_}
-use lib.ListN.{length, getD, set, take, drop, replicate, length-set}
 use borrow.Author.Needs.{needs}
 use Rattle.labels.proofs.regions.label_gates.Statement.{statement}
 use Rattle.labels.proofs.regions.label_gates.Tie as tie
-use Rattle.labels.proofs.regions.label_gates.Reads as reads
-use Rattle.labels.proofs.regions.label_gates.Lts as lts
-use Rattle.labels.proofs.regions.at_once.Reads as at-once-reads
-use Rattle.labels.proofs.regions.blocks.Reads as blocks-reads
-use Rattle.labels.proofs.regions.spans.Reads as spans-reads
 
--- src/regions.rt:255:9
 spans-requires : tie.Need-spans-requires
 spans-requires c κs = search needs
 
--- src/regions.rt:256:8
 add-if1 : tie.Need-add-if1
 add-if1 c = search needs
 
--- src/regions.rt:257:9
 blocks-requires : tie.Need-blocks-requires
 blocks-requires c κs = search needs
 
--- src/regions.rt:257:9
 same-length : tie.Need-same-length
 same-length c = search needs
 
--- src/regions.rt:257:9
 returns : tie.Need-returns
 returns c = search needs
 
--- src/regions.rt:260:13
 add-e : tie.Need-add-e
 add-e c = search needs
 
--- src/regions.rt:260:13
 add-e-2 : tie.Need-add-e-2
 add-e-2 c = search needs
 
--- src/regions.rt:261:45
 mul-at-once : tie.Need-mul-at-once
 mul-at-once c = search needs
 
--- src/regions.rt:261:45
 sub-at-once : tie.Need-sub-at-once
 sub-at-once c = search needs
 
--- src/regions.rt:261:45
 part-at-once-start : tie.Need-part-at-once-start
 part-at-once-start c = search needs
 
--- src/regions.rt:261:45
 part-at-once-end : tie.Need-part-at-once-end
 part-at-once-end c = search needs
 
--- src/regions.rt:261:5
 at-once-requires : tie.Need-at-once-requires
 at-once-requires c κs = let s = c .before .before .before .before .before .before .before in
     let a = s .args in
     let k = c .before .before .spans in
     (s .pre .0, whole-asks (a .gates) (a .limits .now) (a .u .now) (a .n) (k .result) (s .pre .1) (k .ensures) (c .before .if1 .left))
 
--- src/regions.rt:243:1
 same-length-2 : tie.Need-same-length-2
 same-length-2 c = search needs
 
--- src/regions.rt:243:1
 returns-2 : tie.Need-returns-2
 returns-2 c = let s = c .before .before .before .before .before .before .before .before .before .before in
     let a = s .args in

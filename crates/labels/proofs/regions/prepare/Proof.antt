@@ -1,36 +1,25 @@
+-- `labels::regions::prepare` meets its contract. Assumes nothing.
 use Rattle.labels.proofs.WholeLaws.{link-asks, all-joined}
-use Rattle.labels.specs.Bands.{Bands}
-use Rattle.arithmetic.specs.Seg.{seg}
 use native.Mathlib.Omega.{arith}
-use mathlib.Core.Path.{_≡_, refl, sym, ap, _∙_}
-use mathlib.Core.List.{List, [], _∷_, _++_}
-use Prim.Native.Nat.{ℕ, zero, suc, _+_, _-_, _*_, _≤_, _<_}
-use lib.ListN.{length, getD, set, take, drop, replicate, length-set}
+use Prim.Native.Nat.{_+_, _≤_}
+use lib.ListN.{length}
 use borrow.Author.Needs.{needs}
 use Rattle.labels.proofs.regions.prepare.Statement.{statement}
 use Rattle.labels.proofs.regions.prepare.Tie as tie
-use Rattle.labels.proofs.regions.prepare.Reads as reads
-use Rattle.labels.proofs.regions.prepare.Lts as lts
-use Rattle.labels.proofs.label.link_all.Reads as link-all-reads
-use Rattle.labels.proofs.regions.spread.Reads as spread-reads
 
--- src/regions.rt:106:5
 spread-requires : tie.Need-spread-requires
 spread-requires c κs = let s = c .before .before .before .before .before in
     (s .pre .0, (omega (arith, s .pre .1 .long), (s .pre .1 .rising, s .pre .1 .few-limits)))
 
--- src/regions.rt:107:5
 link-all-requires : tie.Need-link-all-requires
 link-all-requires c κs = let s = c .before .before .before .before .before .before .before .before .before in
     let f = c .before .before .before .spread in
     let fits : s .args .n + s .args .n ≤ length (f .last .1 .1 .1 .0) = omega (arith, f .kept .1 .1 .1 .0, s .pre .1 .long) in
     (link-asks (s .args .gates) (f .last .1 .1 .1 .0) (s .args .n) fits (s .pre .0 .small) (f .ensures .1), (fits, s .pre .1 .some-gates))
 
--- src/regions.rt:93:1
 same-length : tie.Need-same-length
 same-length c = search needs
 
--- src/regions.rt:93:1
 returns : tie.Need-returns
 returns c = let s = c .before .before .before .before .before .before .before .before .before .before .before .before in
     let a = s .args in

@@ -1,18 +1,13 @@
+-- `labels::regions::spread` meets its contract. The invariant: gates before g have their band and their word. Assumes nothing.
 use Rattle.labels.proofs.SpreadLaws.{Spreading, spread-begin, spread-store, spread-end}
 use Rattle.labels.proofs.SheetLaws.{bands-long, words-long}
 use Rattle.arithmetic.specs.Seg.{seg}
-use borrow.Author.Needs.{needs}
 use native.Mathlib.Omega.{arith}
-use mathlib.Core.Path.{_≡_, refl, sym, ap, _∙_}
-use mathlib.Core.List.{List, [], _∷_, _++_}
-use Prim.Native.Nat.{ℕ, zero, suc, _+_, _-_, _*_, _≤_, _<_}
-use lib.ListN.{length, getD, set, take, drop, replicate, length-set}
+use mathlib.Core.Path.{_≡_, refl, sym, _∙_}
+use Prim.Native.Nat.{ℕ, _+_, _-_, _≤_}
+use lib.ListN.{length, set, length-set}
 use Rattle.labels.proofs.regions.spread.Statement.{statement}
 use Rattle.labels.proofs.regions.spread.Tie as tie
-use Rattle.labels.proofs.regions.spread.Reads as reads
-use Rattle.labels.proofs.regions.spread.Lts as lts
-use Rattle.labels.proofs.regions.band.Reads as band-reads
-use Rattle.labels.proofs.regions.word.Reads as word-reads
 
 abbrev Inv-loop : tie.InvT-loop
 Inv-loop velocity valid limits u₀ n g₀ u g = (g ≤ n) × (length u ≡ length u₀) × Spreading limits velocity valid (seg u 0 n) (seg u n n) g
@@ -20,62 +15,48 @@ Inv-loop velocity valid limits u₀ n g₀ u g = (g ≤ n) × (length u ≡ leng
 abbrev μ-loop : tie.MeasureT-loop
 μ-loop velocity valid limits u₀ n g₀ u g = n - g
 
--- src/regions.rt:84:5
 loop-holds : tie.Need-loop-holds Inv-loop μ-loop
 loop-holds c = let s = c .before .before .before .before in
     let a = s .args in
     (omega arith, refl, spread-begin (a .limits .now) (a .velocity .now) (a .valid .now) (seg (a .u .now) 0 (a .n)) (seg (a .u .now) (a .n) (a .n)) (bands-long (a .u .now) (a .n) (s .pre .1 .0) ∙ sym (s .pre .0 .masks)) (words-long (a .u .now) (a .n) (s .pre .1 .0) ∙ sym (s .pre .0 .masks)))
 
--- src/regions.rt:85:30
 mul-band : tie.Need-mul-band Inv-loop μ-loop
 mul-band c = omega arith
 
--- src/regions.rt:85:30
 shared-slice-read-band : tie.Need-shared-slice-read-band Inv-loop μ-loop
 shared-slice-read-band c = omega (arith, c .before .before .before .before .before .before .before .pre .0 .velocities)
 
--- src/regions.rt:85:43
 shared-slice-read-band-2 : tie.Need-shared-slice-read-band-2 Inv-loop μ-loop
 shared-slice-read-band-2 c = omega (arith, c .before .before .before .before .before .before .before .before .pre .0 .masks)
 
--- src/regions.rt:85:13
 band-requires : tie.Need-band-requires Inv-loop μ-loop
 band-requires c κs = c .before .before .before .before .before .before .before .before .pre .1 .1
 
--- src/regions.rt:86:9
 mul-u : tie.Need-mul-u Inv-loop μ-loop
 mul-u c = omega (arith, c .before .before .before .before .before .before .before .before .before .pre .0 .small)
 
--- src/regions.rt:86:9
 slice-write-u : tie.Need-slice-write-u Inv-loop μ-loop
 slice-write-u c = omega (arith, c .before .before .before .before .loop .inv .1, c .before .before .before .before .before .before .before .before .before .pre .1 .0)
 
--- src/regions.rt:87:20
 word-requires : tie.Need-word-requires Inv-loop μ-loop
 word-requires c κs = omega (arith, c .before .before .before .before .before .before .before .before .before .pre .0 .small)
 
--- src/regions.rt:87:11
 add-u : tie.Need-add-u Inv-loop μ-loop
 add-u c = omega (arith, c .before .before .before .before .before .before .before .before .before .before .pre .0 .small)
 
--- src/regions.rt:87:9
 mul-u-2 : tie.Need-mul-u-2 Inv-loop μ-loop
 mul-u-2 c = omega (arith, c .before .before .before .before .before .before .before .before .before .before .pre .0 .small)
 
--- src/regions.rt:87:9
 slice-write-u-2 : tie.Need-slice-write-u-2 Inv-loop μ-loop
 slice-write-u-2 c = let l = c .before .before .before .before .before .loop in
     omega (arith, length-set (l .u) (l .g) (c .before .band .result), l .inv .1, c .before .before .before .before .before .before .before .before .before .before .pre .1 .0)
 
--- src/regions.rt:88:9
 add-g : tie.Need-add-g Inv-loop μ-loop
 add-g c = omega arith
 
--- src/regions.rt:84:5
 loop-less : tie.Need-loop-less Inv-loop μ-loop
 loop-less c = omega arith
 
--- src/regions.rt:84:5
 loop-again : tie.Need-loop-again Inv-loop μ-loop
 loop-again c = let s = c .before .before .before .before .before .before .before .before .before .before in
     let a = s .args in
@@ -87,11 +68,9 @@ loop-again c = let s = c .before .before .before .before .before .before .before
       spread-store (a .limits .now) (a .velocity .now) (a .valid .now) (l .u) (a .n) (omega (arith, l .inv .1, s .pre .1 .0)) (s .pre .0 .masks) (l .g) (c .before .before .before .before .loop-test .taken) b x (l .inv .2) (c .before .band .ensures) (c .word .ensures .0) (c .word .ensures .1),
     )
 
--- src/regions.rt:75:1
 same-length : tie.Need-same-length Inv-loop μ-loop
 same-length c = c .before .loop .inv .1
 
--- src/regions.rt:75:1
 returns : tie.Need-returns Inv-loop μ-loop
 returns c = let s = c .before .before .before .before .before .before in
     let a = s .args in

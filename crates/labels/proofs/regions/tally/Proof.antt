@@ -1,66 +1,45 @@
+-- `labels::regions::tally` meets its contract. Assumes nothing.
 use Rattle.labels.proofs.TallyLaws.{count-asks, starts-asks, tallied}
-use native.Mathlib.Omega.{arith}
-use mathlib.Core.Path.{_≡_, refl, sym, ap, _∙_}
-use mathlib.Core.List.{List, [], _∷_, _++_}
-use Prim.Native.Nat.{ℕ, zero, suc, _+_, _-_, _*_, _≤_, _<_}
-use lib.ListN.{length, getD, set, take, drop, replicate, length-set}
 use borrow.Author.Needs.{needs}
 use Rattle.labels.proofs.regions.tally.Statement.{statement}
 use Rattle.labels.proofs.regions.tally.Tie as tie
-use Rattle.labels.proofs.regions.tally.Reads as reads
-use Rattle.labels.proofs.regions.tally.Lts as lts
-use Rattle.labels.proofs.label.count.Reads as count-reads
-use Rattle.labels.proofs.label.starts.Reads as starts-reads
-use Rattle.labels.proofs.regions.clear.Reads as clear-reads
 
--- src/regions.rt:129:13
 add-a : tie.Need-add-a
 add-a c = search needs
 
--- src/regions.rt:131:11
 mul-clear : tie.Need-mul-clear
 mul-clear c = search needs
 
--- src/regions.rt:131:11
 sub-clear : tie.Need-sub-clear
 sub-clear c = search needs
 
--- src/regions.rt:131:11
 part-clear-start : tie.Need-part-clear-start
 part-clear-start c = search needs
 
--- src/regions.rt:131:11
 part-clear-end : tie.Need-part-clear-end
 part-clear-end c = search needs
 
--- src/regions.rt:131:5
 clear-requires : tie.Need-clear-requires
 clear-requires c κs = search needs
 
--- src/regions.rt:132:5
 count-requires : tie.Need-count-requires
 count-requires c κs = let s = c .before .before .before .before .before .before in
     let a = s .args in
     let f = c .before .before .before .clear in
     count-asks (a .u .now) (a .n) (s .pre .0) (s .pre .1) (f .last .0) (f .ensures)
 
--- src/regions.rt:133:19
 mul-starts : tie.Need-mul-starts
 mul-starts c = search needs
 
--- src/regions.rt:133:19
 sub-starts : tie.Need-sub-starts
 sub-starts c = search needs
 
--- src/regions.rt:133:19
 part-starts-start : tie.Need-part-starts-start
 part-starts-start c = search needs
 
--- src/regions.rt:133:19
 part-starts-end : tie.Need-part-starts-end
 part-starts-end c = search needs
 
--- src/regions.rt:133:5
 starts-requires : tie.Need-starts-requires
 starts-requires c κs = let s = c .before .before .before .before .before .before .before .before .before .before in
     let a = s .args in
@@ -68,11 +47,9 @@ starts-requires c κs = let s = c .before .before .before .before .before .befor
     let k = c .before .before .before .count in
     starts-asks (a .u .now) (a .n) (s .pre .0) (s .pre .1) (f .last .0) (f .ensures) (k .last .0) (k .kept .0) (k .ensures .1) (k .ensures .0)
 
--- src/regions.rt:123:1
 same-length : tie.Need-same-length
 same-length c = search needs
 
--- src/regions.rt:123:1
 returns : tie.Need-returns
 returns c = let s = c .before .before .before .before .before .before .before .before .before .before .before .before .before in
     let a = s .args in
