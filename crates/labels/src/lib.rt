@@ -1,1 +1,3 @@
-// Definitions alone stand here as yet: see specs/.
+// The regions of a sweep: connected areas of the gates of each velocity interval.
+pub mod label;
+pub mod regions;

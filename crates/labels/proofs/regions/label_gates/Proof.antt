@@ -1,0 +1,74 @@
+-- `labels::regions::label_gates` meets its contract. Assumes nothing.
+use Rattle.labels.proofs.PartLaws.{whole-asks, whole-found}
+use Rattle.labels.specs.Regions.{regions}
+use borrow.Author.Needs.{needs}
+use Rattle.labels.proofs.regions.label_gates.Statement.{statement}
+use Rattle.labels.proofs.regions.label_gates.Tie as tie
+
+spans-requires : tie.Need-spans-requires
+spans-requires c κs = search needs
+
+add-if1 : tie.Need-add-if1
+add-if1 c = search needs
+
+blocks-requires : tie.Need-blocks-requires
+blocks-requires c κs = search needs
+
+same-length : tie.Need-same-length
+same-length c = search needs
+
+returns : tie.Need-returns
+returns c = search needs
+
+add-e : tie.Need-add-e
+add-e c = search needs
+
+add-e-2 : tie.Need-add-e-2
+add-e-2 c = search needs
+
+mul-at-once : tie.Need-mul-at-once
+mul-at-once c = search needs
+
+sub-at-once : tie.Need-sub-at-once
+sub-at-once c = search needs
+
+part-at-once-start : tie.Need-part-at-once-start
+part-at-once-start c = search needs
+
+part-at-once-end : tie.Need-part-at-once-end
+part-at-once-end c = search needs
+
+at-once-requires : tie.Need-at-once-requires
+at-once-requires c κs = let s = c .before .before .before .before .before .before .before in
+    let a = s .args in
+    let k = c .before .before .spans in
+    (s .pre .0, whole-asks (a .gates) (a .limits .now) (a .u .now) (a .n) (k .result) (s .pre .1) (k .ensures) (c .before .if1 .left))
+
+same-length-2 : tie.Need-same-length-2
+same-length-2 c = search needs
+
+returns-2 : tie.Need-returns-2
+returns-2 c = let s = c .before .before .before .before .before .before .before .before .before .before in
+    let a = s .args in
+    let k = c .before .before .before .before .before .spans in
+    let f = c .before .before .at-once in
+    whole-found (a .gates) (a .limits .now) (a .u .now) (a .n) (k .result) (s .pre .1) (k .ensures) (c .before .before .before .before .if1 .left) (f .last .1 .1 .1 .1 .0) (f .result) (regions (a .gates) (a .velocity .now) (a .valid .now) (a .limits .now)) (f .kept .1 .1 .1 .1 .0) (f .ensures)
+
+pub label-gates-spec : {M : Type 1} → statement M
+label-gates-spec =
+    tie.close
+    (tie.spec
+    spans-requires
+    add-if1
+    blocks-requires
+    same-length
+    returns
+    add-e
+    add-e-2
+    mul-at-once
+    sub-at-once
+    part-at-once-start
+    part-at-once-end
+    at-once-requires
+    same-length-2
+    returns-2)

@@ -1,0 +1,205 @@
+// label.rs: the areas of gates that touch, by union-find, and their numbers by first gate.
+// One slice holds it all: a band for each of n gates, then a word of the union-find for each, then a counter for each band.
+// A band is 0 for a gate in no interval; gates are joined within their band.
+ghost use mathlib.Core.Path.{_≡_};
+ghost use mathlib.Core.Bool.{Bool};
+ghost use mathlib.Core.List.{List, foldl};
+ghost use Prim.Native.Nat.{ℕ, suc, _+_, _≤_, _<_, _^_};
+ghost use lib.ListN.{length, getD, replicate};
+ghost use Rattle.labels.specs.Label.{join, Link};
+ghost use Rattle.labels.specs.Forest.{Forest, Some, Gate, Root};
+ghost use Rattle.labels.specs.Bands.{marks, aboveIn, beforeIn, linksIn, laterIn, Treed};
+ghost use Rattle.labels.specs.Numbering.{total, Counted, Numbering, Ahead, Ready};
+ghost use Rattle.labels.specs.Sheet.{bandsOf, wordsOf, countsOf, Joins, Counts};
+
+// The first gate of the area of gate `start`. Halves the path there.
+pub fn find(w: &mut [u32], start: u32) -> u32
+    requires { ⌜ Some (now w) ⌝ }
+    requires { ⌜ Gate (now w) start ⌝ }
+    ensures { λ r. ⌜ ((inside : List Bool) (rs : List ℕ) → Forest inside (now (w .entry)) rs → Root inside (now (w .exit)) rs start r) ⌝ }
+{
+    let mut x = start;
+    let mut p = w[x as usize];
+    while p != x + 1 {
+        let q = w[(p - 1) as usize];
+        w[x as usize] = q;
+        x = q - 1;
+        p = w[x as usize];
+    }
+    x
+}
+
+// The areas of the gates `a` and `b` made one.
+pub fn unite(w: &mut [u32], a: u32, b: u32)
+    requires { ⌜ Some (now w) ⌝ }
+    requires { ⌜ Gate (now w) a × Gate (now w) b ⌝ }
+    ensures { λ _. ⌜ ((inside : List Bool) (rs : List ℕ) → Forest inside (now (w .entry)) rs → Forest inside (now (w .exit)) (join rs (record { a = a; b = b }))) ⌝ }
+{
+    let r = find(w, a);
+    let s = find(w, b);
+    if r < s {
+        w[s as usize] = r + 1;
+    } else {
+        w[r as usize] = s + 1;
+    }
+}
+
+// Gate `g` joined with the gate of the ray before, if both are of one band.
+pub fn link_above(u: &mut [u32], n: usize, gates: u32, g: u32)
+    requires { ⌜ Treed (bandsOf (now u) n) (wordsOf (now u) n) ⌝ }
+    requires { ⌜ n + n ≤ length (now u) ⌝ }
+    requires { ⌜ Gate (bandsOf (now u) n) g ⌝ }
+    ensures { λ _. ⌜ ((rs : List ℕ) → Forest (marks (bandsOf (now (u .entry)) n)) (wordsOf (now (u .entry)) n) rs → Forest (marks (bandsOf (now (u .entry)) n)) (wordsOf (now (u .exit)) n) (foldl join rs (aboveIn gates (bandsOf (now (u .entry)) n) g))) ⌝ }
+    ensures { λ _. ⌜ Joins (now (u .entry)) (now (u .exit)) n ⌝ }
+{
+    if g < gates {
+        return;
+    }
+    let h = g - gates;
+    let b = u[g as usize];
+    if u[h as usize] != b {
+        return;
+    }
+    let e = n + n;
+    unite(&mut u[n..e], h, g);
+}
+
+// And with the gate before on its ray.
+pub fn link_before(u: &mut [u32], n: usize, gates: u32, g: u32)
+    requires { ⌜ Treed (bandsOf (now u) n) (wordsOf (now u) n) ⌝ }
+    requires { ⌜ (n + n ≤ length (now u)) × (0 < gates) ⌝ }
+    requires { ⌜ Gate (bandsOf (now u) n) g ⌝ }
+    ensures { λ _. ⌜ ((rs : List ℕ) → Forest (marks (bandsOf (now (u .entry)) n)) (wordsOf (now (u .entry)) n) rs → Forest (marks (bandsOf (now (u .entry)) n)) (wordsOf (now (u .exit)) n) (foldl join rs (beforeIn gates (bandsOf (now (u .entry)) n) g))) ⌝ }
+    ensures { λ _. ⌜ Joins (now (u .entry)) (now (u .exit)) n ⌝ }
+{
+    if g % gates == 0 {
+        return;
+    }
+    let h = g - 1;
+    let b = u[g as usize];
+    if u[h as usize] != b {
+        return;
+    }
+    let e = n + n;
+    unite(&mut u[n..e], h, g);
+}
+
+// Gate `g` joined with both, if it has a band.
+pub fn link(u: &mut [u32], n: usize, gates: u32, g: u32)
+    requires { ⌜ Treed (bandsOf (now u) n) (wordsOf (now u) n) ⌝ }
+    requires { ⌜ (n + n ≤ length (now u)) × (0 < gates) ⌝ }
+    requires { ⌜ g < n ⌝ }
+    ensures { λ _. ⌜ ((rs : List ℕ) → Forest (marks (bandsOf (now (u .entry)) n)) (wordsOf (now (u .entry)) n) rs → Forest (marks (bandsOf (now (u .entry)) n)) (wordsOf (now (u .exit)) n) (foldl join rs (linksIn gates (bandsOf (now (u .entry)) n) g))) ⌝ }
+    ensures { λ _. ⌜ Joins (now (u .entry)) (now (u .exit)) n ⌝ }
+{
+    if u[g as usize] == 0 {
+        return;
+    }
+    link_above(u, n, gates, g);
+    link_before(u, n, gates, g);
+}
+
+// Every gate joined with its neighbours of the same band, in scan order.
+pub fn link_all(u: &mut [u32], n: usize, gates: u32)
+    requires { ⌜ Treed (bandsOf (now u) n) (wordsOf (now u) n) ⌝ }
+    requires { ⌜ (n + n ≤ length (now u)) × (0 < n → 0 < gates) ⌝ }
+    ensures { λ _. ⌜ ((rs : List ℕ) → Forest (marks (bandsOf (now (u .entry)) n)) (wordsOf (now (u .entry)) n) rs → Forest (marks (bandsOf (now (u .entry)) n)) (wordsOf (now (u .exit)) n) (foldl join rs (laterIn gates (bandsOf (now (u .entry)) n) 0))) ⌝ }
+    ensures { λ _. ⌜ Joins (now (u .entry)) (now (u .exit)) n ⌝ }
+{
+    let m = n as u32;
+    let mut g: u32 = 0;
+    while g < m {
+        link(u, n, gates, g);
+        g += 1;
+    }
+}
+
+// Gate `g` counted for its band, if it is the first of its area.
+pub fn count_gate(u: &mut [u32], n: usize, g: usize)
+    requires { ⌜ Treed (bandsOf (now u) n) (wordsOf (now u) n) ⌝ }
+    requires { ⌜ (g < n) × (n + n ≤ length (now u)) × (getD (bandsOf (now u) n) g 0 ≤ length (countsOf (now u) n)) ⌝ }
+    requires { ⌜ ((j : ℕ) → j < length (countsOf (now u) n) → getD (countsOf (now u) n) j 0 + 1 < 2 ^ 32) ⌝ }
+    ensures { λ _. ⌜ ((rs : List ℕ) → Forest (marks (bandsOf (now (u .entry)) n)) (wordsOf (now (u .entry)) n) rs → Counted (bandsOf (now (u .entry)) n) rs (countsOf (now (u .entry)) n) g → Counted (bandsOf (now (u .entry)) n) rs (countsOf (now (u .exit)) n) (g + 1)) ⌝ }
+    ensures { λ _. ⌜ Counts (now (u .entry)) (now (u .exit)) n ⌝ }
+{
+    let v = u[n + g];
+    if v == 0 {
+        return;
+    }
+    let p = (v - 1) as usize;
+    if p != g {
+        return;
+    }
+    let b = (u[g] - 1) as usize;
+    let at = n + n + b;
+    let k = u[at];
+    u[at] = k + 1;
+}
+
+// How many regions each band has, over counters that are 0.
+pub fn count(u: &mut [u32], n: usize)
+    requires { ⌜ Treed (bandsOf (now u) n) (wordsOf (now u) n) ⌝ }
+    requires { ⌜ (n + n ≤ length (now u)) × ((i : ℕ) → getD (bandsOf (now u) n) i 0 ≤ length (countsOf (now u) n)) ⌝ }
+    requires { ⌜ countsOf (now u) n ≡ replicate (length (countsOf (now u) n)) 0 ⌝ }
+    ensures { λ _. ⌜ ((rs : List ℕ) → Forest (marks (bandsOf (now (u .entry)) n)) (wordsOf (now (u .entry)) n) rs → Counted (bandsOf (now (u .entry)) n) rs (countsOf (now (u .exit)) n) n) ⌝ }
+    ensures { λ _. ⌜ Counts (now (u .entry)) (now (u .exit)) n ⌝ }
+{
+    let mut g = 0;
+    while g < n {
+        count_gate(u, n, g);
+        g += 1;
+    }
+}
+
+// From how many each has to how many those before it have; gives how many there are in all.
+pub fn starts(c: &mut [u32]) -> u32
+    requires { ⌜ total (now c) (length (now c)) < 2 ^ 32 ⌝ }
+    ensures { λ r. ⌜ (r ≡ total (now (c .entry)) (length (now (c .entry)))) × ((j : ℕ) → j < length (now (c .entry)) → getD (now (c .exit)) j 0 ≡ total (now (c .entry)) j) ⌝ }
+{
+    let n = c.len();
+    let mut s: u32 = 0;
+    let mut j = 0;
+    while j < n {
+        let t = c[j];
+        c[j] = s;
+        s = s + t;
+        j += 1;
+    }
+    s
+}
+
+// The label of gate `g` over its band, where all gates before have theirs.
+pub fn label_gate(u: &mut [u32], n: usize, g: usize)
+    requires { ⌜ n + n ≤ length (now u) ⌝ }
+    requires { ⌜ Ahead (wordsOf (now u) n) (bandsOf (now u) n) (countsOf (now u) n) g ⌝ }
+    ensures { λ _. ⌜ ((iv rs c₀ : List ℕ) → Forest (marks iv) (wordsOf (now (u .entry)) n) rs → Numbering iv rs c₀ (bandsOf (now (u .entry)) n) (countsOf (now (u .entry)) n) g → Numbering iv rs c₀ (bandsOf (now (u .exit)) n) (countsOf (now (u .exit)) n) (g + 1)) ⌝ }
+    ensures { λ _. ⌜ wordsOf (now (u .exit)) n ≡ wordsOf (now (u .entry)) n ⌝ }
+{
+    let v = u[n + g];
+    if v == 0 {
+        return;
+    }
+    let p = (v - 1) as usize;
+    if p == g {
+        let b = (u[g] - 1) as usize;
+        let at = n + n + b;
+        let k = u[at] + 1;
+        u[at] = k;
+        u[g] = k;
+        return;
+    }
+    u[g] = u[p];
+}
+
+// All labels over the bands, from the counters' starts.
+pub fn number(u: &mut [u32], n: usize)
+    requires { ⌜ n + n ≤ length (now u) ⌝ }
+    requires { ⌜ Ready (wordsOf (now u) n) (bandsOf (now u) n) (countsOf (now u) n) ⌝ }
+    ensures { λ _. ⌜ ((rs : List ℕ) → Forest (marks (bandsOf (now (u .entry)) n)) (wordsOf (now (u .entry)) n) rs → ((i r : ℕ) → getD rs i 0 ≡ suc r → getD (bandsOf (now (u .entry)) n) r 0 ≡ getD (bandsOf (now (u .entry)) n) i 0) → Numbering (bandsOf (now (u .entry)) n) rs (countsOf (now (u .entry)) n) (bandsOf (now (u .exit)) n) (countsOf (now (u .exit)) n) n) ⌝ }
+{
+    let mut g = 0;
+    while g < n {
+        label_gate(u, n, g);
+        g += 1;
+    }
+}

@@ -1,0 +1,281 @@
+// regions.rs: the regions of a sweep. The gates of each interval between neighbouring limits are labelled by area, numbers going on from one
+// interval to the next. All intervals are done at once: each gate's interval is found by halving, and gates are joined only within one interval.
+use crate::label;
+ghost use mathlib.Core.Path.{_≡_};
+ghost use mathlib.Core.List.{List, _++_};
+ghost use Prim.Native.Nat.{ℕ, suc, _+_, _*_, _-_, _≤_, _<_, _^_};
+ghost use lib.ListN.{length, getD, replicate};
+ghost use Rattle.arithmetic.specs.Asked.{Rising};
+ghost use Rattle.labels.specs.Label.{own, Found};
+ghost use Rattle.labels.specs.Regions.{within, regions, over, added, Interval};
+ghost use Rattle.labels.specs.Forest.{Forest};
+ghost use Rattle.labels.specs.Bands.{Band, Bands, marks, joint};
+ghost use Rattle.labels.specs.Numbering.{sizes, Tally};
+ghost use Rattle.labels.specs.Sheet.{bandsOf, wordsOf, countsOf, Counts, Same, Fitting, Block, Ample, Sweep};
+
+// Whether a valid velocity lies in an interval: at or above its lower limit, below its upper one.
+pub fn holds(lower: f64, upper: f64, x: f32, m: u8) -> bool
+    ensures { λ r. ⌜ r ≡ within (record { lower = lower; upper = upper }) x m ⌝ }
+{
+    if m != 1 {
+        return false;
+    }
+    let v = std::num::f32_to_f64_with_nan(x);
+    if lower <= v {
+        return v < upper;
+    }
+    false
+}
+
+// The band of a gate, by halving: 1 + the number of the interval that holds it, or 0.
+pub fn band(limits: &[f64], x: f32, m: u8) -> u32
+    requires { ⌜ Rising (now limits) ⌝ }
+    requires { ⌜ length (now limits) < 2 ^ 32 ⌝ }
+    ensures { λ r. ⌜ Band (now (limits .entry)) x m r ⌝ }
+{
+    let n = limits.len();
+    if n < 2 {
+        return 0;
+    }
+    if m != 1 {
+        return 0;
+    }
+    let v = std::num::f32_to_f64_with_nan(x);
+    let mut lo = 0;
+    let mut hi = n - 1;
+    while lo + 1 < hi {
+        let mid = lo + (hi - lo) / 2;
+        if v < limits[mid] {
+            hi = mid;
+        } else {
+            lo = mid;
+        }
+    }
+    let a = limits[lo];
+    let b = limits[hi];
+    if holds(a, b, x, m) {
+        return hi as u32;
+    }
+    0
+}
+
+// The first word of a gate in the union-find: itself, or 0 if it has no band.
+pub fn word(b: u32, g: usize) -> u32
+    requires { ⌜ g + 1 < 2 ^ 32 ⌝ }
+    ensures { λ r. ⌜ (b ≡ 0 → r ≡ 0) × ((b ≡ 0 → ⊥) → r ≡ suc g) ⌝ }
+{
+    if b == 0 {
+        return 0;
+    }
+    g as u32 + 1
+}
+
+// Every gate's band, and every gate alone.
+pub fn spread(velocity: &[f32], valid: &[u8], limits: &[f64], u: &mut [u32], n: usize)
+    requires { ⌜ Same n (now velocity) (now valid) ⌝ }
+    requires { ⌜ n + n ≤ length (now u) ⌝ }
+    requires { ⌜ Rising (now limits) ⌝ }
+    requires { ⌜ length (now limits) < 2 ^ 32 ⌝ }
+    ensures { λ _. ⌜ Bands (now (limits .entry)) (now (velocity .entry)) (now (valid .entry)) (bandsOf (now (u .exit)) n) ⌝ }
+    ensures { λ _. ⌜ wordsOf (now (u .exit)) n ≡ own (marks (bandsOf (now (u .exit)) n)) ⌝ }
+{
+    let mut g = 0;
+    while g < n {
+        let b = band(limits, velocity[g], valid[g]);
+        u[g] = b;
+        u[n + g] = word(b, g);
+        g += 1;
+    }
+}
+
+// Bands, and all gates joined within them.
+pub fn prepare(gates: u32, velocity: &[f32], valid: &[u8], limits: &[f64], u: &mut [u32], n: usize)
+    requires { ⌜ Same n (now velocity) (now valid) ⌝ }
+    requires { ⌜ Fitting gates (now limits) (now u) n ⌝ }
+    ensures { λ _. ⌜ Bands (now (limits .entry)) (now (velocity .entry)) (now (valid .entry)) (bandsOf (now (u .exit)) n) ⌝ }
+    ensures { λ _. ⌜ Forest (marks (bandsOf (now (u .exit)) n)) (wordsOf (now (u .exit)) n) (joint gates (bandsOf (now (u .exit)) n)) ⌝ }
+{
+    spread(velocity, valid, limits, u, n);
+    label::link_all(u, n, gates);
+}
+
+// All words 0.
+pub fn clear(w: &mut [u32])
+    ensures { λ _. ⌜ now (w .exit) ≡ replicate (length (now (w .entry))) 0 ⌝ }
+{
+    let n = w.len();
+    let mut i = 0;
+    while i < n {
+        w[i] = 0;
+        i += 1;
+    }
+}
+
+// How many regions the bands before each have, and how many there are.
+pub fn tally(u: &mut [u32], n: usize) -> u32
+    requires { ⌜ n + n ≤ length (now u) ⌝ }
+    requires { ⌜ Tally (bandsOf (now u) n) (wordsOf (now u) n) (countsOf (now u) n) ⌝ }
+    ensures { λ r. ⌜ ((rs : List ℕ) → Forest (marks (bandsOf (now (u .entry)) n)) (wordsOf (now (u .entry)) n) rs → (r ≡ sizes (bandsOf (now (u .entry)) n) rs (length (countsOf (now (u .entry)) n))) × ((j : ℕ) → j < length (countsOf (now (u .entry)) n) → getD (countsOf (now (u .exit)) n) j 0 ≡ sizes (bandsOf (now (u .entry)) n) rs j)) ⌝ }
+    ensures { λ _. ⌜ Counts (now (u .entry)) (now (u .exit)) n ⌝ }
+{
+    let a = n + n;
+    let e = u.len();
+    clear(&mut u[a..e]);
+    label::count(u, n);
+    label::starts(&mut u[a..e])
+}
+
+// The regions of all intervals at once: labels in the first n words.
+pub fn at_once(
+    gates: u32,
+    velocity: &[f32],
+    valid: &[u8],
+    limits: &[f64],
+    u: &mut [u32],
+    n: usize,
+) -> u32
+    requires { ⌜ Same n (now velocity) (now valid) ⌝ }
+    requires { ⌜ Fitting gates (now limits) (now u) n ⌝ }
+    ensures { λ r. ⌜ record { labels = bandsOf (now (u .exit)) n; number = r } ≡ regions gates (now (velocity .entry)) (now (valid .entry)) (now (limits .entry)) ⌝ }
+{
+    prepare(gates, velocity, valid, limits, u, n);
+    let r = tally(u, n);
+    label::number(u, n);
+    r
+}
+
+// A label of this block of intervals goes over the old one, counted on from `from`.
+pub fn relabel(from: u32, old: u32, new: u32) -> u32
+    requires { ⌜ new + from < 2 ^ 32 ⌝ }
+    ensures { λ r. ⌜ r ≡ over from old new ⌝ }
+{
+    if new == 0 {
+        return old;
+    }
+    new + from
+}
+
+// The labels of the second n words put over those of the first n.
+pub fn put_over(u: &mut [u32], n: usize, from: u32)
+    requires { ⌜ n + n ≤ length (now u) ⌝ }
+    requires { ⌜ ((i : ℕ) → i < n → getD (now u) (n + i) 0 + from < 2 ^ 32) ⌝ }
+    ensures { λ _. ⌜ ((i : ℕ) → i < n → getD (now (u .exit)) i 0 ≡ over from (getD (now (u .entry)) i 0) (getD (now (u .entry)) (n + i) 0)) ⌝ }
+{
+    let mut g = 0;
+    while g < n {
+        let old = u[g];
+        let new = u[n + g];
+        u[g] = relabel(from, old, new);
+        g += 1;
+    }
+}
+
+// The regions of one block of intervals over what was found before. Gives the last number.
+pub fn block(
+    gates: u32,
+    velocity: &[f32],
+    valid: &[u8],
+    limits: &[f64],
+    u: &mut [u32],
+    n: usize,
+    from: u32,
+) -> u32
+    requires { ⌜ Same n (now velocity) (now valid) ⌝ }
+    requires { ⌜ Block gates (now limits) (now u) n ⌝ }
+    requires { ⌜ from + (regions gates (now velocity) (now valid) (now limits)) .number < 2 ^ 32 ⌝ }
+    ensures { λ r. ⌜ record { labels = bandsOf (now (u .exit)) n; number = r } ≡ added (record { labels = bandsOf (now (u .entry)) n; number = from }) (regions gates (now (velocity .entry)) (now (valid .entry)) (now (limits .entry))) ⌝ }
+{
+    let e = n + n + n + (limits.len() - 1);
+    let r = at_once(gates, velocity, valid, limits, &mut u[n..e], n);
+    put_over(u, n, from);
+    from + r
+}
+
+// The last limit of the block that starts at limit `i` of `m`: 64 intervals, or those that are left.
+pub fn block_end(i: usize, m: usize) -> usize
+    requires { ⌜ i + 1 < m ⌝ }
+    ensures { λ r. ⌜ (i < r) × (r < m) × (r ≤ i + 64) ⌝ }
+{
+    if m - i < 65 {
+        return m - 1;
+    }
+    i + 64
+}
+
+// Block after block, where there are more intervals than counters.
+pub fn blocks(
+    gates: u32,
+    velocity: &[f32],
+    valid: &[u8],
+    limits: &[f64],
+    u: &mut [u32],
+    n: usize,
+) -> u32
+    requires { ⌜ Same n (now velocity) (now valid) ⌝ }
+    requires { ⌜ Ample gates (now limits) (now u) n ⌝ }
+    ensures { λ r. ⌜ record { labels = bandsOf (now (u .exit)) n; number = r } ≡ regions gates (now (velocity .entry)) (now (valid .entry)) (now (limits .entry)) ⌝ }
+{
+    let z = 0;
+    clear(&mut u[z..n]);
+    let m = limits.len();
+    let mut k: u32 = 0;
+    let mut i = 0;
+    while i + 1 < m {
+        let j = block_end(i, m);
+        let e = j + 1;
+        k = block(gates, velocity, valid, &limits[i..e], u, n, k);
+        i = j;
+    }
+    k
+}
+
+// How many intervals `m` limits have.
+pub fn spans(m: usize) -> usize
+    ensures { λ r. ⌜ r ≡ m - 1 ⌝ }
+{
+    if m == 0 {
+        return 0;
+    }
+    m - 1
+}
+
+// Labels in the first n words: all intervals at once where each has a counter, else block after block.
+pub fn label_gates(
+    gates: u32,
+    velocity: &[f32],
+    valid: &[u8],
+    limits: &[f64],
+    u: &mut [u32],
+    n: usize,
+) -> u32
+    requires { ⌜ Same n (now velocity) (now valid) ⌝ }
+    requires { ⌜ Ample gates (now limits) (now u) n ⌝ }
+    ensures { λ r. ⌜ record { labels = bandsOf (now (u .exit)) n; number = r } ≡ regions gates (now (velocity .entry)) (now (valid .entry)) (now (limits .entry)) ⌝ }
+{
+    let k = spans(limits.len());
+    if n + 64 < k {
+        return blocks(gates, velocity, valid, limits, u, n);
+    }
+    let z = 0;
+    let e = n + n + k;
+    at_once(gates, velocity, valid, limits, &mut u[z..e], n)
+}
+
+// The regions of a sweep: a label for each gate and how many regions there are. All other words lent are 0 at the end.
+pub fn find_regions(
+    gates: u32,
+    velocity: &[f32],
+    valid: &[u8],
+    limits: &[f64],
+    u: &mut [u32],
+) -> u32
+    requires { ⌜ Sweep gates (now velocity) (now valid) (now limits) (now u) ⌝ }
+    ensures { λ r. ⌜ r ≡ (regions gates (now (velocity .entry)) (now (valid .entry)) (now (limits .entry))) .number ⌝ }
+    ensures { λ _. ⌜ now (u .exit) ≡ (regions gates (now (velocity .entry)) (now (valid .entry)) (now (limits .entry))) .labels ++ replicate (2 * length (now (velocity .entry)) + 64) 0 ⌝ }
+{
+    let n = velocity.len();
+    let e = u.len();
+    let r = label_gates(gates, velocity, valid, limits, u, n);
+    clear(&mut u[n..e]);
+    r
+}
