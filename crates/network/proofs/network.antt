@@ -15,6 +15,7 @@ pub mod MovedWalk
 pub mod BaseWalk
 pub mod Prepared
 pub mod Circles
+pub mod Split
 pub mod Pigeon
 pub mod Counts
 pub mod Sums
