@@ -6,6 +6,7 @@ pub mod SoundSet
 pub mod SpliceDoes
 pub mod SoundSteps
 pub mod Walks
+pub mod Passing
 pub mod JoinDoes
 pub mod Rows
 pub mod TableEdges
@@ -16,6 +17,8 @@ pub mod BaseWalk
 pub mod Prepared
 pub mod Circles
 pub mod Split
+pub mod Chained
+pub mod Dropping
 pub mod Pigeon
 pub mod Counts
 pub mod Sums

@@ -16,6 +16,24 @@ use Rattle.network.proofs.network.Moved.{same-no, same-yes}
 use Rattle.network.proofs.network.Circles.{cur-suc, later}
 use Rattle.arithmetic.proofs.SeqLaws.{eqb-refl}
 
+-- owners, places and lengths afterwards
+pub split-here : (own : ℕ → ℕ) (x : ℕ) → own-split own x x ≡ x
+unfolding own-split
+split-here own x = rw (eqb-refl x) refl
+
+pub split-own : (own : ℕ → ℕ) (x s : ℕ) → (s ≡ x → ⊥) → own-split own x s ≡ own s
+unfolding own-split
+split-own own x s n = rw (same-no x s (λ e. n (sym e))) refl
+
+-- a slot of the same circle is at its place, or one before it
+pub split-pos : (own pos : ℕ → ℕ) (x s : ℕ) → (s ≡ x → ⊥) → own x ≡ own s → (pos s ≤ pos x → pos-split own pos x s ≡ pos s) × (pos x < pos s → pos-split own pos x s ≡ pos s - 1)
+unfolding pos-split
+split-pos own pos x s n e = (λ q. rw (same-no x s (λ w. n (sym w)), same-yes (own x) (own s) e, le-ltb (pos x) (pos s) q) refl, λ q. rw (same-no x s (λ w. n (sym w)), same-yes (own x) (own s) e, lt-ltb (pos x) (pos s) q) refl)
+
+pub split-len : (own len : ℕ → ℕ) (x g : ℕ) → (g ≡ x → ⊥) → (g ≡ own x → ⊥) → len-split own len x g ≡ len g
+unfolding len-split
+split-len own len x g n k = rw (same-no x g (λ e. n (sym e)), same-no (own x) g (λ e. k (sym e))) refl
+
 module _ (N : List ℕ) (size : ℕ) (own pos len : ℕ → ℕ) (C : Chains N size own pos len) where
   -- the slot after p stands one place further
   pub next-place : (p : ℕ) → p < size → (getD N p 0 ≡ own p → ⊥) → (suc (pos p) < len (own p)) × (pos (getD N p 0) ≡ suc (pos p)) × (own (getD N p 0) ≡ own p) × (getD N p 0 < size)

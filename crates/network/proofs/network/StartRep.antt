@@ -19,7 +19,7 @@ use Rattle.network.specs.Steps.{unbias}
 use Rattle.network.specs.Does.{Does}
 use Rattle.network.specs.Net.{rows, edgeOf, regionOf, stateOf, Like}
 use Rattle.network.specs.Chain.{cur, Chains, own-joined, pos-joined, len-joined}
-use Rattle.network.specs.Rep.{Rep, Ends, gatesOf}
+use Rattle.network.specs.Rep.{Rep, Circled, Ends, gatesOf}
 use Rattle.network.specs.TurnIs.{gatesIn, firstOf, RanIs}
 use Rattle.network.specs.Begin.{slotsFrom, regionsFrom, linkAt, linkEdge, linkFrom, begun, rawRegion, rawNet, Space, Raw, Begun, Linkable, AllIs}
 use Rattle.network.specs.Settle.{settle}
@@ -406,17 +406,14 @@ module _ (m n : ℕ) (s : Mem) (lens₀ : Lengths m n s) (raw : Raw m n s) (smal
   own-odd : (j : ℕ) → j < m → I .own (2 * j + 1) ≡ 2 * m + getD (s₃ .second) j 0
   own-odd j h = I .odd j (omega arith)
 
-  high : (i : ℕ) → i < 2 * m + n → 2 * m ≤ I .own i
-  high i h = ⊎-elim
-      (λ p. let j : ℕ = Prim.Native.Nat._/_ i 2 in
-      ⊎-elim (λ q. let z : i ≡ 2 * j = omega arith in omega (arith, ap (I .own) z, own-even j (omega arith)))
-      (λ q. let z : i ≡ 2 * j + 1 = omega arith in omega (arith, ap (I .own) z, own-odd j (omega arith))) (lt-or-le i (2 * j + 1)))
-      (λ p. let z : i ≡ 2 * m + (i - 2 * m) = omega arith in omega (arith, ap (I .own) z, I .heads (i - 2 * m) (omega arith)))
-      (lt-or-le i (2 * m))
-
-  echains : Chains (s₃ .enext) (2 * m + n) (I .own) (I .pos') (λ h. getD (s₃ .elen) (h - 2 * m) 0)
-  echains = chains-len (s₃ .enext) (2 * m + n) (I .own) (I .pos') (lens m s₃) (λ h. getD (s₃ .elen) (h - 2 * m) 0) (I .chains)
-      (λ h p o. ap (λ (b : Bool). cond b 1 (getD (s₃ .elen) (h - 2 * m) 0)) (le-ltb h (2 * m) (omega (arith, high h p))))
+  circled₃ : Circled m n (λ x. x) (edgeOf s₃) s₃ (I .own) (I .pos') (lens m s₃)
+  unfolding lens
+  circled₃ = record {
+    echains = I .chains;
+    header = λ x h e. I .heads x h;
+    lengths = λ x h e. let z : 2 * m + x - 2 * m ≡ x = omega arith in ap (λ (b : Bool). cond b 1 (getD (s₃ .elen) (2 * m + x - 2 * m) 0)) (le-ltb (2 * m + x) (2 * m) (omega arith)) ∙ ap (λ (y : ℕ). getD (s₃ .elen) y 0) z;
+    ends = λ j h l. inl (unfold edgeOf in own-even j h, unfold edgeOf in own-odd j h);
+  }
 
   rnext₃ : (x : ℕ) → x < n → getD (s₃ .rnext) x 0 ≡ x
   rnext₃ x h = ap (λ (l : List ℕ). getD l x 0) (all₃ .1 .rnext) ∙ G .own x (omega arith) (omega arith) .0
@@ -481,6 +478,7 @@ module _ (m n : ℕ) (s : Mem) (lens₀ : Lengths m n s) (raw : Raw m n s) (smal
     rpos = λ x. 0;
     eown = I .own;
     epos = I .pos';
+    elens = lens m s₃;
     edges = refl;
     regions = refl;
     number = λ j. unfold edgeOf in refl;
@@ -491,10 +489,8 @@ module _ (m n : ℕ) (s : Mem) (lens₀ : Lengths m n s) (raw : Raw m n s) (smal
     like = λ j h. like-refl (edgeOf s₃ j);
     sizes = λ x h e. sym (size-one (regionOf (gatesIn s₃) (λ y. y) s₃) (λ r. unfold regionOf in refl) 0 n x (omega arith) (omega arith) ∙ (unfold regionOf gatesIn in refl));
     rchains = ones (s₃ .rnext) n (λ x. getD (s₃ .rlen) x 0) rnext₃ rlen₃;
-    echains = echains;
-    high = high;
-    header = I .heads;
-    ends = λ j h l. inl (unfold edgeOf in own-even j h, unfold edgeOf in own-odd j h);
+    circled = circled₃;
+    leading = λ j h l. (refl, refl);
     marks = λ j h l e. absurd (⊎-elim (λ w. out-first j h w) (λ w. out-second j h w) e);
   }
     where
