@@ -31,4 +31,5 @@ pub mod Turns
 pub mod Settles
 pub mod Joint
 pub mod BeginDoes
+pub mod StartLinks
 pub mod StartRep

@@ -1,14 +1,13 @@
 -- The walk along the base's edges: it turns and marks them. Assumes nothing.
 use mathlib.Core.Path.{_≡_, refl, sym, ap, _∙_, subst}
 use mathlib.Core.Logic.{_⊎_, inl, inr, ⊎-elim}
-use mathlib.Core.Bool.{Bool, true, false, not, _&&_, cond, true≢false}
-use mathlib.Core.List.{List, [], _∷_}
-use Prim.Native.Nat.{ℕ, zero, suc, _+_, _*_, _-_, _/_, _≤_, _<_}
+use mathlib.Core.Bool.{Bool, true, false, cond, true≢false}
+use Prim.Native.Nat.{ℕ, _≤_, _<_}
 use native.Mathlib.Omega.{arith}
-use lib.Ieee.{nan, Float, neg}
-use borrow.Author.Tests.{le-ltb, eqb-true, eqb-false}
+use lib.Ieee.{Float, neg}
+use borrow.Author.Tests.{le-ltb}
 use Rattle.network.proofs.network.Bias.{lt-or-le}
-use lib.ListN.{length, getD, set}
+use lib.ListN.{getD}
 use Rattle.network.specs.Network.{Edge, turn, turnIf}
 use Rattle.network.proofs.SimpleLaws.{joined-turn}
 use Rattle.network.specs.Mem.{Mem, Sound, enext-set, mark-set, elen-set}
@@ -22,8 +21,6 @@ use Rattle.network.proofs.network.Chained.{At, at-end}
 use Rattle.network.proofs.network.Dropping.{went}
 use Rattle.network.proofs.network.TableEdges.{like-of, like-dead, like-then, like-at, live-word, dead-word, Words, words, base-none, base-two, base-one, base-else, mark-kept, mark-new, turn-kept, turn-new, mark-edges}
 use Rattle.network.proofs.network.Moved.{same-no, same-yes, also, also-old, also-new, also-else}
-use lib.Dec.{eqb}
-use Rattle.arithmetic.proofs.SeqLaws.{eqb-refl}
 use Rattle.network.specs.Simple.{Joined}
 
 pub record Plain (m : ℕ) (K : ℕ → Edge) : Type 0 where

@@ -1,14 +1,14 @@
 -- A walk along a node's chain that drops spent slots: the chains stay, and the edge of each slot is met. Assumes nothing.
 use mathlib.Core.Path.{_≡_, refl, sym, ap, _∙_, subst}
-use mathlib.Core.Logic.{_⊎_, inl, inr, ⊎-elim}
+use mathlib.Core.Logic.{inl, inr, ⊎-elim}
 use mathlib.Core.Bool.{Bool, true, false, cond, true≢false}
-use mathlib.Core.List.{List, [], _∷_}
+use mathlib.Core.List.{List}
 use Prim.Native.Nat.{ℕ, zero, suc, _+_, _*_, _-_, _/_, _≤_, _<_}
 use native.Mathlib.Omega.{arith}
-use lib.Dec.{eqb, ltb}
-use lib.ListN.{length, getD, set, length-set}
+use lib.Dec.{eqb}
+use lib.ListN.{getD, set, length-set}
 use lib.Seq.{getD-set-same, getD-set-other}
-use borrow.Author.Tests.{lt-ltb, le-ltb, eqb-true, eqb-false, ltb-true, ltb-false}
+use borrow.Author.Tests.{lt-ltb, le-ltb, eqb-true}
 use Rattle.network.specs.Network.{Edge}
 use Rattle.network.specs.Mem.{Mem, Sound, enext-set, elen-set}
 use Rattle.network.specs.Steps.{spent, dropAt, passed, kept, along, through, still, pruned}
@@ -16,9 +16,8 @@ use Rattle.network.specs.Chain.{cur, Chains, own-split, pos-split, len-s
 use Rattle.network.specs.Rep.{Circled, Ends}
 use Rattle.network.proofs.network.Bias.{lt-or-le}
 use Rattle.network.proofs.network.SoundSet.{eq-or-ne}
-use Rattle.network.proofs.network.Moved.{same-no, same-yes}
 use Rattle.network.proofs.network.Circles.{cur-suc, lead}
-use Rattle.network.proofs.network.Split.{split, split-here, split-own, split-pos, split-len}
+use Rattle.network.proofs.network.Split.{split, split-here, split-own, split-pos, split-shorter, split-len}
 use Rattle.network.proofs.network.Passing.{sound-drop}
 use Rattle.network.proofs.network.Chained.{circled-by}
 use Rattle.network.proofs.network.Frames.{Same, same-refl, same-drop}
@@ -36,6 +35,12 @@ module _ (m n : ℕ) (node : ℕ → ℕ) (K : ℕ → Edge) (b : ℕ) (hb : b <
   abbrev h : ℕ
   h = 2 * m + b
 
+  drop-next : (s : Mem) → Sound m n s → (p x : ℕ) → p < 2 * m + n → (p ≡ x → ⊥) → getD (dropAt b s p x .enext) p 0 ≡ getD (s .enext) x 0
+  unfolding dropAt enext-set elen-set
+  drop-next s sound p x hp px =
+      let t : ℕ = getD (s .enext) x 0 in
+      getD-set-other (set (s .enext) p t) x p x 0 px ∙ getD-set-same (s .enext) p t 0 (omega (arith, sound .l-enext))
+
   -- ---- one slot is dropped
   module _ (s : Mem) (sound : Sound m n s) (o q l : ℕ → ℕ) (C : Circled m n node K s o q l) (p x : ℕ) (hp : p < 2 * m + n) (op : o p ≡ h) (next : getD (s .enext) p 0 ≡ x) (not-led : x ≡ h → ⊥)
       (hx : x < 2 * m + n) (ox : o x ≡ h) (px : p ≡ x → ⊥) (far : (j : ℕ) → j < m → K j .live ≡ true → x / 2 ≡ j → ⊥) where
@@ -45,17 +50,11 @@ module _ (m n : ℕ) (node : ℕ → ℕ) (K : ℕ → Edge) (b : ℕ) (hb : b <
     abbrev N₂ : List ℕ
     N₂ = set N₁ x x
 
-    at-p : getD N₂ p 0 ≡ getD (s .enext) x 0
-    at-p = getD-set-other N₁ x p x 0 px ∙ getD-set-same (s .enext) p (getD (s .enext) x 0) 0 (omega (arith, sound .l-enext))
-
-    pub drop-next : getD (dropAt b s p x .enext) p 0 ≡ getD (s .enext) x 0
-    unfolding dropAt enext-set elen-set
-    drop-next = at-p
-
     drop-chains : Chains N₂ (2 * m + n) (own-split o x) (pos-split o q x) (len-split o l x)
+    unfolding dropAt enext-set elen-set
     drop-chains = split (s .enext) (2 * m + n) o q l (C .echains) N₂ p x hp next (λ e. not-led (e ∙ op))
         (λ i u v. getD-set-other N₁ x i x 0 v ∙ getD-set-other (s .enext) p i (getD (s .enext) x 0) 0 u)
-        at-p
+        (drop-next s sound p x hp px)
         (getD-set-same N₁ x x 0 (omega (arith, sound .l-enext, length-set (s .enext) p (getD (s .enext) x 0))))
 
     own-kept : (i : ℕ) → (i ≡ x → ⊥) → own-split o x i ≡ o i
@@ -79,10 +78,7 @@ module _ (m n : ℕ) (node : ℕ → ℕ) (K : ℕ → Edge) (b : ℕ) (hb : b <
       where
         at-b : len-split o l x (2 * m + b) ≡ getD (set (s .elen) b (getD (s .elen) b 0 - 1)) b 0
         at-b =
-            len-here ∙ ap (λ (y : ℕ). y - 1) (C .lengths b hb lb) ∙ sym (getD-set-same (s .elen) b (getD (s .elen) b 0 - 1) 0 (omega (arith, sound .l-elen)))
-          where
-            len-here : len-split o l x (2 * m + b) ≡ l (2 * m + b) - 1
-            len-here = unfold len-split in rw (same-no x (2 * m + b) not-led, same-yes (o x) (2 * m + b) ox) refl
+            split-shorter o l x (2 * m + b) not-led ox ∙ ap (λ (y : ℕ). y - 1) (C .lengths b hb lb) ∙ sym (getD-set-same (s .elen) b (getD (s .elen) b 0 - 1) 0 (omega (arith, sound .l-elen)))
 
         go : (j : ℕ) → j < m → K j .live ≡ true → Ends m o j (K j) → Ends m (own-split o x) j (K j)
         go j hj k (inl u) = inl (slot-kept (2 * j) j hj k (omega arith) ∙ u .0, slot-kept (2 * j + 1) j hj k (omega arith) ∙ u .1)
@@ -154,9 +150,8 @@ module _ (m n : ℕ) (node : ℕ → ℕ) (K : ℕ → Edge) (b : ℕ) (hb : b <
         sound = sound-drop m n b p x s (G .sound) (G .p-in) hx;
         p-in = G .p-in;
         p-own = split-own o x p not-p ∙ G .p-own;
-        x-is = drop-next s (G .sound) o q l (G .circled) p x (G .p-in) (G .p-own) (G .x-is) not-h hx ox not-p
-            (λ j hj r w. lives s done (G .inv) j hj r (ap (λ (y : ℕ). getD (s .weight) y 0) (sym w) ∙ spent-dead m s x e (subst (λ (y : ℕ). y < m) (sym w) hj)));
-        left = omega (arith, G .left, p-place, len-here);
+        x-is = drop-next s (G .sound) p x (G .p-in) not-p;
+        left = omega (arith, G .left, p-place, split-shorter o l x h not-h ox);
         seen = λ y hy oy qy r. ⊎-elim
             (λ w. absurd (not-h (sym (ap (own-split o x) w ∙ split-here o x) ∙ oy)))
             (λ w. let oy' : o y ≡ h = sym (split-own o x y w) ∙ oy in G .seen y hy oy' (up-to y w oy' qy) r)
@@ -171,9 +166,6 @@ module _ (m n : ℕ) (node : ℕ → ℕ) (K : ℕ → Edge) (b : ℕ) (hb : b <
               (λ a. absurd (omega (arith, split-pos o q x y w (ox ∙ sym oy) .1 a, p-place, qx)))
               (λ a. omega (arith, split-pos o q x y w (ox ∙ sym oy) .0 a, p-place))
               (lt-or-le (q x) (q y))
-
-          len-here : len-split o l x (2 * m + b) ≡ l (2 * m + b) - 1
-          len-here = unfold len-split in rw (same-no x (2 * m + b) not-h, same-yes (o x) (2 * m + b) ox) refl
 
       stayed : spent m s x ≡ false → (done' : ℕ → Bool) × Going (f s (x / 2)) done' o q l x (getD (s .enext) x 0) k
       stayed e =

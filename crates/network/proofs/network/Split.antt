@@ -1,19 +1,16 @@
 -- A slot that does not lead its circle is taken out of it, and becomes a circle of its own. Assumes nothing.
 use mathlib.Core.Path.{_≡_, refl, sym, ap, _∙_, subst}
-use mathlib.Core.Logic.{_⊎_, inl, inr, ⊎-elim}
-use mathlib.Core.Bool.{Bool, true, false, _&&_, cond}
-use mathlib.Core.List.{List, [], _∷_}
-use Prim.Native.Nat.{ℕ, zero, suc, _+_, _*_, _-_, _≤_, _<_}
+use mathlib.Core.Logic.{⊎-elim}
+use mathlib.Core.List.{List}
+use Prim.Native.Nat.{ℕ, zero, suc, _+_, _-_, _≤_, _<_}
 use native.Mathlib.Omega.{arith}
-use lib.ListN.{length, getD, set, length-set}
-use lib.Seq.{getD-set-same, getD-set-other}
-use lib.Dec.{eqb, ltb}
+use lib.ListN.{getD}
 use borrow.Author.Tests.{lt-ltb, le-ltb}
 use Rattle.network.specs.Chain.{cur, Chains, own-split, pos-split, len-split}
 use Rattle.network.proofs.network.Bias.{lt-or-le}
 use Rattle.network.proofs.network.SoundSet.{eq-or-ne}
 use Rattle.network.proofs.network.Moved.{same-no, same-yes}
-use Rattle.network.proofs.network.Circles.{cur-suc, later}
+use Rattle.network.proofs.network.Circles.{cur-suc}
 use Rattle.arithmetic.proofs.SeqLaws.{eqb-refl}
 
 -- owners, places and lengths afterwards
@@ -29,6 +26,10 @@ split-own own x s n = rw (same-no x s (λ e. n (sym e))) refl
 pub split-pos : (own pos : ℕ → ℕ) (x s : ℕ) → (s ≡ x → ⊥) → own x ≡ own s → (pos s ≤ pos x → pos-split own pos x s ≡ pos s) × (pos x < pos s → pos-split own pos x s ≡ pos s - 1)
 unfolding pos-split
 split-pos own pos x s n e = (λ q. rw (same-no x s (λ w. n (sym w)), same-yes (own x) (own s) e, le-ltb (pos x) (pos s) q) refl, λ q. rw (same-no x s (λ w. n (sym w)), same-yes (own x) (own s) e, lt-ltb (pos x) (pos s) q) refl)
+
+pub split-shorter : (own len : ℕ → ℕ) (x g : ℕ) → (x ≡ g → ⊥) → own x ≡ g → len-split own len x g ≡ len g - 1
+unfolding len-split
+split-shorter own len x g n e = rw (same-no x g n, same-yes (own x) g e) refl
 
 pub split-len : (own len : ℕ → ℕ) (x g : ℕ) → (g ≡ x → ⊥) → (g ≡ own x → ⊥) → len-split own len x g ≡ len g
 unfolding len-split
@@ -104,12 +105,10 @@ module _ (N : List ℕ) (size : ℕ) (own pos len : ℕ → ℕ) (C : Chains N s
 
   -- ---- owners, places and lengths by cases
   own-x : own-split own x x ≡ x
-  unfolding own-split
-  own-x = rw (eqb-refl x) refl
+  own-x = split-here own x
 
   own-else : (s : ℕ) → (s ≡ x → ⊥) → own-split own x s ≡ own s
-  unfolding own-split
-  own-else s n = rw (same-no x s (λ e. n (sym e))) refl
+  own-else = split-own own x
 
   pos-x : pos-split own pos x x ≡ 0
   unfolding pos-split
@@ -120,24 +119,20 @@ module _ (N : List ℕ) (size : ℕ) (own pos len : ℕ → ℕ) (C : Chains N s
   pos-far s n k = rw (same-no x s (λ e. n (sym e)), same-no (own x) (own s) (λ e. k (sym e ∙ ox))) refl
 
   pos-before : (s : ℕ) → (s ≡ x → ⊥) → own s ≡ h → pos s ≤ pos x → pos-split own pos x s ≡ pos s
-  unfolding pos-split
-  pos-before s n e q = rw (same-no x s (λ w. n (sym w)), same-yes (own x) (own s) (ox ∙ sym e), le-ltb (pos x) (pos s) q) refl
+  pos-before s n e q = split-pos own pos x s n (ox ∙ sym e) .0 q
 
   pos-after : (s : ℕ) → (s ≡ x → ⊥) → own s ≡ h → pos x < pos s → pos-split own pos x s ≡ pos s - 1
-  unfolding pos-split
-  pos-after s n e q = rw (same-no x s (λ w. n (sym w)), same-yes (own x) (own s) (ox ∙ sym e), lt-ltb (pos x) (pos s) q) refl
+  pos-after s n e q = split-pos own pos x s n (ox ∙ sym e) .1 q
 
   len-x : len-split own len x x ≡ 1
   unfolding len-split
   len-x = rw (eqb-refl x) refl
 
   len-h : len-split own len x h ≡ len h - 1
-  unfolding len-split
-  len-h = rw (same-no x h not-led, same-yes (own x) h ox) refl
+  len-h = split-shorter own len x h not-led ox
 
   len-else : (g : ℕ) → (g ≡ x → ⊥) → (g ≡ h → ⊥) → len-split own len x g ≡ len g
-  unfolding len-split
-  len-else g n k = rw (same-no x g (λ e. n (sym e)), same-no (own x) g (λ e. k (sym e ∙ ox))) refl
+  len-else g n k = split-len own len x g n (λ e. k (e ∙ ox))
 
   -- the slots of each circle
   record Slot (g i z : ℕ) : Type 0 where
@@ -226,14 +221,11 @@ module _ (N : List ℕ) (size : ℕ) (own pos len : ℕ → ℕ) (C : Chains N s
       early : pos s ≤ pos x → Stands s
       early q =
           let m : pos s ≡ pos x → ⊥ = λ w. n (sym here-s ∙ ap (cur N h) w ∙ ap (λ (k : ℕ). cur N k (pos x)) (sym ox) ∙ C .at x hx) in
-          let r : pos s ≤ pos p = ⊎-elim (λ a. a) (λ a. absurd (m (omega (arith, px)))) (lt-or-le' (pos s) (pos p)) in
+          let r : pos s ≤ pos p = ⊎-elim (λ a. absurd (m (omega (arith, px)))) (λ a. a) (lt-or-le (pos p) (pos s)) in
           record {
             there = omega (arith, pos-before s n e q, ap (len-split own len x) o, len-h, place .0);
             back = ap (λ (k : ℕ). cur N' k (pos-split own pos x s)) o ∙ ap (cur N' h) (pos-before s n e q) ∙ before (pos s) r ∙ here-s;
           }
-        where
-          lt-or-le' : (a c : ℕ) → (a ≤ c) ⊎ (c < a)
-          lt-or-le' a c = ⊎-elim (λ w. inr w) (λ w. inl w) (lt-or-le c a)
 
       late : pos x < pos s → Stands s
       late q =

@@ -2,16 +2,15 @@
 use mathlib.Core.Path.{_≡_, refl, sym, ap, _∙_, subst}
 use mathlib.Core.Logic.{_⊎_, inl, inr, ⊎-elim}
 use mathlib.Core.Bool.{Bool, true, false, not, _&&_, cond, true≢false}
-use mathlib.Core.List.{List, [], _∷_, map}
-use mathlib.Core.Option.{Option, none, some}
-use Prim.Native.Nat.{ℕ, zero, suc, _+_, _*_, _-_, _/_, _≤_, _<_, _^_}
+use mathlib.Core.List.{List}
+use Prim.Native.Nat.{ℕ, zero, suc, _+_, _*_, _-_, _/_, _≤_, _<_}
 use native.Mathlib.Omega.{arith}
 use lib.Dec.{eqb, ltb}
-use lib.ListN.{length, getD, set, length-set}
+use lib.ListN.{getD}
 use lib.Seq.{getD-set-same, getD-set-other}
-use borrow.Author.Tests.{eqb-true, eqb-false}
+use borrow.Author.Tests.{eqb-true}
 use Rattle.network.specs.Network.{Edge, Region, State, Plan, sizeOf, plan, planFor, kill, turn, turnIf, adjust, prepare, combine}
-use Rattle.network.specs.Mem.{Mem, Sound, total, weight-set}
+use Rattle.network.specs.Mem.{Mem, Sound, weight-set}
 use Rattle.network.specs.Steps.{unbias, walkBase, pruned, movedEdge, walkMoved, movedAll, readied}
 use Rattle.network.specs.Does.{Gains}
 use Rattle.network.specs.Net.{rows, edgeOf, regionOf, Like}
@@ -29,8 +28,6 @@ use Rattle.network.proofs.network.MovedWalk.{begin, Walked, walk, finis
 use Rattle.network.proofs.network.BaseWalk.{Plain, Ready, Walked as WalkedBase, ready-walk, ready-still}
 use Rattle.network.proofs.network.Counts.{Counted}
 use Rattle.network.proofs.network.Prepared.{plain, nodes-apart, setting}
-use Rattle.arithmetic.proofs.SeqLaws.{eqb-refl}
-use Rattle.network.specs.Simple.{Simple}
 
 pub sound-walk-moved : (m n b v g k : ℕ) (s : Mem) (x : ℕ) → Gains n b v g → Sound m n s → Sound m n (walkMoved k m b v g s x)
 unfolding walkMoved

@@ -1,36 +1,35 @@
 -- A merge of the code keeps the invariant and is the network's step. Assumes nothing.
 use mathlib.Core.Path.{_≡_, refl, sym, ap, _∙_, subst}
 use mathlib.Core.Logic.{_⊎_, inl, inr, ⊎-elim}
-use mathlib.Core.Bool.{Bool, true, false, not, _&&_, cond, true≢false}
-use mathlib.Core.List.{List, [], _∷_, map}
+use mathlib.Core.Bool.{Bool, true, false, _&&_, cond}
+use mathlib.Core.List.{List, map}
 use mathlib.Core.Option.{Option, none, some}
-use Prim.Native.Nat.{ℕ, zero, suc, _+_, _*_, _-_, _/_, _≤_, _<_, _^_}
+use Prim.Native.Nat.{ℕ, _+_, _*_, _-_, _≤_, _<_, _^_}
 use native.Mathlib.Omega.{arith}
 use lib.IntN.{ℤ, _+ℤ_}
-use lib.ListN.{length, getD, set, length-set}
-use Rattle.network.specs.Network.{Edge, Region, State, Plan, Link, sizeOf, at, plan, planFor, kill, prepare, find, absorb, absent, hand, combine, joinAll, mergeEdges, move, merge, stepTo, step, raised, bounded}
+use lib.ListN.{length, getD, set}
+use Rattle.network.specs.Network.{Edge, Region, State, Plan, Link, sizeOf, at, plan, kill, prepare, find, absorb, hand, combine, joinAll, mergeEdges, move, merge, stepTo, step, raised, bounded}
 use Rattle.network.proofs.Restrict.{prepare-num, combine-num}
 use Rattle.network.proofs.Ends.{combine-live}
 use Rattle.network.proofs.Choice.{size-base}
 use Rattle.network.proofs.SimpleLaws.{Turned, step-simple}
 use Rattle.network.specs.Mem.{Mem, Sound, weight-set}
-use Rattle.network.specs.Steps.{unbias, accepts, walkRaise, pruned, movedAll, splice, grow, readied, handed, then, merged}
-use Rattle.network.specs.Net.{rows, edgeOf, regionOf, Like}
+use Rattle.network.specs.Steps.{unbias, accepts, walkRaise, pruned, movedAll, readied, handed, then, merged}
+use Rattle.network.specs.Net.{rows, regionOf}
 use Rattle.network.specs.Chain.{cur, Chains, own-joined, pos-joined, len-joined}
 use Rattle.network.specs.Rep.{Rep, Circled, Ends, gatesOf}
 use Rattle.network.proofs.network.SoundSet.{eq-or-ne}
 use Rattle.network.proofs.network.Rows.{map-rows, rows-ext}
 use Rattle.network.proofs.network.TableEdges.{like-at}
 use Rattle.network.proofs.network.Frames.{Beside}
-use Rattle.network.proofs.network.Moved.{same-no, same-yes, Setting}
-use Rattle.network.proofs.network.Counts.{Counted, Gained, Gives, raise}
+use Rattle.network.proofs.network.Moved.{same-no, same-yes}
+use Rattle.network.proofs.network.Counts.{Gained, Gives, raise}
 use Rattle.network.proofs.network.Sums.{accepts-is, accepted-sum, size-else, gates-move}
 use Rattle.network.proofs.network.After.{swap, swapped, chains-len, after, after-edges, after-mark, after-count, after-rnext, after-enext, after-size, after-elen, after-rlen, sound-after, sum-there, all-yes, all-no}
 use Rattle.network.proofs.network.Prepared.{at-rows, setting}
-use Rattle.network.proofs.network.StepEdges.{prep-ends, prep-live, ends-in, base-in, moved-in, base-leads, moved-leads, apart, beside₂, sound₂, same₁, beside₄, o₄, q₄, l₄, circled₄, sound₄, like₄, marks₄}
+use Rattle.network.proofs.network.StepEdges.{prep-ends, prep-live, base-in, moved-in, base-leads, moved-leads, apart, beside₂, sound₂, same₁, beside₄, o₄, q₄, l₄, circled₄, sound₄, like₄, marks₄}
 use lib.Dec.{eqb}
-use borrow.Author.Tests.{eqb-true, eqb-false}
-use Rattle.arithmetic.proofs.SeqLaws.{eqb-refl}
+use borrow.Author.Tests.{eqb-true}
 use Rattle.arithmetic.specs.Seq.{all}
 use Rattle.network.specs.Simple.{Simple}
 

@@ -1,34 +1,30 @@
 -- `choose_base`, `turn` and `run` over plain values. Assumes nothing.
 use mathlib.Core.Path.{_≡_, refl, sym, ap, _∙_, subst}
-use mathlib.Core.Logic.{_⊎_, inl, inr, ⊎-elim}
-use mathlib.Core.Bool.{Bool, true, false, not, _&&_, cond, true≢false}
-use mathlib.Core.List.{List, [], _∷_, map}
+use mathlib.Core.Bool.{Bool, true, false, _&&_, cond}
+use mathlib.Core.List.{List}
 use mathlib.Core.Option.{Option, none, some}
-use Prim.Native.Nat.{ℕ, zero, suc, _+_, _*_, _-_, _≤_, _<_, _^_}
+use Prim.Native.Nat.{ℕ, zero, suc, _+_, _*_, _-_, _≤_, _<_}
 use native.Mathlib.Omega.{arith}
-use lib.Dec.{ltb, eqb}
-use lib.IntN.{ℤ, negℤ}
+use lib.IntN.{negℤ}
 use lib.Ieee.{nan, Float}
 use lib.ListN.{length, getD}
 use borrow.Author.Tests.{lt-ltb, le-ltb}
-use Rattle.network.specs.Network.{Edge, Region, State, Plan, Event, sizeOf, at, plan, planFor, eventOf, event, step, raised, better, choose, quot, bounded, inRange}
+use Rattle.network.specs.Network.{Edge, Region, State, Plan, sizeOf, at, plan, planFor, eventOf, event, step, raised, better, choose, quot, bounded, inRange}
 use Rattle.network.proofs.Choice.{Best as Heaviest, best-chosen}
-use Rattle.memory.specs.Tree.{Tree, Best, Beats}
+use Rattle.memory.specs.Tree.{Tree, Best}
 use Rattle.network.specs.Mem.{Mem, view, Room, Sound}
 use Rattle.network.specs.Steps.{unbias, merged, numberOf}
 use Rattle.network.specs.Does.{Does, Raised, Gains, Fit}
-use Rattle.network.specs.Net.{rows, edgeOf, regionOf, Like, stateOf}
-use Rattle.network.specs.Rep.{Rep, gatesOf}
+use Rattle.network.specs.Net.{rows, regionOf}
+use Rattle.network.specs.Rep.{Rep}
 use Rattle.network.specs.Settle.{Done, onward, settle}
 use Rattle.network.specs.TurnIs.{TurnIs, Chosen, PickIs, gatesIn, firstOf, RanIs}
 use Rattle.network.specs.declared.network.Turned.{Turned}
 use Rattle.network.specs.declared.network.Turned.the-variants.{Merged, Ended, Refused}
-use Rattle.network.specs.declared.network.Ran.{Ran}
 use Rattle.network.specs.declared.network.Ran.the-variants.{Settled, Denied}
-use Rattle.network.proofs.network.SoundSet.{eq-or-ne}
 use Rattle.network.proofs.network.View.{weight-at, first-at, second-at, size-at}
 use Rattle.network.proofs.network.Rows.{length-rows, getD-rows, has-rows}
-use Rattle.network.proofs.network.TableEdges.{word-live, live-word, Words, words}
+use Rattle.network.proofs.network.TableEdges.{word-live, Words, words}
 use Rattle.network.proofs.network.Pigeon.{two-circles}
 use Rattle.network.proofs.network.Sums.{size-two}
 use Rattle.network.proofs.network.Prepared.{at-rows}
@@ -37,7 +33,6 @@ use Rattle.network.proofs.network.StepRep.{MergeIs, merge-is}
 use Rattle.network.proofs.network.MergeDoes.{raised-true, raised-false}
 use Rattle.network.proofs.network.NumberIs.{Numbered, number-in, number-out, opposite}
 use Rattle.arithmetic.specs.Seq.{all}
-use Rattle.network.specs.Simple.{Simple}
 
 diff-same : (m n : ℕ) (w : List ℕ) (d : List Float) (e : ℕ) → getD (view m n w d .diff) e nan ≡ getD d e nan
 unfolding view
