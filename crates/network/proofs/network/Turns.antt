@@ -1,43 +1,38 @@
 -- `choose_base`, `turn` and `run` over plain values. Assumes nothing.
 use mathlib.Core.Path.{_≡_, refl, sym, ap, _∙_, subst}
-use mathlib.Core.Logic.{_⊎_, inl, inr, ⊎-elim}
-use mathlib.Core.Bool.{Bool, true, false, not, _&&_, cond, true≢false}
-use mathlib.Core.List.{List, [], _∷_, map}
+use mathlib.Core.Bool.{Bool, true, false, _&&_, cond}
+use mathlib.Core.List.{List}
 use mathlib.Core.Option.{Option, none, some}
-use Prim.Native.Nat.{ℕ, zero, suc, _+_, _*_, _-_, _≤_, _<_, _^_}
+use Prim.Native.Nat.{ℕ, zero, suc, _+_, _*_, _-_, _≤_, _<_}
 use native.Mathlib.Omega.{arith}
-use lib.Dec.{ltb, eqb}
-use lib.IntN.{ℤ, negℤ}
+use lib.IntN.{negℤ}
 use lib.Ieee.{nan, Float}
 use lib.ListN.{length, getD}
 use borrow.Author.Tests.{lt-ltb, le-ltb}
-use Rattle.network.specs.Network.{Edge, Region, State, Plan, Event, sizeOf, at, plan, planFor, eventOf, event, step, raised, better, choose, quot, bounded, inRange}
+use Rattle.network.specs.Network.{Edge, Region, State, Plan, sizeOf, at, plan, planFor, eventOf, event, step, raised, better, choose, quot, bounded, inRange}
 use Rattle.network.proofs.Choice.{Best as Heaviest, best-chosen}
-use Rattle.memory.specs.Tree.{Tree, Best, Beats}
+use Rattle.memory.specs.Tree.{Tree, Best}
 use Rattle.network.specs.Mem.{Mem, view, Room, Sound}
 use Rattle.network.specs.Steps.{unbias, merged, numberOf}
 use Rattle.network.specs.Does.{Does, Raised, Gains, Fit}
-use Rattle.network.specs.Net.{rows, edgeOf, regionOf, Like, stateOf}
-use Rattle.network.specs.Rep.{Rep, gatesOf}
+use Rattle.network.specs.Net.{rows, regionOf}
+use Rattle.network.specs.Rep.{Rep}
 use Rattle.network.specs.Settle.{Done, onward, settle}
 use Rattle.network.specs.TurnIs.{TurnIs, Chosen, PickIs, gatesIn, firstOf, RanIs}
 use Rattle.network.specs.declared.network.Turned.{Turned}
 use Rattle.network.specs.declared.network.Turned.the-variants.{Merged, Ended, Refused}
-use Rattle.network.specs.declared.network.Ran.{Ran}
 use Rattle.network.specs.declared.network.Ran.the-variants.{Settled, Denied}
-use Rattle.network.proofs.network.SoundSet.{eq-or-ne}
 use Rattle.network.proofs.network.View.{weight-at, first-at, second-at, size-at}
 use Rattle.network.proofs.network.Rows.{length-rows, getD-rows, has-rows}
-use Rattle.network.proofs.network.TableEdges.{word-live, live-word, Words, words}
+use Rattle.network.proofs.network.TableEdges.{word-live, Words, words}
 use Rattle.network.proofs.network.Pigeon.{two-circles}
 use Rattle.network.proofs.network.Sums.{size-two}
 use Rattle.network.proofs.network.Prepared.{at-rows}
-use Rattle.network.proofs.network.StepEdges.{ends-in, at-end, leads}
+use Rattle.network.proofs.network.StepEdges.{ends-in}
 use Rattle.network.proofs.network.StepRep.{MergeIs, merge-is}
 use Rattle.network.proofs.network.MergeDoes.{raised-true, raised-false}
 use Rattle.network.proofs.network.NumberIs.{Numbered, number-in, number-out, opposite}
 use Rattle.arithmetic.specs.Seq.{all}
-use Rattle.network.specs.Simple.{Simple}
 
 diff-same : (m n : ℕ) (w : List ℕ) (d : List Float) (e : ℕ) → getD (view m n w d .diff) e nan ≡ getD d e nan
 unfolding view
@@ -118,22 +113,18 @@ module _ (m n : ℕ) (gates : ℕ → ℕ) (last : ℕ) (w : List ℕ) (d : List
     proper = R .simple .proper (R .E e) (has-rows (R .E) 0 m e (omega arith) (omega arith)) l
 
     leads-first : R .node (R .E e .first) ≡ R .E e .first
-    leads-first = leads m n gates last s t R e (R .E e .first) (ends-words .2) (at-end m n gates last s t R e (R .E e .first) lt l (inl refl))
+    leads-first = R .leading e lt l .0
 
     leads-second : R .node (R .E e .second) ≡ R .E e .second
-    leads-second = leads m n gates last s t R e (R .E e .second) (ends-words .3) (at-end m n gates last s t R e (R .E e .second) lt l (inr refl))
+    leads-second = R .leading e lt l .1
 
     fit-of : (b v : ℕ) → b < n → v < n → R .node b ≡ b → R .node v ≡ v → (b ≡ v → ⊥) → Fit n b v s
     fit-of b v hb hv lb lv ne =
-        let zb : 2 * m + b - 2 * m ≡ b = omega arith in
-        let zv : 2 * m + v - 2 * m ≡ v = omega arith in
-        let eb : getD (s .elen) (2 * m + b - 2 * m) 0 ≡ getD (s .elen) b 0 = ap (λ (x : ℕ). getD (s .elen) x 0) zb in
-        let ev : getD (s .elen) (2 * m + v - 2 * m) 0 ≡ getD (s .elen) v 0 = ap (λ (x : ℕ). getD (s .elen) x 0) zv in
         record {
           b-in = hb;
           v-in = hv;
           sizes = omega (arith, R .sizes b hb lb, R .sizes v hv lv, size-two b v ne rs, R .light);
-          elens = omega (arith, R .small, two-circles (s .enext) (2 * m + n) (R .eown) (R .epos) (λ h. getD (s .elen) (h - 2 * m) 0) (R .echains) (2 * m + b) (2 * m + v) (omega arith) (omega arith) (R .header b hb ∙ ap (λ (x : ℕ). 2 * m + x) lb) (R .header v hv ∙ ap (λ (x : ℕ). 2 * m + x) lv) (λ q. ne (omega arith)));
+          elens = omega (arith, R .small, R .circled .lengths b hb lb, R .circled .lengths v hv lv, two-circles (s .enext) (2 * m + n) (R .eown) (R .epos) (R .elens) (R .circled .echains) (2 * m + b) (2 * m + v) (omega arith) (omega arith) (R .circled .header b hb lb) (R .circled .header v hv lv) (λ q. ne (omega arith)));
           rlens = omega (arith, R .small, two-circles (s .rnext) n (R .node) (R .rpos) (λ x. getD (s .rlen) x 0) (R .rchains) b v hb hv lb lv ne);
         }
 
