@@ -1,1 +1,2 @@
-// Definitions alone stand here as yet: see specs/.
+// The two exported entries, and what they are built of.
+pub mod checks;
