@@ -1,3 +1,4 @@
+pub mod CheckLaws
 pub mod QuestionLaws
 pub mod Early
 pub mod Echo

@@ -62,7 +62,9 @@ pub fn nyquist_sized(nyquist: f32) -> bool
 fn in_options(splits: u32, skip_rays: u32, skip_gates: u32, centred: u32, wrap: u32) -> bool
     ensures { λ r. ⌜ r ≡ (leb 1 splits && leb splits 9999 && leb «skip_rays» 1000 && leb «skip_gates» 1000 && leb centred 1 && leb wrap 1) ⌝ }
 {
-    1 <= splits && (splits <= 9999 && (skip_rays <= 1000 && (skip_gates <= 1000 && (centred <= 1 && wrap <= 1))))
+    1 <= splits
+        && (splits <= 9999
+            && (skip_rays <= 1000 && (skip_gates <= 1000 && (centred <= 1 && wrap <= 1))))
 }
 
 // Whether a velocity is a number from -16,384 to 16,384.

@@ -43,7 +43,7 @@ is-fair-requires c κs = tt
 
 -- src/checks.rt:84:17
 returns : tie.Need-returns Inv-loop μ-loop
-returns c = let l = c .before .before .before .before .before .before .loop in let s = c .before .before .before .before .before .before .before .before .before in sym (l .inv .1 ∙ speed-valid (s .args .velocity .now) (s .args .valid .now) (l .i) (s .pre) (omega arith) (c .before .before .before .if1 .taken) ?)
+returns c = let l = c .before .before .before .before .before .before .loop in let s = c .before .before .before .before .before .before .before .before .before in let f = c .before .«is-fair» in sym (l .inv .1 ∙ speed-valid (s .args .velocity .now) (s .args .valid .now) (l .i) (s .pre) (omega arith) (c .before .before .before .if1 .taken) (sym (f .ensures) ∙ not-true _ (c .if2 .taken)))
 
 -- src/checks.rt:87:9
 add-i : tie.Need-add-i Inv-loop μ-loop
@@ -55,7 +55,7 @@ loop-less c = omega arith
 
 -- src/checks.rt:81:5
 loop-again : tie.Need-loop-again Inv-loop μ-loop
-loop-again c = let l = c .before .before .before .loop in let s = c .before .before .before .before .before .before in (omega arith, ⊎-elim (λ w. l .inv .1 ∙ speed-valid (s .args .velocity .now) (s .args .valid .now) (l .i) (s .pre) (omega arith) (w .0 .taken) ?) (λ w. l .inv .1 ∙ speed-masked (s .args .velocity .now) (s .args .valid .now) (l .i) (s .pre) (omega arith) ?) (c .if1 .came))
+loop-again c = let l = c .before .before .before .loop in let s = c .before .before .before .before .before .before in (omega arith, ⊎-elim (λ w. l .inv .1 ∙ speed-valid (s .args .velocity .now) (s .args .valid .now) (l .i) (s .pre) (omega arith) (w .0 .taken) (sym (w .2 .ensures) ∙ not-false _ (w .3 .left))) (λ w. l .inv .1 ∙ speed-masked (s .args .velocity .now) (s .args .valid .now) (l .i) (s .pre) (omega arith) (w .left)) (c .if1 .came))
 
 -- src/checks.rt:76:1
 returns-2 : tie.Need-returns-2 Inv-loop μ-loop
