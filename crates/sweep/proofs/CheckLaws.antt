@@ -8,10 +8,13 @@ use mathlib.Core.List.{List, [], _∷_}
 use mathlib.Core.Option.{Option, none, some}
 use lib.Dec.{T, eqb, leb}
 use lib.ListN.{length, getD}
+use lib.IntN.{pos, negsuc}
+use lib.Ieee.{Float, fin, le}
 use borrow.Author.Tests.{leb-true, eqb-true, not-true, not-false}
 use Rattle.arithmetic.specs.Seq.{all}
 use Rattle.arithmetic.specs.Intervals.{valid, sized, fair}
 use Rattle.arithmetic.specs.Asked.{Asked}
+use Rattle.arithmetic.proofs.Plans.{T-of}
 use Rattle.arithmetic.proofs.AllLaws.{and-left, and-right}
 use Rattle.sweep.specs.Sweep.{Sweep}
 use Rattle.sweep.specs.Checks.{Question, Lent, ask, firstNo, gatesIn, wordsFor, floatsFor, inSize, inLength, inMask, inRoom, inOptions, inSpeed, inLimits, asked}
@@ -148,3 +151,135 @@ module _ (s : Sweep) (l : Lent) where
       pub missed-none : sized (s .nyquist) ≡ true → inOptions s ≡ true → inSpeed (s .vel) (s .mask) ≡ true → 0 ≡ answerOf (askedFirst s l)
       unfolding askedFirst firstNo
       missed-none e f h = rw (a, b, c, d, e, f, h) refl
+
+-- ---- a yes to all seven
+
+-- a first question that gets a yes leaves the rest
+first-yes : (q : Question) (qs : List Question) → firstNo (q ∷ qs) ≡ none → q .yes ≡ true
+unfolding firstNo
+first-yes q qs h = go (q .yes) h
+  where
+    go : (b : Bool) → _≡_ {A = Option ℕ} (elim b [ true ↦ firstNo qs | false ↦ some (q .number) ]) none → b ≡ true
+    go true h = refl
+    go false h = let z : _≡_ {A = ℕ} 0 1 = cc in absurd (omega arith)
+
+rest-yes : (q : Question) (qs : List Question) → firstNo (q ∷ qs) ≡ none → firstNo qs ≡ none
+unfolding firstNo
+rest-yes q qs h = go (q .yes) h
+  where
+    go : (b : Bool) → _≡_ {A = Option ℕ} (elim b [ true ↦ firstNo qs | false ↦ some (q .number) ]) none → firstNo qs ≡ none
+    go true h = h
+    go false h = let z : _≡_ {A = ℕ} 0 1 = cc in absurd (omega arith)
+
+-- question 6's yes
+pub record Options (s : Sweep) : Type 0 where
+  pub some : 1 ≤ s .splits
+  pub few : s .splits ≤ 9999
+  pub skipRays : s .shape .skipRays ≤ 1000
+  pub skipGates : s .shape .skipGates ≤ 1000
+  pub centred : s .centred ≤ 1
+  pub wrap : s .shape .wrap ≤ 1
+
+options : (s : Sweep) → inOptions s ≡ true → Options s
+unfolding inOptions
+options s h =
+    let a = leb 1 (s .splits) in
+    let b = leb (s .splits) 9999 in
+    let c = leb (s .shape .skipRays) 1000 in
+    let d = leb (s .shape .skipGates) 1000 in
+    let e = leb (s .centred) 1 in
+    let f = leb (s .shape .wrap) 1 in
+    let q = and-four (a && b && c) d e f h in
+    let p = and-four a b c d (rw (q .0, q .1) refl) in
+    record {
+      some = leb-true 1 (s .splits) (p .0);
+      few = leb-true (s .splits) 9999 (p .1);
+      skipRays = leb-true (s .shape .skipRays) 1000 (p .2);
+      skipGates = leb-true (s .shape .skipGates) 1000 (p .3);
+      centred = leb-true (s .centred) 1 (q .2);
+      wrap = leb-true (s .shape .wrap) 1 (q .3);
+    }
+
+-- question 5's yes, with question 6's
+nyquist-asked : (s : Sweep) → sized (s .nyquist) ≡ true → Options s → Asked (s .nyquist) (s .splits)
+unfolding sized
+nyquist-asked s h o =
+    let low = le (fin false 1 (negsuc 2)) (s .nyquist) in
+    let high = le (s .nyquist) (fin false 1 (pos 10)) in
+    record { low = T-of (and-left low high h); high = T-of (and-right low high h); some = o .some; few = o .few }
+
+speeds : (vs : List Float) (ms : List ℕ) → inSpeed vs ms ≡ true → T (all fair (valid vs ms))
+unfolding inSpeed
+speeds vs ms h = T-of h
+
+module _ (s : Sweep) (l : Lent) where
+  pub passed : askedFirst s l ≡ none → Passed s l
+  unfolding askedFirst
+  passed h =
+      let r1 = rest-yes _ _ h in
+      let r2 = rest-yes _ _ r1 in
+      let r3 = rest-yes _ _ r2 in
+      let r4 = rest-yes _ _ r3 in
+      let r5 = rest-yes _ _ r4 in
+      let r6 = rest-yes _ _ r5 in
+      let size = first-yes _ _ h in
+      let long = first-yes _ _ r1 in
+      let room = first-yes _ _ r3 in
+      let o = options s (first-yes _ _ r5) in
+      record {
+        rays = size-rays (s .shape .rays) (s .shape .gates) size;
+        gates = size-gates (s .shape .rays) (s .shape .gates) size;
+        vel = length-vel s l long;
+        mask = length-mask s l long;
+        counts = eqb-true (l .counts) (s .shape .rays * s .shape .gates) (lengths s l long .2);
+        pair = eqb-true (l .pair) 2 (lengths s l long .3);
+        bytes = λ g. mask-bytes (s .mask) g (first-yes _ _ r2);
+        words = room-words s l room;
+        floats = room-floats s l room;
+        asked = nyquist-asked s (first-yes _ _ r4) o;
+        skipRays = o .skipRays;
+        skipGates = o .skipGates;
+        centred = o .centred;
+        wrap = o .wrap;
+        fair = speeds (s .vel) (s .mask) (first-yes _ _ r6);
+      }
+
+  -- questions 1 to 8 are questions 1 to 7 and then question 8
+  pub asked-eight : asked s l ≡ elim (askedFirst s l) [ none ↦ elim (inLimits s) [ true ↦ none | false ↦ some 8 ] | some k ↦ some k ]
+  unfolding asked askedFirst firstNo
+  asked-eight = go (inSize (s .shape .rays) (s .shape .gates)) (inLength s l) (inMask (s .mask)) (inRoom s l) (sized (s .nyquist)) (inOptions s) (inSpeed (s .vel) (s .mask)) (inLimits s)
+    where
+      go : (a b c d e f g h : Bool) → firstNo (ask 1 a ∷ ask 2 b ∷ ask 3 c ∷ ask 4 d ∷ ask 5 e ∷ ask 6 f ∷ ask 7 g ∷ ask 8 h ∷ [])
+          ≡ elim (firstNo (ask 1 a ∷ ask 2 b ∷ ask 3 c ∷ ask 4 d ∷ ask 5 e ∷ ask 6 f ∷ ask 7 g ∷ [])) [ none ↦ elim h [ true ↦ none | false ↦ some 8 ] | some k ↦ some k ]
+      go false b c d e f g h = refl
+      go true false c d e f g h = refl
+      go true true false d e f g h = refl
+      go true true true false e f g h = refl
+      go true true true true false f g h = refl
+      go true true true true true false g h = refl
+      go true true true true true true false h = refl
+      go true true true true true true true h = refl
+
+  -- no question has number 0
+  pub answer-none : answerOf (askedFirst s l) ≡ 0 → askedFirst s l ≡ none
+  unfolding askedFirst firstNo
+  answer-none = go (inSize (s .shape .rays) (s .shape .gates)) (inLength s l) (inMask (s .mask)) (inRoom s l) (sized (s .nyquist)) (inOptions s) (inSpeed (s .vel) (s .mask))
+    where
+      go : (a b c d e f g : Bool) → answerOf (firstNo (ask 1 a ∷ ask 2 b ∷ ask 3 c ∷ ask 4 d ∷ ask 5 e ∷ ask 6 f ∷ ask 7 g ∷ [])) ≡ 0
+          → firstNo (ask 1 a ∷ ask 2 b ∷ ask 3 c ∷ ask 4 d ∷ ask 5 e ∷ ask 6 f ∷ ask 7 g ∷ []) ≡ none
+      go false b c d e f g z = absurd (omega arith)
+      go true false c d e f g z = absurd (omega arith)
+      go true true false d e f g z = absurd (omega arith)
+      go true true true false e f g z = absurd (omega arith)
+      go true true true true false f g z = absurd (omega arith)
+      go true true true true true false g z = absurd (omega arith)
+      go true true true true true true false z = absurd (omega arith)
+      go true true true true true true true z = refl
+
+  -- a call that answered a question's number got a no
+  pub answer-some : (k : ℕ) → answerOf (askedFirst s l) ≡ suc k → askedFirst s l ≡ some (suc k)
+  answer-some k = go (askedFirst s l)
+    where
+      go : (o : Option ℕ) → answerOf o ≡ suc k → o ≡ some (suc k)
+      go none e = absurd (omega arith)
+      go (some j) e = ap some e

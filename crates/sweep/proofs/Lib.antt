@@ -1,3 +1,4 @@
+pub mod VelocityLaws
 pub mod CheckLaws
 pub mod QuestionLaws
 pub mod Early

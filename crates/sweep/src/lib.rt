@@ -1,2 +1,3 @@
 // The two exported entries, and what they are built of.
 pub mod checks;
+pub mod velocity;
