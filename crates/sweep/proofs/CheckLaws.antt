@@ -69,7 +69,7 @@ mask-bytes (m ∷ l) zero h = leb-true m 1 (and-left (leb m 1) (all (λ m. leb m
 mask-bytes (m ∷ l) (suc g) h = mask-bytes l g (and-right (leb m 1) (all (λ m. leb m 1) l) h)
 
 -- all four parts of a test that passes
-and-four : (a b c d : Bool) → (a && b && c && d) ≡ true → (a ≡ true) × (b ≡ true) × (c ≡ true) × (d ≡ true)
+pub and-four : (a b c d : Bool) → (a && b && c && d) ≡ true → (a ≡ true) × (b ≡ true) × (c ≡ true) × (d ≡ true)
 and-four a b c d h =
     let abc = and-left (a && b && c) d h in
     let ab = and-left (a && b) c abc in

@@ -14,13 +14,16 @@ use mir.Syntax.{w32}
 use mir.Val.{SFits, toZ, ofZ}
 use mir.ValLaws.{toZ-ofZ}
 use lib.Ieee.{Float, nan}
-use borrow.Author.Tests.{eq-eqb, ne-eqb, leb-true, leb-false, lt-ltb, le-ltb}
+use borrow.Author.Tests.{eqb-true, eq-eqb, ne-eqb, leb-true, leb-false, lt-ltb, le-ltb}
 use Rattle.arithmetic.specs.Seq.{upto, all, tabulate}
 use Rattle.arithmetic.specs.Asked.{front}
 use Rattle.arithmetic.proofs.SeqLaws.{tab-length, tab-snoc}
 use Rattle.arithmetic.proofs.IntervalLaws.{front-more, front-none}
 use Rattle.network.specs.Network.{bounded}
-use Rattle.sweep.specs.Velocity.{unfoldedAt}
+use Rattle.arithmetic.specs.Intervals.{sized}
+use Rattle.sweep.specs.Checks.{firstNo, inSize, inMask, inSpeed}
+use Rattle.sweep.specs.Velocity.{Counted, Written, unfoldedAt, velocities, fourLong, inCounts, askedVelocity, callVelocity}
+use Rattle.sweep.proofs.CheckLaws.{and-four, answer-yes}
 
 -- question 10 of one gate
 abbrev pub countTest : List ℕ → List ℤ → ℕ → Bool
@@ -100,3 +103,79 @@ module _ (z : ℤ) (f : SFits w32 z) where
       go : (z : ℤ) → leZ (negsuc 1999) z ≡ false → false ≡ bounded 2000 z
       go (pos n) h = absurd (true≢false h)
       go (negsuc n) h = let k : 1999 < n = leb-false n 1999 h in sym (le-ltb n 2000 (omega arith))
+
+-- ---- question 2
+
+-- by the code's own question 2, the four slices are equally long
+pub four-lengths : {r : Bool} (v m k p n : ℕ) → r ≡ (eqb v n && eqb m n && eqb k n && eqb p n) → not r ≡ false → (v ≡ p) × (m ≡ p) × (k ≡ p)
+four-lengths v m k p n e h =
+    let q = and-four (eqb v n) (eqb m n) (eqb k n) (eqb p n) (answer-yes e h) in
+    let back = sym (eqb-true p n (q .3)) in
+    (eqb-true v n (q .0) ∙ back, eqb-true m n (q .1) ∙ back, eqb-true k n (q .2) ∙ back)
+
+module _ (u : Counted) (out : List Float) where
+  lengths : fourLong u (length out) ≡ true
+      → (eqb (length (u .vel)) (u .rays * u .gates) ≡ true) × (eqb (length (u .mask)) (u .rays * u .gates) ≡ true) × (eqb (length (u .counts)) (u .rays * u .gates) ≡ true) × (eqb (length out) (u .rays * u .gates) ≡ true)
+  unfolding fourLong
+  lengths h =
+      let n = u .rays * u .gates in
+      and-four (eqb (length (u .vel)) n) (eqb (length (u .mask)) n) (eqb (length (u .counts)) n) (eqb (length out) n) h
+
+  pub four-is : (r : Bool) (n : ℕ) → r ≡ (eqb (length (u .vel)) n && eqb (length (u .mask)) n && eqb (length (u .counts)) n && eqb (length out) n) → n ≡ u .rays * u .gates → r ≡ fourLong u (length out)
+  unfolding fourLong
+  four-is r n h e = h ∙ rw e refl
+
+  -- ---- the answer at each first no
+
+  pub refused : {k : ℕ} → askedVelocity u (length out) ≡ some k → record { number = k; unfolded = out } ≡ callVelocity u out
+  unfolding callVelocity
+  refused h = rw (h, callVelocity) refl
+
+  granted : (w : List Float) → askedVelocity u (length out) ≡ none → w ≡ velocities u → record { number = 0; unfolded = w } ≡ callVelocity u out
+  unfolding callVelocity
+  granted w h e = rw (h, callVelocity) (λ i. record { number = 0; unfolded = e i })
+
+  pub refused-1 : inSize (u .rays) (u .gates) ≡ false → askedVelocity u (length out) ≡ some 1
+  unfolding askedVelocity firstNo
+  refused-1 h = rw h refl
+
+  module _ (a : inSize (u .rays) (u .gates) ≡ true) where
+    pub refused-2 : fourLong u (length out) ≡ false → askedVelocity u (length out) ≡ some 2
+    unfolding askedVelocity firstNo
+    refused-2 h = rw (a, h) refl
+
+    module _ (b : fourLong u (length out) ≡ true) where
+      pub refused-3 : inMask (u .mask) ≡ false → askedVelocity u (length out) ≡ some 3
+      unfolding askedVelocity firstNo
+      refused-3 h = rw (a, b, h) refl
+
+      -- the code's own question 10
+      pub counts-are : {r : Bool} → r ≡ all (countTest (u .mask) (u .counts)) (upto (length (u .mask)) 0) → r ≡ inCounts u
+      unfolding inCounts
+      counts-are e = e ∙ ap (λ (k : ℕ). all (countTest (u .mask) (u .counts)) (upto k 0)) (eqb-true (length (u .mask)) (u .rays * u .gates) (lengths b .1))
+
+      module _ (c : inMask (u .mask) ≡ true) where
+        pub refused-5 : sized (u .nyquist) ≡ false → askedVelocity u (length out) ≡ some 5
+        unfolding askedVelocity firstNo
+        refused-5 h = rw (a, b, c, h) refl
+
+        module _ (d : sized (u .nyquist) ≡ true) where
+          pub refused-7 : inSpeed (u .vel) (u .mask) ≡ false → askedVelocity u (length out) ≡ some 7
+          unfolding askedVelocity firstNo
+          refused-7 h = rw (a, b, c, d, h) refl
+
+          module _ (e : inSpeed (u .vel) (u .mask) ≡ true) where
+            pub refused-10 : inCounts u ≡ false → askedVelocity u (length out) ≡ some 10
+            unfolding askedVelocity firstNo
+            refused-10 h = rw (a, b, c, d, e, h) refl
+
+            -- every question got a yes
+            asked-none : inCounts u ≡ true → askedVelocity u (length out) ≡ none
+            unfolding askedVelocity firstNo
+            asked-none h = rw (a, b, c, d, e, h) refl
+
+            pub unfolds : (w : List Float) → inCounts u ≡ true → w ≡ tabulate (length out) (gateVelocity (u .nyquist) (u .vel) (u .mask) (u .counts)) → record { number = 0; unfolded = w } ≡ callVelocity u out
+            unfolding velocities
+            unfolds w h k =
+                let n : length out ≡ u .rays * u .gates = eqb-true (length out) (u .rays * u .gates) (lengths b .3) in
+                granted w (asked-none h) (k ∙ ap (λ (m : ℕ). tabulate m (gateVelocity (u .nyquist) (u .vel) (u .mask) (u .counts))) n)

@@ -1,3 +1,6 @@
+use Rattle.sweep.proofs.VelocityLaws.{four-lengths, four-is, counts-are, refused, refused-1, refused-2, refused-3, refused-5, refused-7, refused-10, unfolds}
+use Rattle.sweep.proofs.VelocityLaws.{four-lengths, four-is, counts-are, refused-1, refused-2, refused-3, refused-5, refused-7, refused-10, unfolds}
+use Rattle.sweep.proofs.CheckLaws.{answer-no, answer-yes}
 use native.Mathlib.Omega.{arith}
 use mathlib.Core.Path.{_≡_, refl, sym, ap, _∙_}
 use mathlib.Core.List.{List, [], _∷_, _++_}
@@ -23,7 +26,7 @@ in-size-requires c κs = search needs
 
 -- src/velocity.rt:80:9
 returns : tie.Need-returns
-returns c = ?
+returns c = refused _ (c .before .before .before .before .before .args .unfolded .now) (refused-1 _ (c .before .before .before .before .before .args .unfolded .now) (answer-no (c .before .in-size .ensures) (c .if1 .taken)))
 
 -- src/velocity.rt:82:9
 gates-in-requires : tie.Need-gates-in-requires
@@ -35,7 +38,7 @@ four-long-requires c κs = search needs
 
 -- src/velocity.rt:84:9
 returns-2 : tie.Need-returns-2
-returns-2 c = ?
+returns-2 c = refused _ (c .before .before .before .before .before .before .before .before .args .unfolded .now) (refused-2 _ (c .before .before .before .before .before .before .before .before .args .unfolded .now) (answer-yes (c .before .before .before .before .in-size .ensures) (c .before .before .before .if1 .left)) (answer-no (four-is _ (c .before .before .before .before .before .before .before .before .args .unfolded .now) _ _ (c .before .four-long .ensures) (c .before .before .gates-in .ensures)) (c .if2 .taken)))
 
 -- src/velocity.rt:86:9
 all-masks-requires : tie.Need-all-masks-requires
@@ -43,7 +46,7 @@ all-masks-requires c κs = search needs
 
 -- src/velocity.rt:87:9
 returns-3 : tie.Need-returns-3
-returns-3 c = ?
+returns-3 c = refused _ (c .before .before .before .before .before .before .before .before .before .before .args .unfolded .now) (refused-3 _ (c .before .before .before .before .before .before .before .before .before .before .args .unfolded .now) (answer-yes (c .before .before .before .before .before .before .in-size .ensures) (c .before .before .before .before .before .if1 .left)) (answer-yes (four-is _ (c .before .before .before .before .before .before .before .before .before .before .args .unfolded .now) _ _ (c .before .before .before .four-long .ensures) (c .before .before .before .before .gates-in .ensures)) (c .before .before .if2 .left)) (answer-no (c .before .all-masks .ensures) (c .if3 .taken)))
 
 -- src/velocity.rt:89:9
 nyquist-sized-requires : tie.Need-nyquist-sized-requires
@@ -51,27 +54,27 @@ nyquist-sized-requires c κs = search needs
 
 -- src/velocity.rt:90:9
 returns-4 : tie.Need-returns-4
-returns-4 c = ?
+returns-4 c = refused _ (c .before .before .before .before .before .before .before .before .before .before .before .before .args .unfolded .now) (refused-5 _ (c .before .before .before .before .before .before .before .before .before .before .before .before .args .unfolded .now) (answer-yes (c .before .before .before .before .before .before .before .before .in-size .ensures) (c .before .before .before .before .before .before .before .if1 .left)) (answer-yes (four-is _ (c .before .before .before .before .before .before .before .before .before .before .before .before .args .unfolded .now) _ _ (c .before .before .before .before .before .four-long .ensures) (c .before .before .before .before .before .before .gates-in .ensures)) (c .before .before .before .before .if2 .left)) (answer-yes (c .before .before .before .all-masks .ensures) (c .before .before .if3 .left)) (answer-no (c .before .nyquist-sized .ensures) (c .if4 .taken)))
 
 -- src/velocity.rt:92:9
 all-speeds-requires : tie.Need-all-speeds-requires
-all-speeds-requires c κs = ?
+all-speeds-requires c κs = let s = c .before .before .before .before .before .before .before .before .before .before .before .before .args in let q = four-lengths (length (s .velocity .now)) (length (s .valid .now)) (length (s .folds .now)) (length (s .unfolded .now)) (c .before .before .before .before .before .before .gates-in .result) (c .before .before .before .before .before .four-long .ensures) (c .before .before .before .before .if2 .left) in q .1 ∙ sym (q .0)
 
 -- src/velocity.rt:93:9
 returns-5 : tie.Need-returns-5
-returns-5 c = ?
+returns-5 c = refused _ (c .before .before .before .before .before .before .before .before .before .before .before .before .before .before .args .unfolded .now) (refused-7 _ (c .before .before .before .before .before .before .before .before .before .before .before .before .before .before .args .unfolded .now) (answer-yes (c .before .before .before .before .before .before .before .before .before .before .in-size .ensures) (c .before .before .before .before .before .before .before .before .before .if1 .left)) (answer-yes (four-is _ (c .before .before .before .before .before .before .before .before .before .before .before .before .before .before .args .unfolded .now) _ _ (c .before .before .before .before .before .before .before .four-long .ensures) (c .before .before .before .before .before .before .before .before .gates-in .ensures)) (c .before .before .before .before .before .before .if2 .left)) (answer-yes (c .before .before .before .before .before .all-masks .ensures) (c .before .before .before .before .if3 .left)) (answer-yes (c .before .before .before .nyquist-sized .ensures) (c .before .before .if4 .left)) (answer-no (c .before .all-speeds .ensures) (c .if5 .taken)))
 
 -- src/velocity.rt:95:9
 all-counts-requires : tie.Need-all-counts-requires
-all-counts-requires c κs = ?
+all-counts-requires c κs = let s = c .before .before .before .before .before .before .before .before .before .before .before .before .before .before .args in let q = four-lengths (length (s .velocity .now)) (length (s .valid .now)) (length (s .folds .now)) (length (s .unfolded .now)) (c .before .before .before .before .before .before .before .before .gates-in .result) (c .before .before .before .before .before .before .before .four-long .ensures) (c .before .before .before .before .before .before .if2 .left) in q .2 ∙ sym (q .1)
 
 -- src/velocity.rt:96:9
 returns-6 : tie.Need-returns-6
-returns-6 c = ?
+returns-6 c = refused _ (c .before .before .before .before .before .before .before .before .before .before .before .before .before .before .before .before .args .unfolded .now) (refused-10 _ (c .before .before .before .before .before .before .before .before .before .before .before .before .before .before .before .before .args .unfolded .now) (answer-yes (c .before .before .before .before .before .before .before .before .before .before .before .before .in-size .ensures) (c .before .before .before .before .before .before .before .before .before .before .before .if1 .left)) (answer-yes (four-is _ (c .before .before .before .before .before .before .before .before .before .before .before .before .before .before .before .before .args .unfolded .now) _ _ (c .before .before .before .before .before .before .before .before .before .four-long .ensures) (c .before .before .before .before .before .before .before .before .before .before .gates-in .ensures)) (c .before .before .before .before .before .before .before .before .if2 .left)) (answer-yes (c .before .before .before .before .before .before .before .all-masks .ensures) (c .before .before .before .before .before .before .if3 .left)) (answer-yes (c .before .before .before .before .before .nyquist-sized .ensures) (c .before .before .before .before .if4 .left)) (answer-yes (c .before .before .before .all-speeds .ensures) (c .before .before .if5 .left)) (answer-no (counts-are _ (c .before .before .before .before .before .before .before .before .before .before .before .before .before .before .before .before .args .unfolded .now) (answer-yes (c .before .before .before .before .before .before .before .before .before .before .before .before .in-size .ensures) (c .before .before .before .before .before .before .before .before .before .before .before .if1 .left)) (answer-yes (four-is _ (c .before .before .before .before .before .before .before .before .before .before .before .before .before .before .before .before .args .unfolded .now) _ _ (c .before .before .before .before .before .before .before .before .before .four-long .ensures) (c .before .before .before .before .before .before .before .before .before .before .gates-in .ensures)) (c .before .before .before .before .before .before .before .before .if2 .left)) (c .before .all-counts .ensures)) (c .if6 .taken)))
 
 -- src/velocity.rt:98:5
 unfold-gates-requires : tie.Need-unfold-gates-requires
-unfold-gates-requires c κs = ?
+unfold-gates-requires c κs = let s = c .before .before .before .before .before .before .before .before .before .before .before .before .before .before .before .before .before .args in let q = four-lengths (length (s .velocity .now)) (length (s .valid .now)) (length (s .folds .now)) (length (s .unfolded .now)) (c .before .before .before .before .before .before .before .before .before .before .before .gates-in .result) (c .before .before .before .before .before .before .before .before .before .before .four-long .ensures) (c .before .before .before .before .before .before .before .before .before .if2 .left) in q
 
 -- src/velocity.rt:68:1
 same-length : tie.Need-same-length
@@ -79,7 +82,7 @@ same-length c = search needs
 
 -- src/velocity.rt:68:1
 returns-7 : tie.Need-returns-7
-returns-7 c = ?
+returns-7 c = unfolds _ (c .before .before .before .before .before .before .before .before .before .before .before .before .before .before .before .before .before .before .before .before .args .unfolded .now) (answer-yes (c .before .before .before .before .before .before .before .before .before .before .before .before .before .before .before .before .in-size .ensures) (c .before .before .before .before .before .before .before .before .before .before .before .before .before .before .before .if1 .left)) (answer-yes (four-is _ (c .before .before .before .before .before .before .before .before .before .before .before .before .before .before .before .before .before .before .before .before .args .unfolded .now) _ _ (c .before .before .before .before .before .before .before .before .before .before .before .before .before .four-long .ensures) (c .before .before .before .before .before .before .before .before .before .before .before .before .before .before .gates-in .ensures)) (c .before .before .before .before .before .before .before .before .before .before .before .before .if2 .left)) (answer-yes (c .before .before .before .before .before .before .before .before .before .before .before .all-masks .ensures) (c .before .before .before .before .before .before .before .before .before .before .if3 .left)) (answer-yes (c .before .before .before .before .before .before .before .before .before .nyquist-sized .ensures) (c .before .before .before .before .before .before .before .before .if4 .left)) (answer-yes (c .before .before .before .before .before .before .before .all-speeds .ensures) (c .before .before .before .before .before .before .if5 .left)) _ (answer-yes (counts-are _ (c .before .before .before .before .before .before .before .before .before .before .before .before .before .before .before .before .before .before .before .before .args .unfolded .now) (answer-yes (c .before .before .before .before .before .before .before .before .before .before .before .before .before .before .before .before .in-size .ensures) (c .before .before .before .before .before .before .before .before .before .before .before .before .before .before .before .if1 .left)) (answer-yes (four-is _ (c .before .before .before .before .before .before .before .before .before .before .before .before .before .before .before .before .before .before .before .before .args .unfolded .now) _ _ (c .before .before .before .before .before .before .before .before .before .before .before .before .before .four-long .ensures) (c .before .before .before .before .before .before .before .before .before .before .before .before .before .before .gates-in .ensures)) (c .before .before .before .before .before .before .before .before .before .before .before .before .if2 .left)) (c .before .before .before .before .before .all-counts .ensures)) (c .before .before .before .before .if6 .left)) (c .before .before .unfold-gates .ensures)
 
 pub unfold-velocity-spec : {M : Type 1} → statement M
 unfold-velocity-spec =
