@@ -81,6 +81,11 @@ length-both v m k p n e h =
     let q = and-four (eqb v n) (eqb m n) (eqb k n) (eqb p 2) (answer-yes e h) in
     eqb-true m n (q .1) ∙ sym (eqb-true v n (q .0))
 
+-- the code's own question 6
+pub options-are : (s : Sweep) {r : Bool} → r ≡ (leb 1 (s .splits) && leb (s .splits) 9999 && leb (s .shape .skipRays) 1000 && leb (s .shape .skipGates) 1000 && leb (s .centred) 1 && leb (s .shape .wrap) 1) → r ≡ inOptions s
+unfolding inOptions
+options-are s h = h
+
 module _ (s : Sweep) (l : Lent) where
   lengths : inLength s l ≡ true
       → (eqb (length (s .vel)) (s .shape .rays * s .shape .gates) ≡ true) × (eqb (length (s .mask)) (s .shape .rays * s .shape .gates) ≡ true) × (eqb (l .counts) (s .shape .rays * s .shape .gates) ≡ true) × (eqb (l .pair) 2 ≡ true)
@@ -107,7 +112,7 @@ module _ (s : Sweep) (l : Lent) where
       let k = s .shape .rays * s .shape .gates in
       leb-true (16 * k + 16) (l .floats) (and-right (leb (96 * k + 64) (l .words)) (leb (16 * k + 16) (l .floats)) h)
 
-  -- the code's own questions 2, 4 and 6, n being its product
+  -- the code's own questions 2 and 4, n being its product
   pub length-is : (r : Bool) (n : ℕ) → r ≡ (eqb (length (s .vel)) n && eqb (length (s .mask)) n && eqb (l .counts) n && eqb (l .pair) 2) → n ≡ s .shape .rays * s .shape .gates → r ≡ inLength s l
   unfolding inLength gatesIn
   length-is r n h e = h ∙ rw e refl

@@ -1,4 +1,4 @@
 // The two exported entries, and what they are built of.
 pub mod checks;
-pub mod velocity;
 pub mod exports;
+pub mod velocity;
