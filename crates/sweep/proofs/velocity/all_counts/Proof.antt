@@ -1,19 +1,14 @@
-use mathlib.Core.Bool.{false}
+-- `sweep::velocity::all_counts` meets its contract. The invariant: the gates from i on decide. Assumes nothing.
 use Rattle.sweep.proofs.VelocityLaws.{countTest, count-masked, count-valid, count-end}
 use Rattle.arithmetic.specs.Seq.{upto, all}
 use borrow.Author.Tests.{not-true, not-false}
 use mathlib.Core.Logic.{⊎-elim}
-use borrow.Author.Needs.{needs}
 use native.Mathlib.Omega.{arith}
-use mathlib.Core.Path.{_≡_, refl, sym, ap, _∙_}
-use mathlib.Core.List.{List, [], _∷_, _++_}
-use Prim.Native.Nat.{ℕ, zero, suc, _+_, _-_, _*_, _≤_, _<_}
-use lib.ListN.{length, getD, set, take, drop, replicate, length-set}
+use mathlib.Core.Path.{_≡_, sym, ap, _∙_}
+use Prim.Native.Nat.{ℕ, _-_, _≤_}
+use lib.ListN.{length}
 use Rattle.sweep.proofs.velocity.all_counts.Statement.{statement}
 use Rattle.sweep.proofs.velocity.all_counts.Tie as tie
-use Rattle.sweep.proofs.velocity.all_counts.Reads as reads
-use Rattle.sweep.proofs.velocity.all_counts.Lts as lts
-use Rattle.sweep.proofs.velocity.is_bounded.Reads as is-bounded-reads
 
 abbrev Inv-loop : tie.InvT-loop
 Inv-loop valid folds i₀ i = (i ≤ length valid) × (all (countTest valid folds) (upto (length valid) 0) ≡ all (countTest valid folds) (upto (length valid - i) i))
@@ -21,43 +16,33 @@ Inv-loop valid folds i₀ i = (i ≤ length valid) × (all (countTest valid fold
 abbrev μ-loop : tie.MeasureT-loop
 μ-loop valid folds i₀ i = length valid - i
 
--- src/velocity.rt:44:5
 loop-holds : tie.Need-loop-holds Inv-loop μ-loop
 loop-holds c = (omega arith, ap (λ (k : ℕ). all (countTest (c .before .args .valid .now) (c .before .args .folds .now)) (upto k 0)) (omega arith))
 
--- src/velocity.rt:45:12
 shared-slice-read-if1 : tie.Need-shared-slice-read-if1 Inv-loop μ-loop
 shared-slice-read-if1 c = omega (arith, c .before .before .before .before .pre)
 
--- src/velocity.rt:46:28
 mul-is-bounded : tie.Need-mul-is-bounded Inv-loop μ-loop
 mul-is-bounded c = omega (arith, c .before .before .before .before .before .pre)
 
--- src/velocity.rt:46:28
 shared-slice-copy-out-is-bounded : tie.Need-shared-slice-copy-out-is-bounded Inv-loop μ-loop
 shared-slice-copy-out-is-bounded c = omega (arith, c .before .before .before .before .before .pre)
 
--- src/velocity.rt:46:17
 is-bounded-requires : tie.Need-is-bounded-requires Inv-loop μ-loop
 is-bounded-requires c κs = tt
 
--- src/velocity.rt:47:17
 returns : tie.Need-returns Inv-loop μ-loop
 returns c = let l = c .before .before .before .before .before .before .loop in let s = c .before .before .before .before .before .before .before .before .args in let b = c .before .is-bounded in sym (l .inv .1 ∙ count-valid (s .valid .now) (s .folds .now) (length (s .valid .now)) (l .i) (c .before .before .before .before .before .loop-test .taken) (c .before .before .before .if1 .taken) (c .before .before .is-bounded-arg .given) (b .ensures) (not-true _ (c .if2 .taken)))
 
--- src/velocity.rt:50:9
 add-i : tie.Need-add-i Inv-loop μ-loop
 add-i c = omega (arith, c .before .before .before .before .before .pre)
 
--- src/velocity.rt:44:5
 loop-less : tie.Need-loop-less Inv-loop μ-loop
 loop-less c = omega (arith, c .before .before .before .before .before .pre)
 
--- src/velocity.rt:44:5
 loop-again : tie.Need-loop-again Inv-loop μ-loop
 loop-again c = let l = c .before .before .before .loop in let s = c .before .before .before .before .before .args in (omega arith, l .inv .1 ∙ ⊎-elim (λ w. count-valid (s .valid .now) (s .folds .now) (length (s .valid .now)) (l .i) (c .before .before .loop-test .taken) (w .0 .taken) (w .1 .given) (w .2 .ensures) (not-false _ (w .3 .left))) (λ w. count-masked (s .valid .now) (s .folds .now) (length (s .valid .now)) (l .i) (c .before .before .loop-test .taken) (w .left)) (c .if1 .came))
 
--- src/velocity.rt:39:1
 returns-2 : tie.Need-returns-2 Inv-loop μ-loop
 returns-2 c = let l = c .before .loop in let s = c .before .before .before .args in sym (l .inv .1 ∙ count-end (s .valid .now) (s .folds .now) (length (s .valid .now)) (l .i) (c .loop-test .left))
 

@@ -1,21 +1,17 @@
+-- `sweep::velocity::unfold_gates` meets its contract. The invariant: the first i gates are written, and the rest is as it was. Assumes nothing.
 use Rattle.sweep.specs.Velocity.{unfoldedAt}
 use lib.Ieee.{nan}
 use lib.IntN.{ℤ, pos}
-use Rattle.sweep.proofs.VelocityLaws.{read-back}
-use Rattle.sweep.proofs.VelocityLaws.{gateVelocity, written-none, written-more, written-all}
+use Rattle.sweep.proofs.VelocityLaws.{read-back, gateVelocity, written-none, written-more, written-all}
 use Rattle.arithmetic.specs.Asked.{front}
 use Rattle.arithmetic.specs.Seq.{tabulate}
 use borrow.Author.Needs.{needs}
 use native.Mathlib.Omega.{arith}
-use mathlib.Core.Path.{_≡_, refl, sym, ap, _∙_}
-use mathlib.Core.List.{List, [], _∷_, _++_}
-use Prim.Native.Nat.{ℕ, zero, suc, _+_, _-_, _*_, _≤_, _<_}
-use lib.ListN.{length, getD, set, take, drop, replicate, length-set}
+use mathlib.Core.Path.{_≡_, refl, ap, _∙_}
+use Prim.Native.Nat.{_-_, _≤_, _<_}
+use lib.ListN.{length, getD, length-set}
 use Rattle.sweep.proofs.velocity.unfold_gates.Statement.{statement}
 use Rattle.sweep.proofs.velocity.unfold_gates.Tie as tie
-use Rattle.sweep.proofs.velocity.unfold_gates.Reads as reads
-use Rattle.sweep.proofs.velocity.unfold_gates.Lts as lts
-use Rattle.sweep.proofs.velocity.unfolded_at.Reads as unfolded-at-reads
 
 abbrev Inv-loop : tie.InvT-loop
 Inv-loop nyquist velocity valid folds unfolded₀ i₀ unfolded i = (i ≤ length unfolded₀) × (unfolded ≡ front (tabulate i (gateVelocity nyquist velocity valid folds)) unfolded₀) × (length unfolded ≡ length unfolded₀)
@@ -23,61 +19,47 @@ Inv-loop nyquist velocity valid folds unfolded₀ i₀ unfolded i = (i ≤ lengt
 abbrev μ-loop : tie.MeasureT-loop
 μ-loop nyquist velocity valid folds unfolded₀ i₀ unfolded i = length unfolded₀ - i
 
--- src/velocity.rt:61:5
 loop-holds : tie.Need-loop-holds Inv-loop μ-loop
 loop-holds c = let s = c .before .before .before .args in (omega arith, written-none (gateVelocity (s .nyquist) (s .velocity .now) (s .valid .now) (s .folds .now)) (s .unfolded .now), refl)
 
--- src/velocity.rt:62:44
 mul-unfolded-at : tie.Need-mul-unfolded-at Inv-loop μ-loop
 mul-unfolded-at c = omega (arith, c .before .before .before .before .before .pre .0, c .before .before .before .before .before .pre .1, c .before .before .before .before .before .pre .2)
 
--- src/velocity.rt:62:44
 shared-slice-read-unfolded-at : tie.Need-shared-slice-read-unfolded-at Inv-loop μ-loop
 shared-slice-read-unfolded-at c = omega (arith, c .before .before .before .before .before .before .pre .0, c .before .before .before .before .before .before .pre .1, c .before .before .before .before .before .before .pre .2)
 
--- src/velocity.rt:62:57
 shared-slice-read-unfolded-at-2 : tie.Need-shared-slice-read-unfolded-at-2 Inv-loop μ-loop
 shared-slice-read-unfolded-at-2 c = omega (arith, c .before .before .before .before .before .before .before .pre .0, c .before .before .before .before .before .before .before .pre .1, c .before .before .before .before .before .before .before .pre .2)
 
--- src/velocity.rt:62:67
 mul-unfolded-at-2 : tie.Need-mul-unfolded-at-2 Inv-loop μ-loop
 mul-unfolded-at-2 c = omega (arith, c .before .before .before .before .before .before .before .pre .0, c .before .before .before .before .before .before .before .pre .1, c .before .before .before .before .before .before .before .pre .2)
 
--- src/velocity.rt:62:67
 shared-slice-copy-out-unfolded-at : tie.Need-shared-slice-copy-out-unfolded-at Inv-loop μ-loop
 shared-slice-copy-out-unfolded-at c = omega (arith, c .before .before .before .before .before .before .before .pre .0, c .before .before .before .before .before .before .before .pre .1, c .before .before .before .before .before .before .before .pre .2)
 
--- src/velocity.rt:62:23
 unfolded-at-requires : tie.Need-unfolded-at-requires Inv-loop μ-loop
 unfolded-at-requires c κs = tt
 
--- src/velocity.rt:62:9
 mul-unfolded : tie.Need-mul-unfolded Inv-loop μ-loop
 mul-unfolded c = omega (arith, c .before .before .before .before .before .before .before .before .before .pre .0, c .before .before .before .before .before .before .before .before .before .pre .1, c .before .before .before .before .before .before .before .before .before .pre .2)
 
--- src/velocity.rt:62:9
 slice-write-unfolded : tie.Need-slice-write-unfolded Inv-loop μ-loop
 slice-write-unfolded c = omega (arith, c .before .before .before .before .before .before .before .before .before .pre .0, c .before .before .before .before .before .before .before .before .before .pre .1, c .before .before .before .before .before .before .before .before .before .pre .2)
 
--- src/velocity.rt:63:9
 add-i : tie.Need-add-i Inv-loop μ-loop
 add-i c = omega (arith, c .before .before .before .before .before .before .before .before .before .pre .0, c .before .before .before .before .before .before .before .before .before .pre .1, c .before .before .before .before .before .before .before .before .before .pre .2)
 
--- src/velocity.rt:61:5
 loop-less : tie.Need-loop-less Inv-loop μ-loop
 loop-less c = omega (arith, c .before .before .before .before .before .before .before .before .before .pre .0, c .before .before .before .before .before .before .before .before .before .pre .1, c .before .before .before .before .before .before .before .before .before .pre .2)
 
--- src/velocity.rt:61:5
 loop-again : tie.Need-loop-again Inv-loop μ-loop
 loop-again c = let l = c .before .before .before .before .before .loop in let s = c .before .before .before .before .before .before .before .before .before .args in let h : l .i < length (s .unfolded .now) = omega arith in
     let back = ap (λ (z : ℤ). unfoldedAt (s .nyquist) (getD (s .velocity .now) (l .i) nan) (getD (s .valid .now) (l .i) 0) z) (read-back (getD (s .folds .now) (l .i) (pos 0)) (c .before .unfolded-at-arg .given)) in
     (omega arith, written-more (gateVelocity (s .nyquist) (s .velocity .now) (s .valid .now) (s .folds .now)) (s .unfolded .now) (l .unfolded) (c .unfolded-at .result) (l .i) h (l .inv .1) (c .unfolded-at .ensures ∙ back), simp length-set (l .inv .2))
 
--- src/velocity.rt:56:1
 same-length : tie.Need-same-length Inv-loop μ-loop
 same-length c = search needs
 
--- src/velocity.rt:56:1
 returns : tie.Need-returns Inv-loop μ-loop
 returns c = let l = c .before .loop in let s = c .before .before .before .before .before .args in written-all (gateVelocity (s .nyquist) (s .velocity .now) (s .valid .now) (s .folds .now)) (s .unfolded .now) (l .unfolded) (l .i) (omega arith) (l .inv .1)
 

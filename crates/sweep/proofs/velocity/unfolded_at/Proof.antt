@@ -1,3 +1,4 @@
+-- `sweep::velocity::unfolded_at` meets its contract. Assumes nothing.
 use Rattle.sweep.specs.Velocity.{unfoldedAt}
 use Rattle.arithmetic.specs.Rounding.{real}
 use Rattle.arithmetic.specs.Intervals.{folded}
@@ -5,36 +6,25 @@ use lib.Ieee.{ofBits, ofInt}
 use borrow.Author.Tests.{eq-eqb, ne-eqb}
 use mir.ValLaws.{toZ-ofZ}
 use mir.Syntax.{w32}
-use native.Mathlib.Omega.{arith}
-use mathlib.Core.Path.{_≡_, refl, sym, ap, _∙_}
-use mathlib.Core.List.{List, [], _∷_, _++_}
-use Prim.Native.Nat.{ℕ, zero, suc, _+_, _-_, _*_, _≤_, _<_}
-use lib.ListN.{length, getD, set, take, drop, replicate, length-set}
+use mathlib.Core.Path.{refl}
+use Prim.Native.Nat.{_-_}
 use borrow.Author.Needs.{needs}
 use Rattle.sweep.proofs.velocity.unfolded_at.Statement.{statement}
 use Rattle.sweep.proofs.velocity.unfolded_at.Tie as tie
-use Rattle.sweep.proofs.velocity.unfolded_at.Reads as reads
-use Rattle.sweep.proofs.velocity.unfolded_at.Lts as lts
-use Rattle.std.proofs.num.f32_to_f64_with_nan.Reads as f32-to-f64-with-nan-reads
 
--- src/velocity.rt:18:26
 f32-to-f64-with-nan-requires : tie.Need-f32-to-f64-with-nan-requires
 f32-to-f64-with-nan-requires c κs = search needs
 
--- src/velocity.rt:19:16
 f32-to-f64-with-nan-requires-2 : tie.Need-f32-to-f64-with-nan-requires-2
 f32-to-f64-with-nan-requires-2 c κs = search needs
 
--- src/velocity.rt:19:52
 int-to-float-result : tie.Need-int-to-float-result
 int-to-float-result c = search needs
 
--- src/velocity.rt:19:9
 returns : tie.Need-returns
 unfolding unfoldedAt folded real ofBits ofInt
 returns c = let s = c .before .before .before .before in rw (eq-eqb _ _ (c .before .before .before .if1 .taken), c .before .before .f32-to-f64-with-nan .ensures, c .before .f32-to-f64-with-nan2 .ensures, toZ-ofZ w32 (s .args .count) (s .fits .count)) refl
 
--- src/velocity.rt:14:1
 returns-2 : tie.Need-returns-2
 unfolding unfoldedAt real ofBits ofInt
 returns-2 c = rw (ne-eqb _ _ (c .if1 .left)) refl
