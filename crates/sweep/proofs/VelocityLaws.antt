@@ -1,11 +1,11 @@
 -- What the proofs of velocity.rs cite: one turn of the loops over counts and gates, and the answer at each first no. Assumes nothing.
-use Prim.Native.Nat.{ℕ, zero, suc, _+_, _-_, _*_, _≤_, _<_}
+use Prim.Native.Nat.{ℕ, suc, _+_, _-_, _*_, _≤_, _<_}
 use native.Mathlib.Omega.{arith}
 use native.Mathlib.Numerals.{add-one}
 use mathlib.Core.Path.{_≡_, refl, sym, ap, _∙_}
 use mathlib.Core.Bool.{Bool, true, false, not, _&&_, _||_, true≢false}
-use mathlib.Core.List.{List, [], _∷_, _++_, append-nil}
-use mathlib.Core.Option.{Option, none, some}
+use mathlib.Core.List.{List, _++_, append-nil}
+use mathlib.Core.Option.{none, some}
 use lib.Dec.{eqb}
 use lib.ListN.{length, getD, set, drop, drop-of-length-le}
 use lib.IntN.{ℤ, pos, negsuc}
@@ -22,7 +22,7 @@ use Rattle.arithmetic.proofs.IntervalLaws.{front-more, front-none}
 use Rattle.network.specs.Network.{bounded}
 use Rattle.arithmetic.specs.Intervals.{sized}
 use Rattle.sweep.specs.Checks.{firstNo, inSize, inMask, inSpeed}
-use Rattle.sweep.specs.Velocity.{Counted, Written, unfoldedAt, velocities, fourLong, inCounts, askedVelocity, callVelocity}
+use Rattle.sweep.specs.Velocity.{Counted, unfoldedAt, velocities, fourLong, inCounts, askedVelocity, callVelocity}
 use Rattle.sweep.proofs.CheckLaws.{and-four, answer-yes}
 
 -- question 10 of one gate

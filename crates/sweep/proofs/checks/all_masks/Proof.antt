@@ -22,7 +22,10 @@ shared-slice-read-if1 : tie.Need-shared-slice-read-if1 Inv-loop μ-loop
 shared-slice-read-if1 c = omega arith
 
 returns : tie.Need-returns Inv-loop μ-loop
-returns c = let l = c .before .before .before .loop in let m = c .before .before .before .before .args .valid .now in sym (l .inv .1 ∙ mask-no m (l .i) (omega arith) (c .if1 .taken))
+returns c =
+    let l = c .before .before .before .loop in
+    let m = c .before .before .before .before .args .valid .now in
+    sym (l .inv .1 ∙ mask-no m (l .i) (omega arith) (c .if1 .taken))
 
 add-i : tie.Need-add-i Inv-loop μ-loop
 add-i c = omega arith
@@ -31,10 +34,16 @@ loop-less : tie.Need-loop-less Inv-loop μ-loop
 loop-less c = omega arith
 
 loop-again : tie.Need-loop-again Inv-loop μ-loop
-loop-again c = let l = c .before .before .before .loop in let m = c .before .before .before .before .args .valid .now in (omega arith, l .inv .1 ∙ mask-yes m (l .i) (omega arith) (c .if1 .left))
+loop-again c =
+    let l = c .before .before .before .loop in
+    let m = c .before .before .before .before .args .valid .now in
+    (omega arith, l .inv .1 ∙ mask-yes m (l .i) (omega arith) (c .if1 .left))
 
 returns-2 : tie.Need-returns-2 Inv-loop μ-loop
-returns-2 c = let l = c .before .loop in let m = c .before .before .args .valid .now in sym (l .inv .1 ∙ mask-end m (l .i) (c .loop-test .left))
+returns-2 c =
+    let l = c .before .loop in
+    let m = c .before .before .args .valid .now in
+    sym (l .inv .1 ∙ mask-end m (l .i) (c .loop-test .left))
 
 pub all-masks-spec : {M : Type 1} → statement M
 all-masks-spec =

@@ -33,7 +33,11 @@ is-fair-requires : tie.Need-is-fair-requires Inv-loop μ-loop
 is-fair-requires c κs = tt
 
 returns : tie.Need-returns Inv-loop μ-loop
-returns c = let l = c .before .before .before .before .before .before .loop in let s = c .before .before .before .before .before .before .before .before .before in let f = c .before .«is-fair» in sym (l .inv .1 ∙ speed-valid (s .args .velocity .now) (s .args .valid .now) (l .i) (s .pre) (omega arith) (c .before .before .before .if1 .taken) (sym (f .ensures) ∙ not-true _ (c .if2 .taken)))
+returns c =
+    let l = c .before .before .before .before .before .before .loop in
+    let s = c .before .before .before .before .before .before .before .before .before in
+    let f = c .before .«is-fair» in
+    sym (l .inv .1 ∙ speed-valid (s .args .velocity .now) (s .args .valid .now) (l .i) (s .pre) (omega arith) (c .before .before .before .if1 .taken) (sym (f .ensures) ∙ not-true _ (c .if2 .taken)))
 
 add-i : tie.Need-add-i Inv-loop μ-loop
 add-i c = omega arith
@@ -42,10 +46,16 @@ loop-less : tie.Need-loop-less Inv-loop μ-loop
 loop-less c = omega arith
 
 loop-again : tie.Need-loop-again Inv-loop μ-loop
-loop-again c = let l = c .before .before .before .loop in let s = c .before .before .before .before .before .before in (omega arith, ⊎-elim (λ w. l .inv .1 ∙ speed-valid (s .args .velocity .now) (s .args .valid .now) (l .i) (s .pre) (omega arith) (w .0 .taken) (sym (w .2 .ensures) ∙ not-false _ (w .3 .left))) (λ w. l .inv .1 ∙ speed-masked (s .args .velocity .now) (s .args .valid .now) (l .i) (s .pre) (omega arith) (w .left)) (c .if1 .came))
+loop-again c =
+    let l = c .before .before .before .loop in
+    let s = c .before .before .before .before .before .before in
+    (omega arith, ⊎-elim (λ w. l .inv .1 ∙ speed-valid (s .args .velocity .now) (s .args .valid .now) (l .i) (s .pre) (omega arith) (w .0 .taken) (sym (w .2 .ensures) ∙ not-false _ (w .3 .left))) (λ w. l .inv .1 ∙ speed-masked (s .args .velocity .now) (s .args .valid .now) (l .i) (s .pre) (omega arith) (w .left)) (c .if1 .came))
 
 returns-2 : tie.Need-returns-2 Inv-loop μ-loop
-returns-2 c = let l = c .before .loop in let s = c .before .before .before .before in sym (l .inv .1 ∙ speed-end (s .args .velocity .now) (s .args .valid .now) (l .i) (s .pre) (c .loop-test .left))
+returns-2 c =
+    let l = c .before .loop in
+    let s = c .before .before .before .before in
+    sym (l .inv .1 ∙ speed-end (s .args .velocity .now) (s .args .valid .now) (l .i) (s .pre) (c .loop-test .left))
 
 pub all-speeds-spec : {M : Type 1} → statement M
 all-speeds-spec =

@@ -6,7 +6,6 @@ use Rattle.sweep.specs.Checks.{Lent, inSize, inLength, inMask, inRoom, i
 use Rattle.sweep.specs.Sweep.{Sweep}
 use Rattle.sweep.proofs.CheckLaws.{answer-no, answer-yes, size-product, length-is, length-both, room-is, options-are, missed-1, missed-2, missed-3, missed-4, missed-5, missed-6, missed-7, missed-none}
 use mathlib.Core.Path.{_≡_}
-use Prim.Native.Nat.{_-_}
 use lib.ListN.{length}
 use borrow.Author.Needs.{needs}
 use Rattle.sweep.proofs.checks.first_missed.Statement.{statement}
@@ -78,7 +77,8 @@ returns-6 : tie.Need-returns-6
 returns-6 c = missed-6 _ _ (size-yes (c .before .before .before .before .before .before .before .before .before .before .before)) (long-yes (c .before .before .before .before .before .before .before .before)) (masks-yes (c .before .before .before .before .before .before)) (room-yes (c .before .before .before .before)) (nyquist-yes (c .before .before)) (answer-no (options-are (sweepAt (c .before .before .before .before .before .before .before .before .before .before .before .before .before .before .before)) (c .before .in-options .ensures)) (c .if6 .taken))
 
 all-speeds-requires : tie.Need-all-speeds-requires
-all-speeds-requires c κs = let s = c .before .before .before .before .before .before .before .before .before .before .before .before .before .before .before .args in
+all-speeds-requires c κs =
+    let s = c .before .before .before .before .before .before .before .before .before .before .before .before .before .before .before .args in
     length-both (length (s .velocity .now)) (length (s .valid .now)) (s .counts) (s .pair) (c .before .before .before .before .before .before .before .before .before .before .gates-in .result) (c .before .before .before .before .before .before .before .before .before .in-length .ensures) (c .before .before .before .before .before .before .before .before .if2 .left)
 
 returns-7 : tie.Need-returns-7

@@ -1,7 +1,6 @@
 -- `sweep::checks::gates_in` meets its contract. Assumes nothing.
 use Rattle.sweep.proofs.QuestionLaws.{product-fits}
 use native.Mathlib.Omega.{arith}
-use Prim.Native.Nat.{_-_}
 use borrow.Author.Needs.{needs}
 use Rattle.sweep.proofs.checks.gates_in.Statement.{statement}
 use Rattle.sweep.proofs.checks.gates_in.Tie as tie

@@ -1,7 +1,6 @@
 -- `sweep::checks::in_length` meets its contract. Assumes nothing.
 use borrow.Author.Tests.{eq-eqb, ne-eqb}
 use mathlib.Core.Path.{refl}
-use Prim.Native.Nat.{_-_}
 use Rattle.sweep.proofs.checks.in_length.Statement.{statement}
 use Rattle.sweep.proofs.checks.in_length.Tie as tie
 

@@ -1,7 +1,6 @@
 -- `sweep::checks::in_options` meets its contract. Assumes nothing.
 use borrow.Author.Tests.{le-leb, lt-leb}
 use mathlib.Core.Path.{refl}
-use Prim.Native.Nat.{_-_}
 use Rattle.sweep.proofs.checks.in_options.Statement.{statement}
 use Rattle.sweep.proofs.checks.in_options.Tie as tie
 

@@ -2,7 +2,6 @@
 use Rattle.sweep.specs.Checks.{wordsFor, floatsFor}
 use borrow.Author.Tests.{le-leb, lt-leb}
 use mathlib.Core.Path.{refl}
-use Prim.Native.Nat.{_-_}
 use borrow.Author.Needs.{needs}
 use Rattle.sweep.proofs.checks.in_room.Statement.{statement}
 use Rattle.sweep.proofs.checks.in_room.Tie as tie

@@ -2,7 +2,6 @@
 use Rattle.sweep.specs.Checks.{inSize}
 use borrow.Author.Tests.{le-leb, lt-leb}
 use mathlib.Core.Path.{refl}
-use Prim.Native.Nat.{_-_}
 use Rattle.sweep.proofs.checks.in_size.Statement.{statement}
 use Rattle.sweep.proofs.checks.in_size.Tie as tie
 

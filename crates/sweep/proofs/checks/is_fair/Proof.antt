@@ -2,7 +2,6 @@
 use Rattle.arithmetic.specs.Intervals.{fair}
 use lib.Ieee.{ofBits, neg}
 use mathlib.Core.Path.{refl}
-use Prim.Native.Nat.{_-_}
 use Rattle.sweep.proofs.checks.is_fair.Statement.{statement}
 use Rattle.sweep.proofs.checks.is_fair.Tie as tie
 

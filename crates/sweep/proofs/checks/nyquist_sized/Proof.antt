@@ -2,7 +2,6 @@
 use Rattle.arithmetic.specs.Intervals.{sized}
 use lib.Ieee.{ofBits}
 use mathlib.Core.Path.{refl}
-use Prim.Native.Nat.{_-_}
 use Rattle.sweep.proofs.checks.nyquist_sized.Statement.{statement}
 use Rattle.sweep.proofs.checks.nyquist_sized.Tie as tie
 

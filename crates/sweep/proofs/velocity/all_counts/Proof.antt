@@ -32,7 +32,11 @@ is-bounded-requires : tie.Need-is-bounded-requires Inv-loop μ-loop
 is-bounded-requires c κs = tt
 
 returns : tie.Need-returns Inv-loop μ-loop
-returns c = let l = c .before .before .before .before .before .before .loop in let s = c .before .before .before .before .before .before .before .before .args in let b = c .before .is-bounded in sym (l .inv .1 ∙ count-valid (s .valid .now) (s .folds .now) (length (s .valid .now)) (l .i) (c .before .before .before .before .before .loop-test .taken) (c .before .before .before .if1 .taken) (c .before .before .is-bounded-arg .given) (b .ensures) (not-true _ (c .if2 .taken)))
+returns c =
+    let l = c .before .before .before .before .before .before .loop in
+    let s = c .before .before .before .before .before .before .before .before .args in
+    let b = c .before .is-bounded in
+    sym (l .inv .1 ∙ count-valid (s .valid .now) (s .folds .now) (length (s .valid .now)) (l .i) (c .before .before .before .before .before .loop-test .taken) (c .before .before .before .if1 .taken) (c .before .before .is-bounded-arg .given) (b .ensures) (not-true _ (c .if2 .taken)))
 
 add-i : tie.Need-add-i Inv-loop μ-loop
 add-i c = omega (arith, c .before .before .before .before .before .pre)
@@ -41,10 +45,16 @@ loop-less : tie.Need-loop-less Inv-loop μ-loop
 loop-less c = omega (arith, c .before .before .before .before .before .pre)
 
 loop-again : tie.Need-loop-again Inv-loop μ-loop
-loop-again c = let l = c .before .before .before .loop in let s = c .before .before .before .before .before .args in (omega arith, l .inv .1 ∙ ⊎-elim (λ w. count-valid (s .valid .now) (s .folds .now) (length (s .valid .now)) (l .i) (c .before .before .loop-test .taken) (w .0 .taken) (w .1 .given) (w .2 .ensures) (not-false _ (w .3 .left))) (λ w. count-masked (s .valid .now) (s .folds .now) (length (s .valid .now)) (l .i) (c .before .before .loop-test .taken) (w .left)) (c .if1 .came))
+loop-again c =
+    let l = c .before .before .before .loop in
+    let s = c .before .before .before .before .before .args in
+    (omega arith, l .inv .1 ∙ ⊎-elim (λ w. count-valid (s .valid .now) (s .folds .now) (length (s .valid .now)) (l .i) (c .before .before .loop-test .taken) (w .0 .taken) (w .1 .given) (w .2 .ensures) (not-false _ (w .3 .left))) (λ w. count-masked (s .valid .now) (s .folds .now) (length (s .valid .now)) (l .i) (c .before .before .loop-test .taken) (w .left)) (c .if1 .came))
 
 returns-2 : tie.Need-returns-2 Inv-loop μ-loop
-returns-2 c = let l = c .before .loop in let s = c .before .before .before .args in sym (l .inv .1 ∙ count-end (s .valid .now) (s .folds .now) (length (s .valid .now)) (l .i) (c .loop-test .left))
+returns-2 c =
+    let l = c .before .loop in
+    let s = c .before .before .before .args in
+    sym (l .inv .1 ∙ count-end (s .valid .now) (s .folds .now) (length (s .valid .now)) (l .i) (c .loop-test .left))
 
 pub all-counts-spec : {M : Type 1} → statement M
 all-counts-spec =

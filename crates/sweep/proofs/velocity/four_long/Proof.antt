@@ -1,7 +1,6 @@
 -- `sweep::velocity::four_long` meets its contract. Assumes nothing.
 use borrow.Author.Tests.{eq-eqb, ne-eqb}
 use mathlib.Core.Path.{refl}
-use Prim.Native.Nat.{_-_}
 use Rattle.sweep.proofs.velocity.four_long.Statement.{statement}
 use Rattle.sweep.proofs.velocity.four_long.Tie as tie
 

@@ -1,6 +1,5 @@
 -- `sweep::velocity::is_bounded` meets its contract. Assumes nothing.
 use Rattle.sweep.proofs.VelocityLaws.{bounded-above, bounded-below}
-use Prim.Native.Nat.{_-_}
 use Rattle.sweep.proofs.velocity.is_bounded.Statement.{statement}
 use Rattle.sweep.proofs.velocity.is_bounded.Tie as tie
 

@@ -20,7 +20,9 @@ abbrev μ-loop : tie.MeasureT-loop
 μ-loop nyquist velocity valid folds unfolded₀ i₀ unfolded i = length unfolded₀ - i
 
 loop-holds : tie.Need-loop-holds Inv-loop μ-loop
-loop-holds c = let s = c .before .before .before .args in (omega arith, written-none (gateVelocity (s .nyquist) (s .velocity .now) (s .valid .now) (s .folds .now)) (s .unfolded .now), refl)
+loop-holds c =
+    let s = c .before .before .before .args in
+    (omega arith, written-none (gateVelocity (s .nyquist) (s .velocity .now) (s .valid .now) (s .folds .now)) (s .unfolded .now), refl)
 
 mul-unfolded-at : tie.Need-mul-unfolded-at Inv-loop μ-loop
 mul-unfolded-at c = omega (arith, c .before .before .before .before .before .pre .0, c .before .before .before .before .before .pre .1, c .before .before .before .before .before .pre .2)
@@ -53,7 +55,10 @@ loop-less : tie.Need-loop-less Inv-loop μ-loop
 loop-less c = omega (arith, c .before .before .before .before .before .before .before .before .before .pre .0, c .before .before .before .before .before .before .before .before .before .pre .1, c .before .before .before .before .before .before .before .before .before .pre .2)
 
 loop-again : tie.Need-loop-again Inv-loop μ-loop
-loop-again c = let l = c .before .before .before .before .before .loop in let s = c .before .before .before .before .before .before .before .before .before .args in let h : l .i < length (s .unfolded .now) = omega arith in
+loop-again c =
+    let l = c .before .before .before .before .before .loop in
+    let s = c .before .before .before .before .before .before .before .before .before .args in
+    let h : l .i < length (s .unfolded .now) = omega arith in
     let back = ap (λ (z : ℤ). unfoldedAt (s .nyquist) (getD (s .velocity .now) (l .i) nan) (getD (s .valid .now) (l .i) 0) z) (read-back (getD (s .folds .now) (l .i) (pos 0)) (c .before .unfolded-at-arg .given)) in
     (omega arith, written-more (gateVelocity (s .nyquist) (s .velocity .now) (s .valid .now) (s .folds .now)) (s .unfolded .now) (l .unfolded) (c .unfolded-at .result) (l .i) h (l .inv .1) (c .unfolded-at .ensures ∙ back), simp length-set (l .inv .2))
 
@@ -61,7 +66,10 @@ same-length : tie.Need-same-length Inv-loop μ-loop
 same-length c = search needs
 
 returns : tie.Need-returns Inv-loop μ-loop
-returns c = let l = c .before .loop in let s = c .before .before .before .before .before .args in written-all (gateVelocity (s .nyquist) (s .velocity .now) (s .valid .now) (s .folds .now)) (s .unfolded .now) (l .unfolded) (l .i) (omega arith) (l .inv .1)
+returns c =
+    let l = c .before .loop in
+    let s = c .before .before .before .before .before .args in
+    written-all (gateVelocity (s .nyquist) (s .velocity .now) (s .valid .now) (s .folds .now)) (s .unfolded .now) (l .unfolded) (l .i) (omega arith) (l .inv .1)
 
 pub unfold-gates-spec : {M : Type 1} → statement M
 unfold-gates-spec =

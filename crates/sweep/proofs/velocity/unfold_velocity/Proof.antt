@@ -6,7 +6,6 @@ use mathlib.Core.Bool.{true}
 use Rattle.sweep.proofs.VelocityLaws.{four-lengths, four-is, counts-are, refused, refused-1, refused-2, refused-3, refused-5, refused-7, refused-10, unfolds}
 use Rattle.sweep.proofs.CheckLaws.{answer-no, answer-yes}
 use mathlib.Core.Path.{_≡_, sym, _∙_}
-use Prim.Native.Nat.{_-_}
 use lib.ListN.{length}
 use borrow.Author.Needs.{needs}
 use Rattle.sweep.proofs.velocity.unfold_velocity.Statement.{statement}
@@ -24,7 +23,8 @@ long-yes : (c : tie.Else2) → fourLong (countedAt (c .before .before .before .b
 long-yes c = answer-yes (four-is (countedAt (c .before .before .before .before .before .before .before .before)) (c .before .before .before .before .before .before .before .before .args .unfolded .now) _ _ (c .before .four-long .ensures) (c .before .before .gates-in .ensures)) (c .if2 .left)
 
 same-lengths : (c : tie.Else2) → (length (c .before .before .before .before .before .before .before .before .args .velocity .now) ≡ length (c .before .before .before .before .before .before .before .before .args .unfolded .now)) × (length (c .before .before .before .before .before .before .before .before .args .valid .now) ≡ length (c .before .before .before .before .before .before .before .before .args .unfolded .now)) × (length (c .before .before .before .before .before .before .before .before .args .folds .now) ≡ length (c .before .before .before .before .before .before .before .before .args .unfolded .now))
-same-lengths c = let s = c .before .before .before .before .before .before .before .before .args in
+same-lengths c =
+    let s = c .before .before .before .before .before .before .before .before .args in
     four-lengths (length (s .velocity .now)) (length (s .valid .now)) (length (s .folds .now)) (length (s .unfolded .now)) (c .before .before .gates-in .result) (c .before .four-long .ensures) (c .if2 .left)
 
 masks-yes : (c : tie.Else3) → inMask (c .before .before .before .before .before .before .before .before .before .before .args .valid .now) ≡ true
@@ -67,13 +67,17 @@ returns-4 : tie.Need-returns-4
 returns-4 c = refused _ (c .before .before .before .before .before .before .before .before .before .before .before .before .args .unfolded .now) (refused-5 _ (c .before .before .before .before .before .before .before .before .before .before .before .before .args .unfolded .now) (size-yes (c .before .before .before .before .before .before .before)) (long-yes (c .before .before .before .before)) (masks-yes (c .before .before)) (answer-no (c .before .nyquist-sized .ensures) (c .if4 .taken)))
 
 all-speeds-requires : tie.Need-all-speeds-requires
-all-speeds-requires c κs = let q = same-lengths (c .before .before .before .before) in q .1 ∙ sym (q .0)
+all-speeds-requires c κs =
+    let q = same-lengths (c .before .before .before .before) in
+    q .1 ∙ sym (q .0)
 
 returns-5 : tie.Need-returns-5
 returns-5 c = refused _ (c .before .before .before .before .before .before .before .before .before .before .before .before .before .before .args .unfolded .now) (refused-7 _ (c .before .before .before .before .before .before .before .before .before .before .before .before .before .before .args .unfolded .now) (size-yes (c .before .before .before .before .before .before .before .before .before)) (long-yes (c .before .before .before .before .before .before)) (masks-yes (c .before .before .before .before)) (nyquist-yes (c .before .before)) (answer-no (c .before .all-speeds .ensures) (c .if5 .taken)))
 
 all-counts-requires : tie.Need-all-counts-requires
-all-counts-requires c κs = let q = same-lengths (c .before .before .before .before .before .before) in q .2 ∙ sym (q .1)
+all-counts-requires c κs =
+    let q = same-lengths (c .before .before .before .before .before .before) in
+    q .2 ∙ sym (q .1)
 
 returns-6 : tie.Need-returns-6
 returns-6 c = refused _ (c .before .before .before .before .before .before .before .before .before .before .before .before .before .before .before .before .args .unfolded .now) (refused-10 _ (c .before .before .before .before .before .before .before .before .before .before .before .before .before .before .before .before .args .unfolded .now) (size-yes (c .before .before .before .before .before .before .before .before .before .before .before)) (long-yes (c .before .before .before .before .before .before .before .before)) (masks-yes (c .before .before .before .before .before .before)) (nyquist-yes (c .before .before .before .before)) (speeds-yes (c .before .before)) (answer-no (counts-are _ (c .before .before .before .before .before .before .before .before .before .before .before .before .before .before .before .before .args .unfolded .now) (size-yes (c .before .before .before .before .before .before .before .before .before .before .before)) (long-yes (c .before .before .before .before .before .before .before .before)) (c .before .all-counts .ensures)) (c .if6 .taken)))

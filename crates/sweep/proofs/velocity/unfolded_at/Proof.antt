@@ -7,7 +7,6 @@ use borrow.Author.Tests.{eq-eqb, ne-eqb}
 use mir.ValLaws.{toZ-ofZ}
 use mir.Syntax.{w32}
 use mathlib.Core.Path.{refl}
-use Prim.Native.Nat.{_-_}
 use borrow.Author.Needs.{needs}
 use Rattle.sweep.proofs.velocity.unfolded_at.Statement.{statement}
 use Rattle.sweep.proofs.velocity.unfolded_at.Tie as tie
@@ -23,7 +22,8 @@ int-to-float-result c = search needs
 
 returns : tie.Need-returns
 unfolding unfoldedAt folded real ofBits ofInt
-returns c = let s = c .before .before .before .before in rw (eq-eqb _ _ (c .before .before .before .if1 .taken), c .before .before .f32-to-f64-with-nan .ensures, c .before .f32-to-f64-with-nan2 .ensures, toZ-ofZ w32 (s .args .count) (s .fits .count)) refl
+returns c =
+    let s = c .before .before .before .before in rw (eq-eqb _ _ (c .before .before .before .if1 .taken), c .before .before .f32-to-f64-with-nan .ensures, c .before .f32-to-f64-with-nan2 .ensures, toZ-ofZ w32 (s .args .count) (s .fits .count)) refl
 
 returns-2 : tie.Need-returns-2
 unfolding unfoldedAt real ofBits ofInt
