@@ -159,7 +159,7 @@ module _ (s : Sweep) (l : Lent) where
 
 -- ---- a yes to all seven
 
--- a first question that gets a yes leaves the rest
+-- where no question gets a no, the first gets a yes, and none of the rest gets a no
 first-yes : (q : Question) (qs : List Question) → firstNo (q ∷ qs) ≡ none → q .yes ≡ true
 unfolding firstNo
 first-yes q qs h = go (q .yes) h

@@ -1,7 +1,7 @@
 // checks.rs: the questions 1 to 7 put to a sweep, each as a test, and the number of the first that gets a no.
 ghost use mathlib.Core.Path.{_≡_};
 ghost use mathlib.Core.Bool.{_&&_};
-ghost use Prim.Native.Nat.{_+_, _*_, _≤_};
+ghost use Prim.Native.Nat.{_*_, _≤_};
 ghost use lib.Dec.{eqb, leb};
 ghost use lib.ListN.{length};
 ghost use Rattle.arithmetic.specs.Intervals.{sized, fair};
