@@ -1,3 +1,6 @@
+pub mod VelocityLaws
+pub mod CheckLaws
+pub mod QuestionLaws
 pub mod Early
 pub mod Echo
 pub mod GateCounts

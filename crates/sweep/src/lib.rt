@@ -1,1 +1,4 @@
-// Definitions alone stand here as yet: see specs/.
+// The two exported entries, and what they are built of.
+pub mod checks;
+pub mod exports;
+pub mod velocity;
