@@ -2,13 +2,12 @@
 use Prim.Native.Nat.{ℕ, zero, suc, _+_, _≤_, _<_}
 use native.Mathlib.Omega.{arith}
 use mathlib.Core.Path.{_≡_, refl, sym, ap, _∙_}
-use mathlib.Core.Logic.{_⊎_}
 use mathlib.Core.Bool.{Bool, true, false, cond, not, _&&_, true≢false}
 use mathlib.Core.List.{List, [], _∷_, _++_, map}
 use lib.Dec.{eqb, ltb}
 use lib.ListN.{getD}
 use borrow.Author.Tests.{eqb-true, eqb-false, ltb-true, ltb-false}
-use Rattle.arithmetic.specs.Seq.{All, Mem, keep, each, upto, all, tabulate}
+use Rattle.arithmetic.specs.Seq.{All, keep, each, upto, all, tabulate}
 use Rattle.arithmetic.proofs.SeqLaws.{tab-at, tab-past}
 
 -- both parts of a test that passes

@@ -2,16 +2,16 @@
 -- Assumes nothing.
 use mathlib.Core.Path.{_≡_, refl, sym, ap, _∙_, subst}
 use mathlib.Core.Bool.{Bool, true, false, not, cond}
-use Prim.Native.Nat.{ℕ, zero, suc, _+_, _-_, _*_, _^_, _≤_, _<_}
-use native.Mathlib.Nat.{le-trans, le-of-eq, one-mul, mul-le-mul-right, mul-le-mul-left}
+use Prim.Native.Nat.{ℕ, suc, _+_, _-_, _*_, _≤_, _<_}
+use native.Mathlib.Nat.{le-trans, one-mul, mul-le-mul-right}
 use native.Mathlib.Omega.{arith}
 use lib.Dec.{T, ltb, ltb→lt, nltb→le, lit≤}
 use lib.IntN.{ℤ, pos, negsuc, natAbs, _+ℤ_}
-use lib.Ieee.{Float, binary64, round, add, sub, mul, neg, ofInt}
+use lib.Ieee.{Float, binary64, round, mul}
 use lib.Ieee.Exact.{HasValue}
 use Rattle.arithmetic.specs.Intervals.{width, startOf, endOf, atLeast0}
 use Rattle.arithmetic.proofs.Signed.{plus, minus, Is, add-rounds, sub-rounds, neg-is, mul-values}
-use Rattle.arithmetic.proofs.Units.{unit, tiny, unit-pos, tiny-large, rounded, one-over, one-under, one-has, approx, whole-has, minus-has}
+use Rattle.arithmetic.proofs.Units.{unit, tiny, unit-pos, rounded, one-over, one-under, one-has, approx, whole-has, minus-has}
 use Rattle.arithmetic.proofs.Quotient.{Nyquist, nyq-is, Wide, Add, width-least}
 use Rattle.arithmetic.specs.Rounding.{real}
 

@@ -7,7 +7,7 @@ use native.Mathlib.Omega.{arith}
 use native.Mathlib.Numerals.{add-one}
 use lib.Dec.{T, eqb, eqb→eq, not-T}
 use lib.Ieee.Bits.{is-false}
-use lib.ListN.{length, take, drop, getD, set, length-append, length-take, length-drop}
+use lib.ListN.{length, take, drop, getD, set, length-append, length-drop}
 use lib.Seq.{take-suc, drop-cons, set-at, length-take-le, take-length}
 use lib.Ieee.{Float, nan, lt}
 use Rattle.arithmetic.specs.declared.intervals.Extremes.{Extremes}

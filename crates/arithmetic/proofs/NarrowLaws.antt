@@ -1,18 +1,18 @@
 -- A positive f64 rounded to an f32 by a sum and a difference in f64. A finite x is a / c, and an f32 near it is a multiple of 2 ^ k of binary32's smallest values, k = drop 24 (a * 2 ^ 149) c,
 -- which is 2 ^ (k + 925) of binary64's. Assumes nothing.
 use mathlib.Core.Path.{_≡_, refl, sym, ap, _∙_, subst}
-use mathlib.Core.Bool.{Bool, true, false, not, _&&_, _||_, Bool·beq, cond, true≢false, false≢true}
-use Prim.Native.Nat.{ℕ, zero, suc, _+_, _-_, _*_, _/_, _%_, _^_, _≤_, _<_}
-use native.Mathlib.Nat.{le-trans, le-of-eq, le-of-lt, lt-of-lt-of-le, lt-of-le-of-lt, lt-of-not-le, not-le-of-lt, mul-one, one-mul, mul-comm, mul-assoc, mul-left-comm, mul-right-comm, add-mul, mul-pos, mul-le-mul-right, mul-lt-mul-of-pos-right, lt-of-mul-lt-mul-right, le-of-mul-le-mul-right, zero-lt-suc, div-lt-iff-lt-mul, lt-irrefl, zero-mul}
+use mathlib.Core.Bool.{Bool, true, false, not, _&&_, _||_, true≢false, false≢true}
+use Prim.Native.Nat.{ℕ, zero, suc, _+_, _-_, _*_, _/_, _^_, _≤_, _<_}
+use native.Mathlib.Nat.{le-trans, le-of-eq, lt-of-lt-of-le, lt-of-le-of-lt, not-le-of-lt, mul-one, mul-comm, mul-assoc, mul-left-comm, mul-right-comm, add-mul, mul-pos, mul-le-mul-right, mul-lt-mul-of-pos-right, lt-of-mul-lt-mul-right, le-of-mul-le-mul-right, zero-lt-suc, div-lt-iff-lt-mul, lt-irrefl, zero-mul}
 use native.Mathlib.Omega.{arith}
 use lib.Dec.{T, ltb, leb, eqb, ltb→lt, lt→ltb, leb→le, le→leb, nleb→lt, not-T, lit<, lit≤}
-use lib.Pow.{pow-add, pow-pos, pow-mono, pow-lt, shl-lt}
-use lib.IntN.{ℤ, pos}
+use lib.Pow.{pow-add, pow-pos, pow-mono, shl-lt}
+use lib.IntN.{pos}
 use lib.Ieee.{Float, nan, inf, fin, binary32, binary64, up, down, size, units, round, odd, add, sub, lt, eq, le, ne, neg, fits, isNan}
-use lib.Ieee.Bits.{is-true, is-false, cond-no}
+use lib.Ieee.Bits.{is-true, cond-no}
 use lib.Ieee.Digits.{size-le}
 use lib.Ieee.Exact.{HasValue, units-val, round-exact}
-use lib.Ieee.Fits.{round-fits, add-fits, sub-fits, fits-widens, up-pos, down-pos, and-i}
+use lib.Ieee.Fits.{round-fits, sub-fits, fits-widens, up-pos, down-pos, and-i}
 use lib.Ieee.Nearest.{closest, closest-same}
 use lib.Ieee.Order.{drop, round-mono}
 use lib.Ieee.Positive.{num, den, positive, above, own-value, den-pos, first-pos}

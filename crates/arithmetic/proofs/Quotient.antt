@@ -1,22 +1,20 @@
 -- Nyquist, the width of an interval and the numbers of widths to add, in units: what questions 5 to 7 give. The ceiling's argument is at most 2 ^ 30.
 -- Assumes nothing.
 use mathlib.Core.Path.{_≡_, refl, sym, ap, _∙_, subst}
-use mathlib.Core.Bool.{Bool, true, false, not, _&&_, _||_, cond}
+use mathlib.Core.Bool.{Bool, true, false, not, cond}
 use Prim.Native.Nat.{ℕ, zero, suc, _+_, _-_, _*_, _/_, _%_, _^_, _≤_, _<_}
-use native.Mathlib.Nat.{le-trans, le-of-eq, mul-one, one-mul, mul-comm, mul-pos, mul-le-mul-right, mul-le-mul-left, le-of-mul-le-mul-right, lt-of-not-le, not-le-of-lt, le-of-suc-le-suc, zero-lt-suc, div-mul-le-self}
+use native.Mathlib.Nat.{le-trans, le-of-eq, mul-one, one-mul, mul-pos, mul-le-mul-right, mul-le-mul-left, le-of-mul-le-mul-right, lt-of-not-le, le-of-suc-le-suc, zero-lt-suc, div-mul-le-self}
 use native.Mathlib.Omega.{arith}
-use lib.Dec.{T, leb, ltb, eqb, leb→le, le→leb, lit≤, lit<}
+use lib.Dec.{T, leb, eqb, le→leb, lit≤, lit<}
 use lib.IntN.{ℤ, pos, negsuc, negℤ, natAbs}
 use lib.Ieee.{Float, nan, inf, fin, binary64, up, down, round, add, sub, mul, div, neg, le, fits, ofInt}
 use lib.Ieee.Fits.{and-l, and-r, down-pos}
 use lib.Ieee.Exact.{HasValue}
-use lib.Ieee.Scale.{finite}
 use lib.Ieee.Positive.{first-pos}
 use Rattle.arithmetic.specs.Rounding.{within, ceiling, ceilingWhole, real}
 use Rattle.arithmetic.specs.Intervals.{fair, folded, width, overStart, overEnd}
-use Rattle.arithmetic.proofs.Signed.{plus, minus, Is, Rounds, values-le, add-rounds, sub-rounds, neg-is, neg-has, mul-values, div-values}
+use Rattle.arithmetic.proofs.Signed.{plus, minus, Is, values-le, add-rounds, sub-rounds, neg-has, mul-values, div-values}
 use Rattle.arithmetic.proofs.Units.{unit, tiny, unit-is, tiny-large, unit-pos, rounded, near64, has64, thrice, one-over, one-under, one-has, Approx, approx, on-grid, between-finite, whole-has}
-use Rattle.arithmetic.proofs.Error.{Near}
 use Rattle.arithmetic.specs.Asked.{Asked}
 
 -- ---- Nyquist

@@ -2,12 +2,11 @@
 use mathlib.Core.Path.{_≡_, refl, sym, ap, _∙_, subst}
 use mathlib.Core.Logic.{_⊎_, inl, inr}
 use mathlib.Core.Bool.{Bool, true, false, not, _&&_, _||_, Bool·beq, cond, true≢false, false≢true}
-use Prim.Native.Nat.{ℕ, zero, suc, _+_, _-_, _*_, _/_, _%_, _^_, _≤_, _<_, compare, Ordering, Ordering·lt}
-use native.Mathlib.Nat.{le-refl, le-of-eq, le-of-lt, lt-irrefl, not-le-of-lt, eq-or-lt-of-le, mul-one, zero-mul, zero-div, zero-mod}
+use Prim.Native.Nat.{ℕ, zero, suc, _+_, _-_, _*_, _/_, _^_, _≤_, _<_, compare, Ordering}
+use native.Mathlib.Nat.{le-of-eq, le-of-lt, not-le-of-lt, eq-or-lt-of-le, mul-one, zero-mul, zero-div, zero-mod}
 use native.Mathlib.Omega.{arith}
 use lib.Dec.{T, ltb, leb, eqb, leb·zero, ltb→lt, lt→ltb, leb→le, nleb→lt, eqb→eq, eqb-refl, not-T, lit<}
-use lib.IntN.{ℤ, pos, negsuc, negℤ, _-ℤ_, +ℤ-idl}
-use lib.Signed.{mag}
+use lib.IntN.{ℤ, pos, negℤ, _-ℤ_, +ℤ-idl}
 use mir.Syntax.{w32}
 use mir.Val.{SFits, toZ, ofZ}
 use mir.ValLaws.{toZ-pos, toZ-ofZ}
@@ -16,7 +15,7 @@ use lib.Ieee.Bits.{is-true, is-false}
 use lib.Ieee.Fits.{down-pos, and-l}
 use lib.Ieee.Nearest.{closest}
 use lib.Ieee.Positive.{num, den, positive, first-pos}
-use Rattle.arithmetic.specs.Rounding.{signed, within, ceiling, nearestWhole, ceilingWhole}
+use Rattle.arithmetic.specs.Rounding.{within, ceiling, nearestWhole, ceilingWhole}
 use Rattle.arithmetic.proofs.RoundLaws.{is-lt}
 
 -- 0, 2 ^ 30 and -2 ^ 30

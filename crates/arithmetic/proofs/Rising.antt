@@ -4,19 +4,19 @@ use mathlib.Core.Logic.{_⊎_, inl, inr}
 use mathlib.Core.Bool.{Bool, true, false, not, cond}
 use mathlib.Core.List.{List, [], _∷_, _++_}
 use Prim.Native.Nat.{ℕ, zero, suc, _+_, _-_, _*_, _≤_, _<_}
-use native.Mathlib.Nat.{le-trans, le-of-eq, zero-mul, eq-or-lt-of-le, le-of-suc-le-suc}
+use native.Mathlib.Nat.{le-trans, le-of-eq, zero-mul, eq-or-lt-of-le}
 use native.Mathlib.Omega.{arith}
 use lib.Dec.{T, eqb, leb, leb→le, nleb→lt, lit≤}
-use lib.IntN.{ℤ, pos, negsuc, natAbs, _+ℤ_}
+use lib.IntN.{ℤ, pos, _+ℤ_}
 use lib.ListN.{length, getD, length-append, List·getD-append}
 use lib.Seq.{getD-at}
-use lib.Ieee.{Float, nan, fin, binary32, binary64, add, mul, div, lt, le, fits}
+use lib.Ieee.{Float, nan, binary32, binary64, mul, lt, le, fits}
 use lib.Ieee.Scale.{finite}
 use lib.Ieee.Fits.{add-fits, cond-fits, fits-widens}
-use Rattle.arithmetic.specs.Rounding.{ceilingWhole, real}
+use Rattle.arithmetic.specs.Rounding.{real}
 use Rattle.arithmetic.specs.declared.intervals.Extremes.{Extremes}
 use Rattle.arithmetic.specs.declared.intervals.Extremes.the-variants.{Both, NoneValid}
-use Rattle.arithmetic.specs.Intervals.{fair, valid, least, greatest, range, width, overStart, overEnd, beyond, widened, noAdds, Adds, adds, number, spaced, stepOf, limitAt, atLeast0, startOf, endOf, limitsOf, limitsFor, numberFor}
+use Rattle.arithmetic.specs.Intervals.{fair, valid, least, greatest, range, width, overStart, overEnd, beyond, widened, noAdds, adds, number, spaced, stepOf, limitAt, atLeast0, startOf, endOf, limitsOf, limitsFor, numberFor}
 use Rattle.arithmetic.proofs.Units.{unit, tiny, value-finite}
 use Rattle.arithmetic.proofs.Plans.{range-fair}
 use Rattle.arithmetic.proofs.Quotient.{Nyquist, nyquist, Wide, wide, speed, over-start, over-end, Add, add-of}
@@ -24,7 +24,7 @@ use Rattle.arithmetic.proofs.Itself.{float-le-trans, lt-not-le}
 use Rattle.arithmetic.proofs.Steps.{rise, last, limit-finite}
 use Rattle.arithmetic.proofs.Ends.{start-end, end-end, gap, start-most}
 use Rattle.arithmetic.specs.Asked.{Asked, Fair, Held, Rising}
-use Rattle.arithmetic.specs.Seq.{upto, tabulate, all}
+use Rattle.arithmetic.specs.Seq.{tabulate, all}
 use Rattle.arithmetic.proofs.SeqLaws.{tab-length, tab-at}
 
 -- a list that grows to its k-th, and one more that is no less

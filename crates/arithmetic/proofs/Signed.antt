@@ -1,23 +1,20 @@
 -- Floats of either sign as differences p - n over a common denominator c: their order, and each operation as one rounding. Rounding keeps the order, whatever the
 -- signs. Assumes nothing.
 use mathlib.Core.Path.{_≡_, refl, sym, ap, _∙_, subst}
-use mathlib.Core.Logic.{_⊎_, inl, inr}
-use mathlib.Core.Bool.{Bool, true, false, not, _&&_, _||_, Bool·beq, cond, true≢false, false≢true}
-use Prim.Native.Nat.{ℕ, zero, suc, _+_, _-_, _*_, _/_, _%_, _^_, _≤_, _<_}
-use native.Mathlib.Nat.{le-trans, le-of-eq, zero-mul, mul-comm, mul-assoc, mul-left-comm, mul-right-comm, add-mul, mul-pos, mul-one, one-mul, mul-sub, mul-le-mul-right, le-of-mul-le-mul-right, lt-of-mul-lt-mul-right, mul-lt-mul-of-pos-right, not-le-of-lt, zero-lt-suc}
+use mathlib.Core.Bool.{Bool, true, false, not, _&&_, _||_, Bool·beq, cond, true≢false}
+use Prim.Native.Nat.{ℕ, zero, suc, _+_, _-_, _*_, _^_, _≤_, _<_}
+use native.Mathlib.Nat.{zero-mul, mul-comm, mul-pos, mul-sub, mul-le-mul-right, le-of-mul-le-mul-right, lt-of-mul-lt-mul-right, mul-lt-mul-of-pos-right, zero-lt-suc}
 use native.Mathlib.Omega.{arith}
 use lib.Dec.{T, ltb, leb, eqb, ltb→lt, lt→ltb, le→leb, leb→le, nltb→le, eqb→eq, eqb-refl, not-T}
-use lib.IntN.{ℤ, pos, negsuc}
-use lib.Pow.{pow-pos}
-use lib.Ieee.{Float, nan, inf, fin, Format, prec, emax, low, up, down, odd, units, round, neg, sum, add, sub, mul, div, below, level, lt, eq, le, unlike, fits}
-use lib.Ieee.Bits.{is-true, is-false, cond-no}
-use lib.Ieee.Fits.{down-pos, up-pos, and-l, and-r, and-i}
+use lib.Ieee.{Float, nan, inf, fin, Format, prec, emax, low, up, down, odd, units, round, neg, sum, add, sub, mul, div, below, level, lt, eq, le, unlike}
+use lib.Ieee.Bits.{cond-no}
+use lib.Ieee.Fits.{down-pos, and-l, and-r}
 use lib.Ieee.Exact.{HasValue}
 use lib.Ieee.Back.{round-whole}
 use lib.Ieee.Order.{round-mono, drop}
 use lib.Ieee.Nearest.{closest}
 use lib.Ieee.Positive.{first-pos}
-use lib.Ieee.Scale.{round-same, finite}
+use lib.Ieee.Scale.{round-same}
 use Rattle.arithmetic.proofs.RangeLaws.{le-leb}
 use Rattle.arithmetic.proofs.RoundLaws.{neg-round, round-unit}
 

@@ -1,20 +1,17 @@
 -- Evenly spaced limits never fall: start + step * i grows with i, and the last one computed stays below the end, since three roundings move it by less than a 2 ^ 50th and
 -- it is one step short. Assumes nothing.
-use mathlib.Core.Path.{_≡_, refl, sym, ap, _∙_, subst}
-use mathlib.Core.Logic.{_⊎_, inl, inr}
+use mathlib.Core.Path.{_≡_, sym, ap, _∙_, subst}
 use mathlib.Core.Bool.{Bool, true, false, not}
-use Prim.Native.Nat.{ℕ, zero, suc, _+_, _-_, _*_, _^_, _≤_, _<_}
-use native.Mathlib.Nat.{le-trans, le-of-eq, mul-one, mul-pos, mul-comm, mul-le-mul-right, mul-le-mul-left, mul-le-mul, le-of-mul-le-mul-right, lt-of-mul-lt-mul-right, le-of-suc-le-suc, zero-lt-suc, lt-of-not-le, not-le-of-lt, add-le-add, le-refl}
+use Prim.Native.Nat.{ℕ, suc, _+_, _-_, _*_, _≤_, _<_}
+use native.Mathlib.Nat.{le-trans, le-of-eq, mul-one, mul-pos, mul-le-mul-right, mul-le-mul-left, le-of-mul-le-mul-right, lt-of-mul-lt-mul-right, le-of-suc-le-suc, zero-lt-suc, add-le-add, le-refl}
 use native.Mathlib.Omega.{arith}
 use lib.Dec.{T, leb, leb→le, nleb→lt, lit≤, lit<}
-use lib.IntN.{ℤ, pos, negsuc}
-use lib.Ieee.{Float, binary64, round, add, sub, mul, div, le, fits, ofInt}
-use lib.Ieee.Fits.{add-fits}
+use lib.IntN.{pos}
+use lib.Ieee.{Float, binary64, round, sub, mul, le, fits, ofInt}
 use lib.Ieee.Exact.{HasValue}
 use lib.Ieee.Scale.{finite}
 use Rattle.arithmetic.specs.Intervals.{stepOf, limitAt}
 use Rattle.arithmetic.proofs.Signed.{plus, minus, Is, Rounds, rounds-le, add-rounds, sub-rounds, mul-values, div-values, round-le, values-le}
-use Rattle.arithmetic.proofs.Error.{Near}
 use Rattle.arithmetic.proofs.Units.{unit, tiny, unit-pos, tiny-large, rounded, near64, has64, thrice, one-has, one-over, one-under, whole-has, rounds-finite}
 use Rattle.arithmetic.proofs.Itself.{is-rounds}
 use Rattle.arithmetic.specs.Rounding.{real}

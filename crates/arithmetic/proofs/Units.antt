@@ -1,20 +1,19 @@
 -- f64 values as whole numbers of `unit`ths, `unit` = 2 ^ 1074, and errors counted in `tiny` = 2 ^ 1040: what is at most 2 ^ 52 tiny is rounded with an error of at most one.
 -- 2 ^ 34 tiny is a unit. Assumes nothing.
 use mathlib.Core.Path.{_≡_, refl, sym, ap, _∙_, subst}
-use mathlib.Core.Logic.{_⊎_, inl, inr}
-use mathlib.Core.Bool.{Bool, true, false, not, _&&_, _||_}
-use Prim.Native.Nat.{ℕ, zero, suc, _+_, _-_, _*_, _/_, _%_, _^_, _≤_, _<_}
-use native.Mathlib.Nat.{le-trans, le-of-eq, mul-one, one-mul, zero-mul, mul-pos, mul-le-mul-right, le-of-mul-le-mul-right, lt-of-not-le, not-le-of-lt, le-of-suc-le-suc, zero-lt-suc, mul-assoc}
+use mathlib.Core.Bool.{Bool, true, false, _&&_}
+use Prim.Native.Nat.{ℕ, zero, suc, _+_, _-_, _*_, _%_, _^_, _≤_, _<_}
+use native.Mathlib.Nat.{le-trans, le-of-eq, mul-one, zero-mul, mul-le-mul-right, le-of-mul-le-mul-right, lt-of-not-le, not-le-of-lt, le-of-suc-le-suc, zero-lt-suc, mul-assoc}
 use native.Mathlib.Omega.{arith}
 use lib.Dec.{T, leb, ltb, eqb, leb→le, lit≤, lit<}
 use lib.Pow.{pow-add, pow-pos, pow-lt}
 use lib.IntN.{ℤ, pos, negsuc}
-use lib.Ieee.{Float, nan, inf, fin, Format, binary64, prec, emax, low, up, down, round, le, fits, ofInt}
+use lib.Ieee.{Float, nan, inf, fin, binary64, prec, emax, low, round, le, fits, ofInt}
 use lib.Ieee.Fits.{and-l, and-r}
 use lib.Ieee.Exact.{HasValue}
 use lib.Ieee.Back.{round-whole}
 use lib.Ieee.Scale.{grid, overflow, finite}
-use Rattle.arithmetic.proofs.Signed.{plus, minus, Is, Rounds, values-le}
+use Rattle.arithmetic.proofs.Signed.{plus, minus, Is, Rounds}
 use Rattle.arithmetic.proofs.Error.{Near, near-grid, round-has}
 
 unfoldable pub unit : ℕ

@@ -1,6 +1,6 @@
 -- What the contracts on limits ask, and what is known of limits. Definitions only.
 use Prim.Native.Nat.{ℕ, suc, _≤_, _<_}
-use mathlib.Core.Bool.{true, false}
+use mathlib.Core.Bool.{false}
 use mathlib.Core.List.{List, _++_}
 use lib.Dec.{T}
 use lib.IntN.{pos, negsuc}

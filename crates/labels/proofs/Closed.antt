@@ -11,7 +11,7 @@ use lib.Ieee.{Float}
 use lib.ListN.{length, getD}
 use borrow.Author.Tests.{eq-eqb, ne-eqb}
 use Rattle.arithmetic.specs.Seq.{upto, tabulate}
-use Rattle.labels.specs.Label.{own, join, firsts, rank}
+use Rattle.labels.specs.Label.{own, firsts, rank}
 use Rattle.labels.specs.Regions.{regions}
 use Rattle.arithmetic.proofs.SeqLaws.{tab-at}
 use Rattle.labels.proofs.RankLaws.{rank-le}

@@ -1,6 +1,6 @@
 -- label.rs: the 4-connected areas of a set of gates, numbered from 1 by their first gate in scan order. No wrap. Definitions only.
-use Prim.Native.Nat.{ℕ, zero, suc, _-_, _%_, min, max}
-use mathlib.Core.Bool.{Bool, true, false, cond, not, _&&_}
+use Prim.Native.Nat.{ℕ, suc, _-_, _%_, min, max}
+use mathlib.Core.Bool.{Bool, false, cond, not, _&&_}
 use mathlib.Core.List.{List, [], _∷_, _++_, map, foldl}
 use lib.Dec.{eqb, leb}
 use lib.ListN.{length, getD}

@@ -11,7 +11,6 @@ use lib.IntN.{ℤ}
 use borrow.Author.Tests.{eqb-false, eqb-true}
 use Rattle.network.specs.Network.{Edge, State, Plan, Link, Region, sizeOf, at, plan, planFor, kill, adjust, turnIf, turn, link, find, absorb, absent, hand, combine, prepare, joinAll, mergeEdges, merge, stepTo, step}
 use Rattle.network.specs.Simple.{Joined, Simple}
-use Rattle.network.proofs.Lists.{at-num}
 use Rattle.network.proofs.Restrict.{prepare-num, combine-num}
 use Rattle.network.proofs.Ends.{prepare-live, combine-live}
 use Rattle.arithmetic.proofs.SeqLaws.{eqb-refl}

@@ -6,7 +6,7 @@ use lib.Dec.{T}
 use lib.IntN.{pos}
 use lib.Ieee.{nan, binary32, fits, Float}
 use lib.ListN.{length, getD}
-use Rattle.network.specs.Network.{Edge, Region, State}
+use Rattle.network.specs.Network.{Region, State}
 use Rattle.network.specs.Mem.{Mem, view, Room, total, enext-set, rnext-set, elen-set, rlen-set, count-set}
 use Rattle.network.specs.Net.{rows, edgeOf}
 use Rattle.network.specs.Rep.{Rep, gatesOf}

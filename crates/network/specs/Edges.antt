@@ -1,7 +1,7 @@
 -- edges.rs: looks, pairs, and the edge records. An `EdgeRecord` is the code's own struct: two labels, the number of their pairs, and the sums
 -- of the velocities at either end. Definitions only.
 use Prim.Native.Nat.{ℕ, zero, suc, _+_, _-_, _*_, _%_}
-use mathlib.Core.Bool.{Bool, true, false, cond, not, _&&_}
+use mathlib.Core.Bool.{Bool, cond, not}
 use mathlib.Core.List.{List, [], _∷_, foldl}
 use mathlib.Core.Option.{Option, none, some}
 use lib.Dec.{leb, ltb, eqb}

@@ -9,8 +9,8 @@ use lib.Dec.{ltb, eqb}
 use lib.ListN.{length, getD}
 use lib.Ieee.{Float, nan}
 use Rattle.arithmetic.specs.Seq.{upto, each}
-use Rattle.network.specs.Edges.{Shape, Direction, left, right, top, bottom, sees, Pair}
-use Rattle.arithmetic.specs.Seg.{seg, put}
+use Rattle.network.specs.Edges.{Shape, left, right, top, bottom, sees, Pair}
+use Rattle.arithmetic.specs.Seg.{put}
 use Rattle.network.specs.declared.edges.Frame.{Frame}
 
 -- a gate and the gate that it sees

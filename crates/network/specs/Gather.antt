@@ -1,17 +1,17 @@
 -- Sorted pairs read back, and runs of them gathered into tables: weights from t on, first ends from t + 3c, second ends from t + 4c,
 -- differences from 0 in their own slice. Definitions only.
-use Prim.Native.Nat.{ℕ, suc, _+_, _-_, _*_, _≤_, _<_, _^_}
+use Prim.Native.Nat.{ℕ, _+_, _-_, _*_, _≤_, _<_, _^_}
 use mathlib.Core.Path.{_≡_}
-use mathlib.Core.Bool.{Bool, true, false}
-use mathlib.Core.List.{List, map, _++_}
+use mathlib.Core.Bool.{true, false}
+use mathlib.Core.List.{List, map}
 use lib.ListN.{length, getD, set}
 use lib.Ieee.{Float, binary64, sub, div}
 use Rattle.arithmetic.specs.Seq.{upto}
 use Rattle.arithmetic.specs.Rounding.{narrowed}
 use Rattle.arithmetic.specs.Seg.{seg, put}
 use Rattle.network.specs.Edges.{Pair, begun, plus}
-use Rattle.network.specs.GatePairs.{GatePair, both, pairOf}
-use Rattle.network.specs.Order.{alike, runs, runsFrom}
+use Rattle.network.specs.GatePairs.{both, pairOf}
+use Rattle.network.specs.Order.{alike, runs}
 use Rattle.network.specs.declared.edges.Raw.{Raw}
 use Rattle.network.specs.declared.edges.Sums.{Sums}
 use Rattle.network.specs.declared.edges.EdgeRecord.{EdgeRecord}

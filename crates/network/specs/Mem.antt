@@ -1,7 +1,7 @@
 -- The tables of the merging code as lists, and where each lies in the lent words. Definitions only.
 use mathlib.Core.Path.{_≡_}
 use mathlib.Core.List.{List, [], _∷_}
-use Prim.Native.Nat.{ℕ, zero, suc, _+_, _*_, _≤_, _<_, _^_}
+use Prim.Native.Nat.{ℕ, _+_, _*_, _≤_, _<_, _^_}
 use lib.Dec.{T}
 use lib.Ieee.{binary32, fits, nan, Float}
 use lib.ListN.{length, getD, set}

@@ -1,5 +1,4 @@
 -- network.rs: regions joined by weighted edges, and the steps that join them into nodes. Definitions only.
-use mathlib.Core.Path.{_≡_}
 use mathlib.Core.Bool.{Bool, true, false, not, _&&_, cond}
 use mathlib.Core.List.{List, [], _∷_, map}
 use mathlib.Core.Option.{Option, none, some}

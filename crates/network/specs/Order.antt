@@ -1,5 +1,5 @@
 -- The pairs sorted by second label and then first, and runs of equal labels gathered. Definitions only.
-use Prim.Native.Nat.{ℕ, suc, _+_}
+use Prim.Native.Nat.{ℕ, _+_}
 use mathlib.Core.Bool.{Bool, cond, _&&_}
 use mathlib.Core.List.{List, [], _∷_}
 use Rattle.arithmetic.specs.Seq.{upto, keep, each}

@@ -1,11 +1,8 @@
 -- The run of the network until no edge is live or question 9 says no. Definitions only.
-use mathlib.Core.Bool.{Bool, true, false, _&&_, cond}
-use mathlib.Core.List.{List, [], _∷_}
+use mathlib.Core.Bool.{cond}
 use mathlib.Core.Option.{Option, none, some}
 use Prim.Native.Nat.{ℕ, zero, suc}
-use lib.Dec.{leb, ltb}
-use lib.IntN.{ℤ, pos, negsuc}
-use Rattle.network.specs.Network.{Edge, State, Event, event, step, choose, inRange}
+use Rattle.network.specs.Network.{Edge, State, event, step, choose, inRange}
 
 -- the last state and the number of merges
 pub record Done : Type 0 where

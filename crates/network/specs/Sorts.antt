@@ -4,7 +4,7 @@ use mathlib.Core.Path.{_≡_}
 use mathlib.Core.List.{List, map}
 use lib.ListN.{length, getD}
 use Rattle.arithmetic.specs.Seq.{upto}
-use Rattle.arithmetic.specs.Seg.{seg, put}
+use Rattle.arithmetic.specs.Seg.{seg}
 use Rattle.memory.specs.Sort.{sorted}
 
 -- the labels of the m gates from src on

@@ -1,12 +1,12 @@
 -- What a turn and a run of the code come to. Definitions only.
 use mathlib.Core.Path.{_≡_}
-use mathlib.Core.Bool.{Bool, true, false}
+use mathlib.Core.Bool.{true, false}
 use mathlib.Core.List.{List}
 use mathlib.Core.Option.{Option, none, some}
 use Prim.Native.Nat.{ℕ, _≤_, _<_}
 use lib.Ieee.{nan, Float}
 use lib.ListN.{getD}
-use Rattle.network.specs.Network.{Edge, State, Event, event, step, choose, quot, inRange}
+use Rattle.network.specs.Network.{Edge, State, event, step, choose, quot, inRange}
 use Rattle.memory.specs.Tree.{Tree}
 use Rattle.network.specs.declared.network.Turned.{Turned}
 use Rattle.network.specs.declared.network.Turned.the-variants.{Merged, Ended, Refused}
@@ -15,7 +15,7 @@ use Rattle.network.specs.declared.network.Ran.the-variants.{Settled, Den
 use Rattle.network.specs.Mem.{Mem, view}
 use Rattle.network.specs.Steps.{numberOf}
 use Rattle.network.specs.Net.{rows, regionOf, stateOf}
-use Rattle.network.specs.Settle.{Done, settle}
+use Rattle.network.specs.Settle.{Done}
 use Rattle.network.specs.Rep.{Rep}
 
 -- what the code may start from

@@ -1,7 +1,7 @@
 -- The call of the sweep entry: from the inputs and everything lent to the answer number and everything lent afterwards. Definitions only.
 use Prim.Native.Nat.{ℕ}
 use mathlib.Core.List.{List, [], _∷_, _++_}
-use mathlib.Core.Option.{Option, none, some}
+use mathlib.Core.Option.{none, some}
 use lib.ListN.{length, drop, replicate}
 use lib.IntN.{ℤ, pos}
 use lib.Ieee.{Float}

@@ -1,12 +1,12 @@
 -- sweep.rs: the counts of a sweep by given limits. Definitions only.
-use Prim.Native.Nat.{ℕ, zero, suc, _+_, _*_}
-use mathlib.Core.Bool.{Bool, true, false, cond, not, _&&_, _||_}
+use Prim.Native.Nat.{ℕ, _+_, _*_}
+use mathlib.Core.Bool.{Bool, true, false, cond, _||_}
 use mathlib.Core.List.{List, [], _∷_, map}
 use lib.Dec.{eqb, ltb}
 use lib.ListN.{length, getD}
 use lib.IntN.{ℤ, pos, _+ℤ_, _-ℤ_, _*ℤ_}
 use lib.Ieee.{Float, binary64, div}
-use Rattle.arithmetic.specs.Seq.{upto, keep, all, tabulate}
+use Rattle.arithmetic.specs.Seq.{upto, all, tabulate}
 use Rattle.arithmetic.specs.Rounding.{roundEven, real}
 use Rattle.arithmetic.specs.declared.rounding.Rounded.{Rounded}
 use Rattle.arithmetic.specs.declared.rounding.Rounded.the-variants.{Whole, Outside}

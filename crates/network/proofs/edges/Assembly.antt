@@ -1,20 +1,20 @@
 -- From pairs to edges, over plain values. Assumes nothing.
-use Prim.Native.Nat.{ℕ, zero, suc, _+_, _-_, _*_, _≤_, _<_, _^_}
+use Prim.Native.Nat.{ℕ, zero, suc, _+_, _-_, _*_, _≤_, _<_}
 use native.Mathlib.Omega.{arith}
 use mathlib.Core.Path.{_≡_, refl, sym, ap, _∙_}
 use mathlib.Core.Bool.{Bool, true, false, cond}
-use mathlib.Core.List.{List, [], _∷_, _++_, map}
+use mathlib.Core.List.{List, [], _∷_, map}
 use mathlib.Core.Option.{Option, none, some}
-use lib.Dec.{ltb, eqb, eqb}
+use lib.Dec.{ltb, eqb}
 use lib.ListN.{length, getD, length-map}
-use lib.Ieee.{Float, nan}
+use lib.Ieee.{Float}
 use lib.Seq.{ext-getD}
 use Rattle.arithmetic.specs.Seg.{seg, put}
 use Rattle.arithmetic.proofs.SegLaws.{length-seg, getD-seg, length-put, seg-put-below, seg-put-same}
 use Rattle.arithmetic.specs.Seq.{upto, each, All}
 use Rattle.arithmetic.proofs.SeqLaws.{upto-length}
 use Rattle.memory.specs.Sort.{pick, bucket, sorted}
-use Rattle.network.specs.Edges.{Shape, Direction, left, right, top, bottom, sees, Pair, pairs, used}
+use Rattle.network.specs.Edges.{Shape, left, right, top, bottom, sees, Pair, pairs, used}
 use Rattle.network.specs.declared.edges.Frame.{Frame}
 use Rattle.network.specs.Sees.{shape}
 use Rattle.network.specs.GatePairs.{GatePair, both, gatePairTo, gatePairsAt, gatePairs, pairOf, Adds, Sheet}

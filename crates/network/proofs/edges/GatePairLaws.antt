@@ -2,17 +2,17 @@
 use Prim.Native.Nat.{ℕ, zero, suc, _+_, _-_, _*_, _≤_, _<_}
 use native.Mathlib.Omega.{arith}
 use mathlib.Core.Path.{_≡_, refl, sym, ap, _∙_}
-use mathlib.Core.Bool.{Bool, true, false, cond, true≢false}
+use mathlib.Core.Bool.{Bool, true, false, cond}
 use mathlib.Core.List.{List, [], _∷_, _++_, map, append-assoc}
 use mathlib.Core.Option.{Option, none, some, Option·none-ne-some, Option·some-injective}
 use lib.Dec.{ltb, eqb}
-use lib.ListN.{length, getD, length-append}
-use lib.Ieee.{Float, nan}
-use borrow.Author.Tests.{lt-ltb, le-ltb, ltb-true, eq-eqb, ne-eqb, eqb-true, eqb-false}
+use lib.ListN.{length, getD}
+use lib.Ieee.{Float}
+use borrow.Author.Tests.{le-ltb, eqb-true}
 use Rattle.arithmetic.specs.Seq.{upto, keep, each}
-use Rattle.arithmetic.proofs.SeqLaws.{keep-each, map-each, each-same, upto-length}
-use Rattle.network.specs.Edges.{Shape, Direction, left, right, top, bottom, next, look, sees, skip, Pair, pairTo, pairsAt, pairs}
-use Rattle.network.specs.GatePairs.{GatePair, both, gatePairTo, gatePairsAt, gatePairs, pairOf, greater}
+use Rattle.arithmetic.proofs.SeqLaws.{keep-each, map-each, each-same}
+use Rattle.network.specs.Edges.{Shape, Direction, left, right, top, bottom, next, look, sees, skip, pairTo, pairsAt, pairs}
+use Rattle.network.specs.GatePairs.{both, gatePairTo, gatePairsAt, gatePairs, pairOf, greater}
 use Rattle.network.proofs.edges.Next.{next-in}
 
 -- ---- each, over numbers in order

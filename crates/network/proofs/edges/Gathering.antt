@@ -1,21 +1,19 @@
 -- Gathering, over plain values. Assumes nothing.
-use Prim.Native.Nat.{ℕ, zero, suc, _+_, _-_, _*_, _≤_, _<_, _^_}
+use Prim.Native.Nat.{ℕ, suc, _+_, _-_, _*_, _≤_, _<_, _^_}
 use native.Mathlib.Omega.{arith}
 use mathlib.Core.Path.{_≡_, refl, sym, ap, _∙_}
 use mathlib.Core.Bool.{Bool, true, false, cond}
 use mathlib.Core.List.{List, [], _∷_, _++_, map}
-use lib.ListN.{length, getD, set, length-map, length-append, length-set}
+use lib.ListN.{length, getD, set, length-map}
 use lib.Ieee.{Float, nan}
 use Rattle.arithmetic.specs.Seq.{upto}
 use Rattle.arithmetic.proofs.SeqLaws.{map-append}
 use Rattle.arithmetic.specs.Seg.{seg, put}
-use Rattle.arithmetic.proofs.SegLaws.{length-put, put-snoc, put-nil, set-put-below, set-put-above, getD-put-below, seg-put-below}
+use Rattle.arithmetic.proofs.SegLaws.{length-put, put-snoc, set-put-below, getD-put-below, seg-put-below}
 use Rattle.network.specs.Edges.{Pair, begun, plus}
-use Rattle.network.specs.declared.edges.Raw.{Raw}
-use Rattle.network.specs.declared.edges.Sums.{Sums}
-use Rattle.network.specs.GatePairs.{GatePair, both, pairOf}
-use Rattle.network.specs.Order.{alike, runs, runsFrom}
-use Rattle.network.specs.Gather.{pairIs, recordIs, pairAt, later, Ready, diffOf, written, tables, Slot, Turned}
+use Rattle.network.specs.GatePairs.{pairOf}
+use Rattle.network.specs.Order.{alike, runsFrom}
+use Rattle.network.specs.Gather.{pairAt, later, Ready, diffOf, written, tables}
 use Rattle.network.proofs.edges.PairTurn.{label-at}
 use Rattle.network.specs.declared.edges.EdgeRecord.{EdgeRecord}
 

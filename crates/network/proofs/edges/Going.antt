@@ -1,13 +1,13 @@
 -- The loop of `gather`, over plain values. Assumes nothing.
-use Prim.Native.Nat.{ℕ, zero, suc, _+_, _-_, _*_, _≤_, _<_, _^_}
+use Prim.Native.Nat.{ℕ, _+_, _-_, _*_, _≤_, _<_}
 use native.Mathlib.Omega.{arith}
 use mathlib.Core.Path.{_≡_, refl, sym, ap, _∙_}
-use mathlib.Core.Bool.{Bool, true, false, cond, true≢false}
+use mathlib.Core.Bool.{Bool, true, false, true≢false}
 use mathlib.Core.List.{List, [], _∷_, _++_, map, append-assoc}
-use lib.ListN.{length, getD, set, length-map, length-append, length-set}
-use lib.Ieee.{Float, nan}
+use lib.ListN.{length, getD, set, length-append}
+use lib.Ieee.{Float}
 use Rattle.arithmetic.specs.Seg.{seg, put}
-use Rattle.arithmetic.proofs.SegLaws.{length-put, put-nil}
+use Rattle.arithmetic.proofs.SegLaws.{length-put}
 use Rattle.network.specs.Edges.{Pair, begun, plus}
 use Rattle.network.specs.declared.edges.Sums.{Sums}
 use Rattle.network.specs.declared.edges.Raw.{Raw}

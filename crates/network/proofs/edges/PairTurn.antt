@@ -1,11 +1,11 @@
 -- One look's pair, and the four of a gate, over plain values. Assumes nothing.
-use Prim.Native.Nat.{ℕ, zero, suc, _+_, _-_, _*_, _≤_, _<_, _^_}
+use Prim.Native.Nat.{ℕ, suc, _+_, _-_, _*_, _≤_, _<_}
 use native.Mathlib.Omega.{arith}
 use mathlib.Core.Path.{_≡_, refl, sym, ap, _∙_}
 use mathlib.Core.Bool.{Bool, true, false, cond}
 use mathlib.Core.List.{List, [], _∷_, _++_}
 use mathlib.Core.Option.{Option, none, some}
-use lib.Dec.{ltb, eqb}
+use lib.Dec.{eqb}
 use lib.ListN.{length, getD, set, length-append}
 use borrow.Author.Tests.{lt-ltb, le-ltb, eq-eqb, ne-eqb}
 use Rattle.arithmetic.specs.Seg.{seg}
@@ -14,7 +14,7 @@ use Rattle.arithmetic.specs.Seq.{upto, each}
 use Rattle.network.specs.Edges.{Shape, Direction, left, right, top, bottom, sees}
 use Rattle.network.specs.declared.edges.Frame.{Frame}
 use Rattle.network.specs.Sees.{shape}
-use Rattle.network.specs.GatePairs.{GatePair, both, gatePairTo, gatePairsAt, gatePairs, Adds, Place, Sheet}
+use Rattle.network.specs.GatePairs.{GatePair, gatePairTo, gatePairsAt, gatePairs, Adds, Place, Sheet}
 use Rattle.network.proofs.edges.Stored.{adds-none, adds-one, adds-then, adds-labels, adds-length}
 use Rattle.network.proofs.edges.GatePairLaws.{linkTo-most, each-snoc, sees-in}
 

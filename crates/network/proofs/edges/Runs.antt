@@ -1,9 +1,9 @@
 -- Runs of sorted pairs are the definition's records. Assumes nothing.
-use Prim.Native.Nat.{ℕ, zero, suc, _+_, _-_, _*_, _≤_, _<_}
+use Prim.Native.Nat.{ℕ, zero, suc, _+_, _-_, _≤_, _<_}
 use native.Mathlib.Omega.{arith}
 use mathlib.Core.Path.{_≡_, refl, sym, ap, _∙_}
-use mathlib.Core.Bool.{Bool, true, false, cond, _&&_, true≢false}
-use mathlib.Core.List.{List, [], _∷_, _++_, map, foldl}
+use mathlib.Core.Bool.{Bool, true, false, cond, _&&_}
+use mathlib.Core.List.{List, [], _∷_, _++_, foldl}
 use lib.Dec.{ltb, eqb}
 use Rattle.arithmetic.specs.Seq.{upto, keep, each, All}
 use Rattle.arithmetic.proofs.AllLaws.{all-append, all-weaker, all-keep}
@@ -11,7 +11,7 @@ use Rattle.arithmetic.proofs.SeqLaws.{keep-each, each-same, keep-swap}
 use Rattle.network.specs.Edges.{Pair, begun, plus, gathered, firstIs, secondIs, recordsOf, records, greaterFirst, used}
 use Rattle.network.specs.GatePairs.{greater}
 use Rattle.network.specs.Order.{ordered, alike, runsFrom, runs}
-use borrow.Author.Tests.{eqb-true, eqb-false, eq-eqb, ne-eqb}
+use borrow.Author.Tests.{eqb-true, eq-eqb, ne-eqb}
 use Rattle.network.specs.declared.edges.EdgeRecord.{EdgeRecord}
 
 -- ---- what holds of each

@@ -1,13 +1,13 @@
 -- What `sort_pairs` does between its calls, over plain values. Assumes nothing.
-use Prim.Native.Nat.{ℕ, zero, suc, _+_, _-_, _*_, _≤_, _<_, _^_}
+use Prim.Native.Nat.{ℕ, zero, suc, _+_, _-_, _*_, _≤_, _<_}
 use native.Mathlib.Omega.{arith}
 use mathlib.Core.Path.{_≡_, refl, sym, ap, _∙_}
-use mathlib.Core.List.{List, [], _∷_, _++_, map}
-use lib.ListN.{length, getD, set, length-map}
+use mathlib.Core.List.{List, [], _∷_, map}
+use lib.ListN.{length, getD}
 use Rattle.arithmetic.specs.Seq.{upto}
 use Rattle.arithmetic.proofs.SeqLaws.{upto-length}
 use Rattle.arithmetic.specs.Seg.{seg, put}
-use Rattle.arithmetic.proofs.SegLaws.{length-put, length-seg, getD-seg, getD-put-below, getD-put-in, seg-put-below, seg-put-same}
+use Rattle.arithmetic.proofs.SegLaws.{length-put, length-seg, getD-seg, getD-put-below, seg-put-below, seg-put-same}
 use Rattle.memory.specs.Sort.{sorted}
 use Rattle.memory.specs.TwoKeys.{Lay, both}
 use Rattle.network.specs.Sorts.{labelsOf, Reads, Sorts, Sorted}

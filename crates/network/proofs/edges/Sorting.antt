@@ -1,11 +1,11 @@
 -- Indices sorted by two passes are the pairs in the definition's order; and what the gatePairs are. Assumes nothing.
-use Prim.Native.Nat.{ℕ, zero, suc, _+_, _-_, _*_, _≤_, _<_}
+use Prim.Native.Nat.{ℕ, zero, suc, _+_, _-_}
 use native.Mathlib.Omega.{arith}
 use mathlib.Core.Path.{_≡_, refl, sym, ap, _∙_}
-use mathlib.Core.Bool.{Bool, true, false, cond, _&&_, true≢false}
+use mathlib.Core.Bool.{Bool, true, false, cond}
 use mathlib.Core.List.{List, [], _∷_, _++_, map}
 use mathlib.Core.Option.{Option, none, some}
-use lib.Dec.{ltb, eqb, eqb}
+use lib.Dec.{ltb, eqb}
 use lib.Ieee.{Float, nan}
 use lib.ListN.{length, getD}
 use borrow.Author.Tests.{ltb-true}
@@ -13,11 +13,10 @@ use Rattle.arithmetic.specs.Seq.{upto, keep, each, All}
 use Rattle.arithmetic.proofs.SeqLaws.{keep-each, each-same, keep-swap, map-append}
 use Rattle.memory.specs.Sort.{pick, bucket, sorted}
 use Rattle.network.specs.Edges.{Shape, Direction, left, right, top, bottom, sees, skip, Pair, firstIs, secondIs, pairs, records, used}
-use Rattle.network.specs.GatePairs.{GatePair, both, gatePairTo, gatePairsAt, gatePairs, pairOf, greater}
+use Rattle.network.specs.GatePairs.{GatePair, both, gatePairTo, gatePairsAt, gatePairs, pairOf}
 use Rattle.network.specs.Order.{ordered, runs}
 use Rattle.network.proofs.edges.GatePairLaws.{each-snoc, look-labelled, links-same}
 use Rattle.network.proofs.edges.Runs.{Labelled, runs-records, used-records}
-use Rattle.network.specs.declared.edges.EdgeRecord.{EdgeRecord}
 
 -- no pair
 abbrev pub blank : Pair

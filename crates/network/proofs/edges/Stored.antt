@@ -1,11 +1,11 @@
 -- Pairs stored after pairs. Assumes nothing.
-use Prim.Native.Nat.{ℕ, zero, suc, _+_, _-_, _*_, _≤_, _<_}
+use Prim.Native.Nat.{ℕ, suc, _+_, _-_, _*_, _≤_}
 use native.Mathlib.Omega.{arith}
 use mathlib.Core.Path.{_≡_, refl, sym, ap, _∙_}
 use mathlib.Core.List.{List, [], _∷_, _++_, map}
-use lib.ListN.{length, getD, set, length-map, length-append}
+use lib.ListN.{length, set, length-map, length-append}
 use Rattle.arithmetic.specs.Seg.{seg, put}
-use Rattle.arithmetic.proofs.SegLaws.{length-put, set-put-above, seg-put-below, seg-put-above, seg-put-same}
+use Rattle.arithmetic.proofs.SegLaws.{length-put, set-put-above, seg-put-below, seg-put-same}
 use Rattle.arithmetic.proofs.SeqLaws.{map-append}
 use Rattle.network.specs.GatePairs.{GatePair, stored, Adds}
 

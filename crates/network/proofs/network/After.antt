@@ -1,14 +1,14 @@
 -- The tables after the chains are joined, and chains of changed links. Assumes nothing.
 use mathlib.Core.Path.{_≡_, refl, sym, ap, _∙_, subst}
-use mathlib.Core.Logic.{_⊎_, inl, inr, ⊎-elim}
-use mathlib.Core.Bool.{Bool, true, false, not, _&&_, cond, true≢false}
-use mathlib.Core.List.{List, [], _∷_, map}
-use Prim.Native.Nat.{ℕ, zero, suc, _+_, _*_, _-_, _≤_, _<_, _^_}
+use mathlib.Core.Logic.{_⊎_, ⊎-elim}
+use mathlib.Core.Bool.{Bool, true, false, _&&_, cond}
+use mathlib.Core.List.{List, _∷_}
+use Prim.Native.Nat.{ℕ, zero, suc, _+_, _*_, _-_, _≤_, _<_}
 use native.Mathlib.Omega.{arith}
 use lib.IntN.{ℤ, _+ℤ_}
 use lib.ListN.{length, getD, set, length-set}
 use lib.Seq.{getD-set-same, getD-set-other}
-use Rattle.network.specs.Network.{Edge, Region, gather, raised, bounded}
+use Rattle.network.specs.Network.{Region, gather, raised, bounded}
 use Rattle.network.specs.Mem.{Mem, Sound, enext-set, rnext-set, size-set, elen-set, rlen-set}
 use Rattle.network.specs.Steps.{splice, grow}
 use Rattle.network.specs.Net.{rows, edgeOf}
@@ -18,7 +18,6 @@ use Rattle.network.proofs.network.Circles.{joined}
 use Rattle.network.proofs.network.Moved.{same-no, same-yes}
 use lib.Dec.{eqb}
 use borrow.Author.Tests.{eqb-true}
-use Rattle.arithmetic.proofs.SeqLaws.{eqb-refl}
 use Rattle.arithmetic.specs.Seq.{all}
 
 -- ---- two links exchanged

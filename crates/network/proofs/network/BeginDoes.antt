@@ -1,19 +1,16 @@
 -- The functions that set the tables up, over plain values. Assumes nothing.
 use mathlib.Core.Path.{_≡_, refl, sym, ap, _∙_, subst}
-use mathlib.Core.Logic.{_⊎_, inl, inr, ⊎-elim}
-use mathlib.Core.Bool.{Bool, true, false, cond}
-use mathlib.Core.List.{List, [], _∷_}
-use Prim.Native.Nat.{ℕ, zero, suc, _+_, _*_, _-_, _≤_, _<_, _^_}
+use mathlib.Core.Logic.{_⊎_, ⊎-elim}
+use mathlib.Core.List.{List}
+use Prim.Native.Nat.{ℕ, suc, _+_, _*_, _-_, _≤_, _<_, _^_}
 use native.Mathlib.Omega.{arith}
 use lib.ListN.{length, getD, set, length-set}
 use lib.Seq.{getD-set-same, getD-set-other}
-use Rattle.arithmetic.proofs.SegLaws.{length-seg}
-use Rattle.memory.specs.Tree.{Tree, Weighed}
 use Rattle.memory.proofs.tree.TreeLaws.{tree-set}
-use Rattle.network.specs.Mem.{Mem, view, Room, enext-set, rnext-set, elen-set, rlen-set, count-set}
+use Rattle.network.specs.Mem.{Mem, view, Room, enext-set, elen-set, rlen-set, count-set}
 use Rattle.network.specs.Does.{Does}
-use Rattle.network.specs.Begin.{slotsFrom, regionsFrom, linkAt, linkEdge, linkFrom, begun, Space, Linkable}
-use Rattle.network.proofs.network.View.{enext-at, elen-at, first-at, second-at, enext-put, rnext-put, elen-put, rlen-put, count-put, view-weighed}
+use Rattle.network.specs.Begin.{slotsFrom, regionsFrom, linkAt, linkEdge, linkFrom, Linkable}
+use Rattle.network.proofs.network.View.{enext-at, elen-at, first-at, second-at, enext-put, rnext-put, elen-put, rlen-put, count-put}
 use Rattle.network.proofs.network.Leaf.{room-of}
 use Rattle.network.proofs.network.SoundSet.{eq-or-ne}
 use lib.Ieee.{Float}

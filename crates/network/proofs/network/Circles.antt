@@ -1,18 +1,14 @@
 -- Two circles become one when their leaders' links are exchanged. Assumes nothing.
 use mathlib.Core.Path.{_≡_, refl, sym, ap, _∙_, subst}
-use mathlib.Core.Logic.{_⊎_, inl, inr, ⊎-elim}
-use mathlib.Core.Bool.{Bool, true, false, cond}
-use mathlib.Core.List.{List, [], _∷_}
-use Prim.Native.Nat.{ℕ, zero, suc, _+_, _*_, _-_, _≤_, _<_}
+use mathlib.Core.Logic.{_⊎_, ⊎-elim}
+use mathlib.Core.List.{List}
+use Prim.Native.Nat.{ℕ, zero, suc, _+_, _-_, _≤_, _<_}
 use native.Mathlib.Omega.{arith}
-use lib.ListN.{length, getD, set, length-set}
-use lib.Seq.{getD-set-same, getD-set-other}
+use lib.ListN.{getD}
 use Rattle.network.specs.Chain.{cur, Chains, own-joined, pos-joined, len-joined}
 use Rattle.network.proofs.network.Bias.{lt-or-le}
 use Rattle.network.proofs.network.SoundSet.{eq-or-ne}
 use Rattle.network.proofs.network.Moved.{same-no, same-yes}
-use lib.Dec.{eqb}
-use borrow.Author.Tests.{eqb-true, eqb-false}
 use Rattle.arithmetic.proofs.SeqLaws.{eqb-refl}
 
 pub cur-suc : (N : List ℕ) (x i : ℕ) → cur N x (suc i) ≡ getD N (cur N x i) 0

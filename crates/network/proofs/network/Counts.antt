@@ -1,20 +1,18 @@
 -- The walk along the moved node's regions: each count gains once, or question 9 says no. Assumes nothing.
 use mathlib.Core.Path.{_≡_, refl, sym, ap, _∙_, subst}
-use mathlib.Core.Logic.{_⊎_, inl, inr, ⊎-elim}
-use mathlib.Core.Bool.{Bool, true, false, not, _&&_, cond, true≢false}
+use mathlib.Core.Bool.{Bool, true, false, _&&_, cond, true≢false}
 use mathlib.Core.List.{List}
 use mathlib.Core.Option.{Option, none, some}
-use Prim.Native.Nat.{ℕ, zero, suc, _+_, _*_, _-_, _≤_, _<_}
+use Prim.Native.Nat.{ℕ, zero, suc, _+_, _-_, _≤_, _<_}
 use native.Mathlib.Omega.{arith}
 use lib.Dec.{leb}
-use lib.ListN.{length, getD, set, length-set}
+use lib.ListN.{length, getD, length-set}
 use lib.Seq.{getD-set-same, getD-set-other}
-use borrow.Author.Tests.{leb-true, leb-false}
+use borrow.Author.Tests.{leb-true}
 use Rattle.network.specs.Mem.{Mem, Sound, count-set}
 use Rattle.network.specs.Steps.{accepts, walkRaise}
-use Rattle.network.specs.Chain.{cur, Chains}
-use Rattle.network.proofs.network.SoundSet.{eq-or-ne, sound-count}
-use Rattle.network.proofs.network.Circles.{cur-suc}
+use Rattle.network.specs.Chain.{cur}
+use Rattle.network.proofs.network.SoundSet.{sound-count}
 
 -- all tables but the counts
 pub record Counted (s t : Mem) : Type 0 where

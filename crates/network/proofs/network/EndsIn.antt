@@ -1,11 +1,10 @@
 -- Bounds of what the tables hold, read from the words. Assumes nothing.
-use mathlib.Core.Path.{_≡_, refl, sym, ap, _∙_}
 use mathlib.Core.List.{List}
-use Prim.Native.Nat.{ℕ, _+_, _*_, _≤_, _<_}
+use Prim.Native.Nat.{ℕ, _+_, _*_, _<_}
 use native.Mathlib.Omega.{arith}
-use lib.ListN.{length, getD}
-use Rattle.network.specs.Mem.{Mem, view, Room, Sound}
-use Rattle.network.proofs.network.View.{first-at, second-at, enext-at}
+use lib.ListN.{getD}
+use Rattle.network.specs.Mem.{view, Sound}
+use Rattle.network.proofs.network.View.{first-at, second-at}
 use lib.Ieee.{Float}
 
 pub ends-in : (m n : ℕ) (w : List ℕ) (d : List Float) (f : ℕ) → Sound m n (view m n w d) → f < m → (getD w (3 * m + f) 0 < n) × (getD w (4 * m + f) 0 < n)

@@ -1,12 +1,11 @@
 -- `join_edge` and `moved_edge` over plain values. Assumes nothing.
-use mathlib.Core.Path.{_≡_, refl, sym, ap, _∙_, subst}
-use mathlib.Core.Bool.{Bool, true, false, cond}
-use mathlib.Core.List.{List, [], _∷_}
-use Prim.Native.Nat.{ℕ, zero, suc, _+_, _*_, _-_, _≤_, _<_, _^_}
-use native.Mathlib.Omega.{arith}
-use lib.Dec.{T, eqb, ltb}
+use mathlib.Core.Path.{_≡_, refl, sym, _∙_}
+use mathlib.Core.Bool.{true, false}
+use mathlib.Core.List.{List}
+use Prim.Native.Nat.{ℕ, _+_, _*_, _-_, _≤_, _<_}
+use lib.Dec.{T, eqb}
 use lib.Ieee.{nan, binary32, fits, Float, neg}
-use lib.ListN.{length, getD, set, length-set}
+use lib.ListN.{getD}
 use borrow.Author.Tests.{lt-ltb, le-ltb, eq-eqb, ne-eqb}
 use Rattle.network.specs.Mem.{Mem, view, Room, Sound}
 use Rattle.network.specs.Steps.{mate, absorbAt, attachAt, joinEdge, shift, movedEdge}

@@ -1,18 +1,17 @@
 -- The tables that finding the edges and counting the sizes leave stand for the network of the definition. Assumes nothing.
 use Prim.Native.Nat.{ℕ, zero, suc, _+_, _*_, _≤_, _<_, _^_}
 use native.Mathlib.Omega.{arith}
-use native.Mathlib.Numerals.{add-one}
 use mathlib.Core.Path.{_≡_, refl, sym, ap, _∙_, subst}
 use mathlib.Core.Logic.{_⊎_, inl, inr, ⊎-elim}
 use mathlib.Core.Bool.{Bool, true, false, not, cond}
 use mathlib.Core.List.{List, [], _∷_, map}
 use lib.Dec.{T, eqb}
-use lib.IntN.{ℤ, pos}
-use lib.ListN.{length, getD, length-map}
+use lib.IntN.{pos}
+use lib.ListN.{length, getD}
 use lib.Ieee.{Float, nan, inf, fin, binary32, fits}
 use lib.Ieee.Fits.{round-fits, nan-fits, inf-fits}
 use borrow.Author.Tests.{ne-eqb, eqb-true}
-use Rattle.arithmetic.specs.Seq.{upto, tabulate, keep, Mem as Has}
+use Rattle.arithmetic.specs.Seq.{tabulate, keep}
 use Rattle.arithmetic.specs.Seg.{seg}
 use Rattle.arithmetic.specs.Rounding.{narrowed}
 use Rattle.arithmetic.proofs.SeqLaws.{tab-at}
@@ -20,16 +19,16 @@ use Rattle.arithmetic.proofs.SegLaws.{lt-or-le, getD-seg}
 use Rattle.network.specs.declared.edges.EdgeRecord.{EdgeRecord}
 use Rattle.network.specs.Edges.{Pair, used}
 use Rattle.network.specs.Network as Network
-use Rattle.network.specs.Network.{Edge, Region, State, numbered, alone, start, sizeIn}
+use Rattle.network.specs.Network.{Edge, Region, numbered, sizeIn}
 use Rattle.network.specs.Simple.{Simple, Joined}
 use Rattle.network.specs.Order.{weigh}
 use Rattle.network.specs.Gather.{diffOf}
 use Rattle.network.specs.Mem.{Mem, total}
 use Rattle.network.specs.Net.{rows, edgeOf}
 use Rattle.network.specs.Rep.{gatesOf}
-use Rattle.network.specs.Begin.{Raw, rawRegion, rawNet}
+use Rattle.network.specs.Begin.{Raw, rawRegion}
 use Rattle.network.proofs.edges.Assembly.{map-getD}
-use Rattle.network.proofs.edges.RecordLaws.{Before, Good, used-rise, used-good, all-place, rise-place}
+use Rattle.network.proofs.edges.RecordLaws.{Good, used-rise, used-good, all-place, rise-place}
 use Rattle.network.proofs.network.Rows.{rows-ext, rows-has}
 
 abbrev pub blank : EdgeRecord

@@ -1,22 +1,20 @@
 -- The functions without loops, over plain values: the words they leave hold the tables that Steps.antt says. Assumes nothing.
-use mathlib.Core.Path.{_≡_, refl, sym, ap, _∙_, subst}
-use mathlib.Core.Logic.{_⊎_, inl, inr, ⊎-elim, by-cases}
-use mathlib.Core.Bool.{Bool, true, false, cond}
+use mathlib.Core.Path.{_≡_, refl, sym, ap, _∙_}
+use mathlib.Core.Bool.{false}
 use mathlib.Core.List.{List, [], _∷_}
-use Prim.Native.Nat.{ℕ, zero, suc, _+_, _*_, _-_, _≤_, _<_, _^_}
+use Prim.Native.Nat.{ℕ, zero, suc, _+_, _*_, _-_, _≤_, _<_}
 use native.Mathlib.Omega.{arith}
-use native.Mathlib.Decide.{ℕ-discrete}
 use lib.ListN.{length, getD, set, length-set}
-use lib.Seq.{getD-set-same, getD-set-other}
-use lib.Dec.{ltb, eqb}
+use lib.Seq.{getD-set-other}
+use lib.Dec.{eqb}
 use borrow.Author.Tests.{lt-ltb, le-ltb, eq-eqb, ne-eqb}
 use lib.Ieee.{nan, Float, neg, binary32, add}
 use Rattle.memory.specs.Tree.{Tree, Weighed}
 use Rattle.memory.proofs.tree.TreeLaws.{tree-set}
-use Rattle.network.specs.Mem.{Mem, view, Room, Sound, total, weight-set, first-set, second-set, enext-set, rnext-set, mark-set, size-set, elen-set, rlen-set, count-set, diff-set}
-use Rattle.network.specs.Steps.{turnAt, baseEdge, mate, absorbAt, attachAt, splice, grow}
-use Rattle.network.specs.Does.{Does, Apart}
-use Rattle.network.proofs.network.View.{weight-at, first-at, second-at, enext-at, rnext-at, mark-at, size-at, elen-at, rlen-at, count-at, weight-put, first-put, second-put, enext-put, rnext-put, mark-put, size-put, elen-put, rlen-put, count-put, diff-put, view-weighed}
+use Rattle.network.specs.Mem.{Mem, view, Room, Sound, total, weight-set, first-set, second-set, mark-set, diff-set}
+use Rattle.network.specs.Steps.{turnAt, baseEdge, mate, absorbAt, attachAt}
+use Rattle.network.specs.Does.{Does}
+use Rattle.network.proofs.network.View.{weight-at, first-at, second-at, mark-at, weight-put, first-put, second-put, mark-put, diff-put, view-weighed}
 
 module _ (m n : ℕ) (w : List ℕ) (d : List Float) (r : Room m n w d) where
   -- three stores of edge f: its ends, a mark, its difference

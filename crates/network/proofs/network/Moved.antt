@@ -2,26 +2,24 @@
 use mathlib.Core.Path.{_≡_, refl, sym, ap, _∙_, subst}
 use mathlib.Core.Logic.{_⊎_, inl, inr, ⊎-elim}
 use mathlib.Core.Bool.{Bool, true, false, not, _&&_, _||_, cond, true≢false}
-use mathlib.Core.List.{List, [], _∷_}
 use mathlib.Core.Option.{Option, none, some, Option·none-ne-some}
-use Prim.Native.Nat.{ℕ, zero, suc, _+_, _*_, _-_, _/_, _≤_, _<_}
+use Prim.Native.Nat.{ℕ, zero, suc, _+_, _-_, _≤_, _<_}
 use native.Mathlib.Omega.{arith}
 use lib.Dec.{eqb, ltb}
-use lib.IntN.{ℤ, pos, negsuc}
-use lib.Ieee.{nan, Float, neg, binary32, add}
-use lib.ListN.{length, getD, set}
-use borrow.Author.Tests.{eqb-true, eqb-false, eq-eqb, ne-eqb, ltb-true, ltb-false, lt-ltb, le-ltb}
-use Rattle.network.specs.Network.{Edge, Link, link, find, absorb, absent, hand, combine, turn, turnIf, adjust, shifted, isZero, scale}
+use lib.IntN.{pos}
+use lib.Ieee.{Float, neg, binary32, add}
+use lib.ListN.{getD}
+use borrow.Author.Tests.{eqb-true, eqb-false, eq-eqb, ne-eqb, ltb-true, ltb-false}
+use Rattle.network.specs.Network.{Edge, Link, link, find, absorb, absent, hand, turn, turnIf, adjust, shifted, isZero, scale}
 use Rattle.network.proofs.SimpleLaws.{Turned}
 use Rattle.network.specs.Mem.{Mem, Sound, mark-set}
-use Rattle.network.specs.Steps.{unbias, mate, absorbAt, attachAt, joinEdge, shift, movedEdge, walkMoved}
-use Rattle.network.specs.Does.{Gains}
+use Rattle.network.specs.Steps.{unbias, mate, absorbAt, attachAt, joinEdge, shift, movedEdge}
 use Rattle.network.specs.Net.{rows, edgeOf, Like}
 use Rattle.network.proofs.network.Bias.{lt-or-le, unbias-up, unbias-down}
 use Rattle.network.proofs.network.SoundSet.{eq-or-ne}
-use Rattle.network.proofs.network.SoundSteps.{Mate, mate-is, mate-of, sound-moved}
+use Rattle.network.proofs.network.SoundSteps.{Mate, mate-is, mate-of}
 use Rattle.network.proofs.network.Rows.{hits, hit, Hit, hit-is, find-one, find-no, find-like}
-use Rattle.network.proofs.network.TableEdges.{like-refl, like-of, like-dead, like-then, like-at, live-word, word-live, dead-word, word-dead, Words, words, moved-none, moved-else, moved-one, moved-two, absorb-gone, absorb-kept, absorb-grown, attach-kept, attach-new}
+use Rattle.network.proofs.network.TableEdges.{like-of, like-dead, like-then, like-at, word-live, dead-word, Words, words, moved-none, moved-else, moved-one, moved-two, absorb-gone, absorb-kept, absorb-grown, attach-kept, attach-new}
 use Rattle.arithmetic.proofs.SeqLaws.{eqb-refl}
 
 pub same-no : (a b : ℕ) → (a ≡ b → ⊥) → eqb a b ≡ false

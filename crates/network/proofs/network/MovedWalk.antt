@@ -1,15 +1,14 @@
 -- The whole walk along the moved node's edges, from its start to its end. Assumes nothing.
 use mathlib.Core.Path.{_≡_, refl, sym, ap, _∙_, subst}
-use mathlib.Core.Logic.{_⊎_, inl, inr, ⊎-elim}
-use mathlib.Core.Bool.{Bool, true, false, not, _&&_, cond, true≢false}
-use mathlib.Core.List.{List, [], _∷_}
+use mathlib.Core.Logic.{_⊎_, ⊎-elim}
+use mathlib.Core.Bool.{Bool, true, false, _&&_, cond, true≢false}
+use mathlib.Core.List.{List}
 use mathlib.Core.Option.{Option, none, some}
-use Prim.Native.Nat.{ℕ, zero, suc, _+_, _*_, _-_, _/_, _≤_, _<_}
+use Prim.Native.Nat.{ℕ, zero, suc, _-_, _/_, _≤_, _<_}
 use native.Mathlib.Omega.{arith}
-use lib.IntN.{ℤ}
 use borrow.Author.Tests.{le-ltb, eqb-true, eqb-false}
 use Rattle.network.proofs.network.Bias.{lt-or-le}
-use lib.ListN.{length, getD}
+use lib.ListN.{getD}
 use Rattle.network.specs.Network.{Edge, Link, link, find, absorb, absent, hand, combine, turn, turnIf, adjust, shifted, isZero}
 use Rattle.network.specs.Mem.{Mem, Sound}
 use Rattle.network.specs.Steps.{unbias, movedEdge, walkMoved}
@@ -17,13 +16,12 @@ use Rattle.network.specs.Does.{Gains}
 use Rattle.network.specs.Net.{rows, edgeOf, Like}
 use Rattle.network.specs.Chain.{cur}
 use Rattle.network.proofs.network.SoundSteps.{sound-moved}
-use Rattle.network.proofs.network.Frames.{Frame, frame-moved}
-use Rattle.network.proofs.network.Rows.{hits, hit, Hit, hit-is, find-no, find-like}
-use Rattle.network.proofs.network.TableEdges.{like-of, like-dead, like-then}
-use Rattle.network.proofs.network.Moved.{Setting, only, mid, Middle, Next, any-step, mid-base, mid-moved, mid-else, mid-dead, hit-only, absorb-none, same-no, same-yes}
+use Rattle.network.proofs.network.Frames.{frame-moved}
+use Rattle.network.proofs.network.Rows.{hits, find-no, find-like}
+use Rattle.network.proofs.network.TableEdges.{like-dead, like-then}
+use Rattle.network.proofs.network.Moved.{Setting, only, mid, Middle, Next, any-step, mid-base, mid-moved, mid-else, mid-dead, hit-only, absorb-none}
 use lib.Ieee.{Float}
 use lib.Dec.{eqb}
-use Rattle.arithmetic.proofs.SeqLaws.{eqb-refl}
 
 module _ (m b v g : ℕ) (P Q : ℕ → Edge) (S : Setting m b v g P Q) where
   -- an edge that is not the moved node's is prepared already

@@ -1,7 +1,7 @@
 -- No more distinct numbers below n than n. Assumes nothing.
 use mathlib.Core.Path.{_≡_, refl, sym, ap, _∙_, subst}
 use mathlib.Core.Logic.{_⊎_, inl, inr, ⊎-elim}
-use mathlib.Core.Bool.{Bool, true, false, cond}
+use mathlib.Core.Bool.{Bool, true, false}
 use mathlib.Core.List.{List}
 use Prim.Native.Nat.{ℕ, zero, suc, _+_, _-_, _≤_, _<_}
 use native.Mathlib.Omega.{arith}
@@ -9,7 +9,6 @@ use lib.Dec.{ltb, eqb}
 use borrow.Author.Tests.{lt-ltb, le-ltb, eqb-true, eqb-false}
 use Rattle.network.specs.Chain.{cur, Chains}
 use Rattle.network.proofs.network.Bias.{lt-or-le}
-use Rattle.network.proofs.network.SoundSet.{eq-or-ne}
 
 pub pigeon : (n k : ℕ) (f : ℕ → ℕ) → ((i : ℕ) → i < k → f i < n) → ((i j : ℕ) → i < k → j < k → f i ≡ f j → i ≡ j) → k ≤ n
 pigeon zero k f below inj = ⊎-elim (λ h. omega arith) (λ h. absurd (omega (arith, below 0 (omega arith)))) (lt-or-le k 1)

@@ -1,9 +1,9 @@
 -- The edges of a simple network before and after the network prepares them for a merge: the setting of the walks. Assumes nothing.
 use mathlib.Core.Path.{_≡_, refl, sym, ap, _∙_, subst}
-use mathlib.Core.Logic.{_⊎_, inl, inr, ⊎-elim}
+use mathlib.Core.Logic.{_⊎_, inl, ⊎-elim}
 use mathlib.Core.Bool.{Bool, true, false, not, _&&_, cond, true≢false}
-use mathlib.Core.List.{List, [], _∷_, map}
-use mathlib.Core.Option.{Option, none, some}
+use mathlib.Core.List.{List, map}
+use mathlib.Core.Option.{Option, some}
 use Prim.Native.Nat.{ℕ, zero, suc, _+_, _≤_, _<_}
 use native.Mathlib.Omega.{arith}
 use lib.Dec.{ltb, eqb}
@@ -11,7 +11,7 @@ use lib.IntN.{ℤ}
 use Rattle.network.specs.Network.{Edge, Region, Plan, sizeOf, at, plan, planFor, kill, adjust, shifted, isZero, turn, turnIf, prepare}
 use Rattle.network.proofs.Restrict.{prepare-num}
 use Rattle.network.proofs.Ends.{prepare-live}
-use Rattle.network.proofs.SimpleLaws.{Turned, prepared-simple, prepared-turned, ends-apart}
+use Rattle.network.proofs.SimpleLaws.{prepared-simple, prepared-turned, ends-apart}
 use Rattle.network.specs.Steps.{unbias}
 use Rattle.network.specs.Net.{rows}
 use Rattle.network.proofs.network.SoundSet.{eq-or-ne}
@@ -20,9 +20,7 @@ use Rattle.network.proofs.network.Moved.{Setting, same-no, same-yes}
 use Rattle.network.proofs.network.BaseWalk.{Plain}
 use lib.Ieee.{Float}
 use borrow.Author.Tests.{eqb-true, eqb-false}
-use Rattle.arithmetic.proofs.SeqLaws.{eqb-refl}
-use Rattle.network.specs.Simple.{Simple, Joined}
-use Rattle.arithmetic.proofs.AllLaws.{and-left}
+use Rattle.network.specs.Simple.{Simple}
 use Rattle.arithmetic.specs.Seq.{Mem as Has}
 
 pub at-rows : (E : ℕ → Edge) → ((j : ℕ) → E j .num ≡ j) → (k n i : ℕ) → k ≤ i → i < k + n → E i .live ≡ true → at (rows E k n) i ≡ some (E i)

@@ -1,31 +1,29 @@
 -- From labels to counts, call by call, over plain values. Assumes nothing.
-use Prim.Native.Nat.{ℕ, zero, suc, _+_, _*_, _-_, _≤_, _<_, _^_}
+use Prim.Native.Nat.{ℕ, _+_, _*_, _-_, _≤_}
 use native.Mathlib.Omega.{arith}
-use mathlib.Core.Path.{_≡_, refl, sym, ap, _∙_, subst}
+use mathlib.Core.Path.{_≡_, refl, sym, ap, _∙_}
 use mathlib.Core.Logic.{⊎-elim}
-use mathlib.Core.Bool.{Bool, true, false}
-use mathlib.Core.List.{List, map}
-use lib.IntN.{ℤ, pos}
-use lib.ListN.{length, getD, set, length-map, length-set}
+use mathlib.Core.Bool.{true}
+use mathlib.Core.List.{List}
+use lib.IntN.{pos}
+use lib.ListN.{length, getD, set}
 use lib.Seq.{getD-set-same, getD-set-other}
 use lib.Ieee.{Float}
 use borrow.Rule.Slice.PartMut.{putMid}
-use Rattle.arithmetic.specs.Seq.{upto, all, tabulate}
+use Rattle.arithmetic.specs.Seq.{tabulate}
 use Rattle.arithmetic.proofs.SeqLaws.{tab-length}
 use Rattle.arithmetic.specs.Seg.{seg, put, Apart}
-use Rattle.arithmetic.proofs.SegLaws.{eq-or-ne, length-put, length-seg, getD-seg, getD-put-in, getD-put-out, seg-put-below, seg-put-above, seg-put-out, seg-put-same, seg-set-out, seg-part, put-mid, lent-seg}
+use Rattle.arithmetic.proofs.SegLaws.{eq-or-ne, length-put, length-seg, getD-seg, getD-put-in, seg-put-below, seg-put-above, seg-put-same, seg-set-out, seg-part, put-mid, lent-seg}
 use Rattle.network.specs.Edges.{Pair, pairs, used}
-use Rattle.network.specs.Network.{State, Region, start, sizeIn, merges, trace, replay, inRange, countOf}
+use Rattle.network.specs.Network.{sizeIn, merges, replay, countOf}
 use Rattle.network.specs.Sees.{shape}
 use Rattle.network.specs.Whole.{Asked, Edged}
 use Rattle.network.specs.Sizes.{Sizes}
-use Rattle.network.specs.Gather.{diffOf}
-use Rattle.network.specs.Mem.{Mem, view}
+use Rattle.network.specs.Mem.{view}
 use Rattle.network.specs.Steps.{unbias}
 use Rattle.network.specs.Begin.{Space, Raw, AllIs}
 use Rattle.network.specs.Reduce.{sizesAt, countsAt, networkBy, goodBy, Reduces, Reduced}
 use Rattle.network.specs.declared.edges.Frame.{Frame}
-use Rattle.network.specs.declared.edges.EdgeRecord.{EdgeRecord}
 use Rattle.network.specs.declared.network.Ran.{Ran}
 use Rattle.network.proofs.network.Joint.{Filled, raw}
 use Rattle.network.proofs.network.Started.{network, Left, refused, left, no-region-0}

@@ -1,13 +1,13 @@
 -- The run that stops at a refusal, in terms of the network's merges, their events and their replay. Assumes nothing.
-use mathlib.Core.Path.{_≡_, refl, sym, ap, _∙_, subst}
+use mathlib.Core.Path.{_≡_, refl, sym, ap, _∙_}
 use mathlib.Core.Bool.{Bool, true, false, _&&_, cond}
-use mathlib.Core.List.{List, [], _∷_}
+use mathlib.Core.List.{List, _∷_}
 use mathlib.Core.Option.{Option, none, some}
 use Prim.Native.Nat.{ℕ, zero, suc, _+_}
 use native.Mathlib.Omega.{arith}
 use lib.ListN.{length}
-use Rattle.network.specs.Network.{Edge, State, Event, event, step, choose, follow, run, merges, trace, replay, inRange}
-use Rattle.network.specs.Net.{rows, stateOf}
+use Rattle.network.specs.Network.{Edge, State, event, step, choose, follow, run, merges, trace, replay, inRange}
+use Rattle.network.specs.Net.{stateOf}
 use Rattle.network.specs.Settle.{Done, onward, settle}
 use Rattle.network.proofs.network.Rows.{length-rows}
 use Rattle.arithmetic.specs.Seq.{all}

@@ -1,19 +1,17 @@
 -- Each step keeps the tables sound. Assumes nothing.
-use mathlib.Core.Path.{_≡_, refl, sym, ap, _∙_, subst}
-use mathlib.Core.Logic.{_⊎_, inl, inr, ⊎-elim}
-use mathlib.Core.Bool.{Bool, true, false, cond, true≢false}
-use mathlib.Core.List.{List}
-use Prim.Native.Nat.{ℕ, zero, suc, _+_, _*_, _-_, _≤_, _<_, _^_}
+use mathlib.Core.Path.{_≡_, refl, sym, ap, _∙_}
+use mathlib.Core.Bool.{Bool, true, false, cond}
+use Prim.Native.Nat.{ℕ, _+_, _-_, _<_, _^_}
 use native.Mathlib.Omega.{arith}
 use lib.Dec.{T, eqb, ltb}
 use lib.Ieee.{nan, binary32, fits, Float, neg, add}
 use lib.Ieee.Fits as Fits
 use lib.ListN.{length, getD, set, length-set}
-use borrow.Author.Tests.{ltb-true, ltb-false, eqb-true, eqb-false, le-ltb, lt-ltb, eq-eqb, ne-eqb}
-use Rattle.network.specs.Mem.{Mem, Sound, total, weight-set, first-set, second-set, mark-set, diff-set, count-set}
-use Rattle.network.specs.Steps.{unbias, turnAt, baseEdge, mate, absorbAt, attachAt, joinEdge, shift, movedEdge, walkBase, walkMoved, walkRaise}
+use borrow.Author.Tests.{ltb-true, eqb-true, eqb-false, lt-ltb, eq-eqb, ne-eqb}
+use Rattle.network.specs.Mem.{Mem, Sound, total, weight-set, first-set, second-set, mark-set, diff-set}
+use Rattle.network.specs.Steps.{unbias, turnAt, baseEdge, mate, absorbAt, attachAt, joinEdge, shift, movedEdge}
 use Rattle.network.specs.Does.{Joins, Gains}
-use Rattle.network.proofs.network.SoundSet.{sound-weight, sound-first, sound-second, sound-mark, sound-diff, sound-count}
+use Rattle.network.proofs.network.SoundSet.{sound-first, sound-second, sound-mark, sound-diff}
 use Rattle.network.proofs.network.Leaf.{total-move}
 use Rattle.network.specs.Network.{scale}
 

@@ -1,12 +1,11 @@
 -- `splice` and `grow` over plain values. Assumes nothing.
-use mathlib.Core.Path.{_≡_, refl, sym, ap, _∙_, subst}
-use mathlib.Core.List.{List, [], _∷_}
-use Prim.Native.Nat.{ℕ, zero, suc, _+_, _*_, _-_, _≤_, _<_, _^_}
+use mathlib.Core.Path.{_≡_, ap, _∙_}
+use mathlib.Core.List.{List}
+use Prim.Native.Nat.{ℕ, _+_, _*_, _-_, _≤_, _<_}
 use native.Mathlib.Omega.{arith}
 use lib.ListN.{length, getD, set, length-set}
-use Rattle.memory.specs.Tree.{Tree}
 use Rattle.memory.proofs.tree.TreeLaws.{tree-set}
-use Rattle.network.specs.Mem.{Mem, view, Room, enext-set, rnext-set, size-set, elen-set, rlen-set}
+use Rattle.network.specs.Mem.{Mem, view, Room, enext-set, rnext-set, elen-set, rlen-set}
 use Rattle.network.specs.Steps.{splice, grow}
 use Rattle.network.specs.Does.{Does}
 use Rattle.network.proofs.network.View.{enext-at, rnext-at, size-at, elen-at, rlen-at, enext-put, rnext-put, size-put, elen-put, rlen-put}

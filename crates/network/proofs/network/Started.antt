@@ -1,6 +1,6 @@
 -- The tables hold a region 0 that no edge meets, for the gates without a region: without it the run of the tables is that of the
 -- definition's network. Assumes nothing.
-use Prim.Native.Nat.{ℕ, zero, suc, _+_, _*_, _≤_, _<_, _^_}
+use Prim.Native.Nat.{ℕ, zero, suc, _+_, _≤_, _<_}
 use native.Mathlib.Omega.{arith}
 use native.Mathlib.Numerals.{add-one}
 use mathlib.Core.Path.{_≡_, refl, sym, ap, _∙_, subst}
@@ -8,14 +8,13 @@ use mathlib.Core.Bool.{Bool, true, false, not, cond}
 use mathlib.Core.List.{List, [], _∷_, map}
 use mathlib.Core.Option.{Option, none, some}
 use lib.Dec.{eqb}
-use lib.IntN.{ℤ, pos}
+use lib.IntN.{pos}
 use lib.ListN.{length, getD}
 use lib.Ieee.{Float}
-use borrow.Author.Tests.{ne-eqb, eq-eqb, eqb-true}
+use borrow.Author.Tests.{ne-eqb, eqb-true}
 use Rattle.arithmetic.specs.Seq.{All, upto, keep, all}
-use Rattle.arithmetic.proofs.SeqLaws.{eqb-refl}
 use Rattle.network.specs.Edges.{Pair, used}
-use Rattle.network.specs.Network.{Edge, Region, State, Event, alone, start, sizeIn, merges, run, trace, replay, inRange, countOf}
+use Rattle.network.specs.Network.{Region, State, Event, alone, start, sizeIn, merges, run, trace, replay, inRange, countOf}
 use Rattle.network.specs.Mem.{Mem, view}
 use Rattle.network.specs.Steps.{unbias}
 use Rattle.network.specs.Net.{rows, edgeOf, regionOf}

@@ -1,20 +1,18 @@
 -- Counts and gains kept as words add up as the whole numbers do; sizes of nodes after a merge. Assumes nothing.
-use mathlib.Core.Path.{_≡_, refl, sym, ap, _∙_, subst}
-use mathlib.Core.Logic.{_⊎_, inl, inr, ⊎-elim}
-use mathlib.Core.Bool.{Bool, true, false, not, _&&_, cond, true≢false}
+use mathlib.Core.Path.{_≡_, refl, sym, ap, _∙_}
+use mathlib.Core.Logic.{_⊎_, ⊎-elim}
+use mathlib.Core.Bool.{Bool, true, false, _&&_, cond, true≢false}
 use mathlib.Core.List.{List, [], _∷_, map}
-use Prim.Native.Nat.{ℕ, zero, suc, _+_, _*_, _-_, _≤_, _<_}
+use Prim.Native.Nat.{ℕ, suc, _+_, _-_, _≤_, _<_}
 use native.Mathlib.Omega.{arith}
-use lib.Dec.{leb, ltb, eqb}
+use lib.Dec.{leb, eqb}
 use lib.IntN.{ℤ, pos, negsuc, subℕ, _+ℤ_, +ℤ-comm}
 use borrow.Author.Tests.{lt-ltb, le-ltb, le-leb, lt-leb, eqb-true}
 use Rattle.network.specs.Network.{Region, Plan, sizeOf, move, bounded}
-use Rattle.network.specs.Mem.{total}
 use Rattle.network.specs.Steps.{unbias, accepts}
 use Rattle.network.specs.Rep.{gatesOf}
 use Rattle.network.proofs.network.Bias.{lt-or-le, unbias-up, unbias-down}
 use Rattle.network.proofs.network.Moved.{same-no}
-use Rattle.arithmetic.proofs.SeqLaws.{eqb-refl}
 
 sub-low : (a b : ℕ) → a < b → subℕ a b ≡ negsuc (b - suc a)
 sub-low a b h = rw (lt-ltb a b h) refl

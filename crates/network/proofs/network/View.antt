@@ -3,12 +3,12 @@ use mathlib.Core.Path.{_≡_, refl, sym, ap, _∙_}
 use mathlib.Core.List.{List}
 use Prim.Native.Nat.{ℕ, _+_, _*_, _-_, _≤_, _<_}
 use native.Mathlib.Omega.{arith}
-use lib.ListN.{length, getD, set, take, drop, length-set}
+use lib.ListN.{length, getD, set, take, drop}
 use lib.Seq.{drop-drop}
 use Rattle.arithmetic.specs.Seg.{seg}
-use Rattle.arithmetic.proofs.SegLaws.{getD-seg, seg-set-in, seg-set-out, length-seg}
+use Rattle.arithmetic.proofs.SegLaws.{getD-seg, seg-set-in, seg-set-out}
 use Rattle.memory.specs.Tree.{Weighed}
-use Rattle.network.specs.Mem.{Mem, view, Room, weight-set, first-set, second-set, enext-set, rnext-set, mark-set, size-set, elen-set, rlen-set, count-set, diff-set}
+use Rattle.network.specs.Mem.{view, weight-set, first-set, second-set, enext-set, rnext-set, mark-set, size-set, elen-set, rlen-set, count-set, diff-set}
 use lib.Ieee.{Float}
 
 module _ (m n : ℕ) (w : List ℕ) (d : List Float) where

@@ -1,3 +1,4 @@
+-- `arithmetic::intervals::ceil_of` meets its contract. Assumes nothing.
 use mathlib.Core.Bool.{Bool}
 use lib.Dec.{T}
 use lib.IntN.{ℤ}
@@ -8,30 +9,21 @@ use mir.ValLaws.{toZ-ofZ}
 use Rattle.arithmetic.specs.Rounding.{within, ceilingWhole, ceilOf, ifWithin}
 use Rattle.arithmetic.specs.declared.rounding.Rounded.the-variants.{Whole, Outside}
 use native.Mathlib.Omega.{arith}
-use mathlib.Core.Path.{_≡_, refl, sym, ap, _∙_}
-use mathlib.Core.List.{List, [], _∷_, _++_}
-use Prim.Native.Nat.{ℕ, zero, suc, _+_, _-_, _*_, _≤_, _<_}
-use lib.ListN.{length, getD, set, take, drop, replicate, length-set}
+use mathlib.Core.Path.{_≡_, sym, ap, _∙_}
+use Prim.Native.Nat.{ℕ, _-_}
 use borrow.Author.Needs.{needs}
 use Rattle.arithmetic.proofs.intervals.ceil_of.Statement.{statement}
 use Rattle.arithmetic.proofs.intervals.ceil_of.Tie as tie
-use Rattle.arithmetic.proofs.intervals.ceil_of.Reads as reads
-use Rattle.arithmetic.proofs.intervals.ceil_of.Lts as lts
-use Rattle.arithmetic.proofs.rounding.ceil.Reads as ceil-reads
 
--- src/lib.rt:72:11
 ceil-requires : tie.Need-ceil-requires
 ceil-requires c κs = search needs
 
--- src/lib.rt:73:36
 enum-known-k : tie.Need-enum-known-k
 enum-known-k c = search needs
 
--- src/lib.rt:74:41
 enum-told : tie.Need-enum-told
 enum-told c = search needs
 
--- src/lib.rt:68:1
 -- within the range the ceiling is a whole number
 is-whole : (x : Float) (k : ℤ) → T (within x) → Whole k ≡ ceilOf x → k ≡ ceilingWhole x
 is-whole x k w e = let f : Whole k ≡ Whole (ceilingWhole x) = e ∙ ap (λ (b : Bool). ifWithin b (ceilingWhole x)) (is-true (within x) w) in cc
@@ -49,7 +41,6 @@ returns c =
     let k = c .before .k .given .0 .0 in
     toZ-ofZ w32 k (record { sfits = c .known-told .given .0 .1 }) ∙ is-whole (div binary64 (s .args .d) (s .args .w)) k (s .pre) (sym (c .before .k .given .1) ∙ f .ensures)
 
--- src/lib.rt:68:1
 returns-2 : tie.Need-returns-2
 returns-2 c =
     let s = c .before .before .before in

@@ -1,45 +1,32 @@
+-- `arithmetic::intervals::limits` meets its contract. Assumes nothing.
 use mir.Val.{toZ, ofZ}
 use mir.Syntax.{w32, w64}
 use mir.ValLaws.{toZ-ofZ}
 use Rattle.arithmetic.proofs.Plans.{limits-are}
-use native.Mathlib.Omega.{arith}
-use mathlib.Core.Path.{_≡_, refl, sym, ap, _∙_}
-use mathlib.Core.List.{List, [], _∷_, _++_}
-use Prim.Native.Nat.{ℕ, zero, suc, _+_, _-_, _*_, _≤_, _<_}
-use lib.ListN.{length, getD, set, take, drop, replicate, length-set}
+use mathlib.Core.Path.{_∙_}
+use Prim.Native.Nat.{_-_}
 use borrow.Author.Needs.{needs}
 use Rattle.arithmetic.proofs.intervals.limits.Statement.{statement}
 use Rattle.arithmetic.proofs.intervals.limits.Tie as tie
-use Rattle.arithmetic.proofs.intervals.limits.Reads as reads
-use Rattle.arithmetic.proofs.intervals.limits.Lts as lts
-use Rattle.arithmetic.proofs.intervals.place.Reads as place-reads
-use Rattle.arithmetic.proofs.intervals.width.Reads as width-reads
 
--- src/lib.rt:163:15
 float-to-float-nyq : tie.Need-float-to-float-nyq
 float-to-float-nyq c = search needs
 
--- src/lib.rt:164:9
 width-requires : tie.Need-width-requires
 width-requires c κs = search needs
 
--- src/lib.rt:165:25
 int-to-float-start : tie.Need-int-to-float-start
 int-to-float-start c = search needs
 
--- src/lib.rt:166:22
 int-to-float-end : tie.Need-int-to-float-end
 int-to-float-end c = search needs
 
--- src/lib.rt:167:5
 place-requires : tie.Need-place-requires
 place-requires c κs = search needs
 
--- src/lib.rt:158:1
 same-length : tie.Need-same-length
 same-length c = search needs
 
--- src/lib.rt:158:1
 returns : tie.Need-returns
 returns c =
     let s = c .before .before .before .before .before .before .before .before .before in

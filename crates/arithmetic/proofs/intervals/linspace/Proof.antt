@@ -1,24 +1,20 @@
+-- `arithmetic::intervals::linspace` meets its contract. Assumes nothing.
 use lib.Dec.{T, le→leb, lit≤}
 use native.Mathlib.Nat.{le-trans}
 use lib.IntN.{pos}
 use lib.Ieee.{inFloat, binary64}
 use Rattle.arithmetic.proofs.IntervalLaws.{lin-none, lin-more, lin-last, lin-one, lin-nil}
-use Rattle.arithmetic.specs.Intervals.{limitAt, spaced, stepOf}
-use Rattle.arithmetic.proofs.IntervalLaws.{front-more, front-none}
+use Rattle.arithmetic.specs.Intervals.{limitAt, stepOf}
 use borrow.Author.Needs.{needs}
 use native.Mathlib.Omega.{arith}
-use mathlib.Core.Path.{_≡_, refl, sym, ap, _∙_}
-use mathlib.Core.List.{List, [], _∷_, _++_}
-use Prim.Native.Nat.{ℕ, zero, suc, _+_, _-_, _*_, _^_, _≤_, _<_}
-use lib.ListN.{length, getD, set, take, drop, replicate, length-set}
+use mathlib.Core.Path.{_≡_, refl}
+use Prim.Native.Nat.{ℕ, suc, _-_, _^_, _≤_, _<_}
+use lib.ListN.{length, length-set}
 use Rattle.arithmetic.proofs.intervals.linspace.Statement.{statement}
 use Rattle.arithmetic.proofs.intervals.linspace.Tie as tie
-use Rattle.arithmetic.proofs.intervals.linspace.Reads as reads
-use Rattle.arithmetic.proofs.intervals.linspace.Lts as lts
 use Rattle.arithmetic.specs.Asked.{front}
 use Rattle.arithmetic.specs.Seq.{tabulate}
 use Rattle.arithmetic.specs.Rounding.{real}
-use Rattle.arithmetic.proofs.SeqLaws.{tab-snoc, tab-length}
 
 abbrev Inv-loop : tie.InvT-loop
 Inv-loop start end n out₀ last step i₀ out i = (i ≤ last) × ((out ≡ front (tabulate i (limitAt start step)) out₀) × (length out ≡ length out₀))
@@ -33,52 +29,40 @@ small n h = le→leb n (2 ^ 53) (le-trans h (lit≤ tt))
 returns : tie.Need-returns Inv-loop μ-loop
 returns c = let s = c .before in lin-nil (s .args .start) (s .args .end) (s .args .out .now) (s .args .n) (c .if1 .taken)
 
--- src/lib.rt:87:9
 slice-write-out : tie.Need-slice-write-out Inv-loop μ-loop
 slice-write-out c = omega arith
 
--- src/lib.rt:88:9
 same-length : tie.Need-same-length Inv-loop μ-loop
 same-length c = search needs
 
--- src/lib.rt:88:9
 returns-2 : tie.Need-returns-2 Inv-loop μ-loop
 returns-2 c = let s = c .before .before in lin-one (s .args .start) (s .args .end) (s .args .out .now) (s .args .n) (c .if2 .taken) (s .pre .0)
 
--- src/lib.rt:90:16
 sub-last : tie.Need-sub-last Inv-loop μ-loop
 sub-last c = omega arith
 
--- src/lib.rt:91:33
 int-to-float-step : tie.Need-int-to-float-step Inv-loop μ-loop
 int-to-float-step c = small (c .before .before .before .args .n - 1) (omega arith)
 
--- src/lib.rt:93:5
 loop-holds : tie.Need-loop-holds Inv-loop μ-loop
 unfolding stepOf real
 loop-holds c = let s = c .before .before .before in (search needs, (lin-none (s .args .start) (stepOf (s .args .start) (s .args .end) (s .args .n - 1)) (s .args .out .now), refl))
 
--- src/lib.rt:94:34
 int-to-float-out : tie.Need-int-to-float-out Inv-loop μ-loop
 int-to-float-out c = small (c .before .before .loop .i) (omega arith)
 
--- src/lib.rt:94:9
 mul-out : tie.Need-mul-out Inv-loop μ-loop
 mul-out c = omega arith
 
--- src/lib.rt:94:9
 slice-write-out-2 : tie.Need-slice-write-out-2 Inv-loop μ-loop
 slice-write-out-2 c = omega arith
 
--- src/lib.rt:95:9
 add-i : tie.Need-add-i Inv-loop μ-loop
 add-i c = omega arith
 
--- src/lib.rt:93:5
 loop-less : tie.Need-loop-less Inv-loop μ-loop
 loop-less c = omega arith
 
--- src/lib.rt:93:5
 loop-again : tie.Need-loop-again Inv-loop μ-loop
 unfolding limitAt stepOf real
 loop-again c =
@@ -87,19 +71,15 @@ loop-again c =
     let h : l .i < length (s .args .out .now) = omega arith in
     (omega arith, (lin-more (s .args .start) (stepOf (s .args .start) (s .args .end) (s .args .n - 1)) (s .args .out .now) (l .out) (l .i) h (l .inv .1 .0), simp length-set (l .inv .1 .1)))
 
--- src/lib.rt:97:5
 mul-out-2 : tie.Need-mul-out-2 Inv-loop μ-loop
 mul-out-2 c = omega arith
 
--- src/lib.rt:97:5
 slice-write-out-3 : tie.Need-slice-write-out-3 Inv-loop μ-loop
 slice-write-out-3 c = omega arith
 
--- src/lib.rt:79:1
 same-length-2 : tie.Need-same-length-2 Inv-loop μ-loop
 same-length-2 c = search needs
 
--- src/lib.rt:79:1
 returns-3 : tie.Need-returns-3 Inv-loop μ-loop
 unfolding stepOf real
 returns-3 c =

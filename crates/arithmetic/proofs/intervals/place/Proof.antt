@@ -1,43 +1,34 @@
+-- `arithmetic::intervals::place` meets its contract. Assumes nothing.
 use mathlib.Core.Path.{subst}
 use Rattle.arithmetic.specs.Intervals.{spaced, atLeast0}
 use Rattle.arithmetic.proofs.IntervalLaws.{lin-nil}
 use Rattle.arithmetic.proofs.Plans.{length-is, length-fits, none-is}
-use native.Mathlib.Omega.{arith}
-use mathlib.Core.Path.{_≡_, refl, sym, ap, _∙_}
-use mathlib.Core.List.{List, [], _∷_, _++_}
-use Prim.Native.Nat.{ℕ, zero, suc, _+_, _-_, _*_, _≤_, _<_}
-use lib.ListN.{length, getD, set, take, drop, replicate, length-set}
+use mathlib.Core.Path.{sym, ap, _∙_}
+use Prim.Native.Nat.{ℕ, _-_, _≤_}
+use lib.ListN.{length}
 use borrow.Author.Needs.{needs}
 use Rattle.arithmetic.proofs.intervals.place.Statement.{statement}
 use Rattle.arithmetic.proofs.intervals.place.Tie as tie
-use Rattle.arithmetic.proofs.intervals.place.Reads as reads
-use Rattle.arithmetic.proofs.intervals.place.Lts as lts
-use Rattle.arithmetic.proofs.intervals.linspace.Reads as linspace-reads
 use Rattle.arithmetic.specs.Asked.{front}
 
--- src/lib.rt:153:30
 cast-linspace : tie.Need-cast-linspace
 cast-linspace c = length-fits (c .before .before .args .number) (c .before .before .fits .number) (c .if1 .taken)
 
--- src/lib.rt:153:9
 linspace-requires : tie.Need-linspace-requires
 linspace-requires c κs =
     let s = c .before .before .before in
     let e = length-is (s .args .number) (s .fits .number) (c .before .if1 .taken) in
     (subst (λ (k : ℕ). k ≤ length (s .args .out .now)) (sym e) (s .pre .0), subst (λ (k : ℕ). k ≤ 10000) (sym e) (s .pre .1))
 
--- src/lib.rt:148:1
 same-length : tie.Need-same-length
 same-length c = search needs
 
--- src/lib.rt:148:1
 returns : tie.Need-returns
 returns c =
     let s = c .before .before .before .before .before .before in
     let e = length-is (s .args .number) (s .fits .number) (c .before .before .before .before .if1 .taken) in
     c .before .before .linspace .ensures ∙ ap (λ (k : ℕ). front (spaced (s .args .start) (s .args .end) k) (s .args .out .now)) e
 
--- src/lib.rt:148:1
 returns-2 : tie.Need-returns-2
 returns-2 c =
     let s = c .before .before in

@@ -1,27 +1,21 @@
+-- `arithmetic::intervals::plain` meets its contract. Assumes nothing.
 use lib.IntN.{ℤ, pos}
 use mir.Syntax.{w64}
 use mir.ValLaws.{toZ-pos}
 use Rattle.arithmetic.specs.Intervals.{planOf, number, noAdds}
 use native.Mathlib.Omega.{arith}
-use mathlib.Core.Path.{_≡_, refl, sym, ap, _∙_}
-use mathlib.Core.List.{List, [], _∷_, _++_}
-use Prim.Native.Nat.{ℕ, zero, suc, _+_, _-_, _*_, _≤_, _<_}
-use lib.ListN.{length, getD, set, take, drop, replicate, length-set}
+use mathlib.Core.Path.{_≡_, ap, _∙_}
+use Prim.Native.Nat.{ℕ, _+_, _-_}
 use borrow.Author.Needs.{needs}
 use Rattle.arithmetic.proofs.intervals.plain.Statement.{statement}
 use Rattle.arithmetic.proofs.intervals.plain.Tie as tie
-use Rattle.arithmetic.proofs.intervals.plain.Reads as reads
-use Rattle.arithmetic.proofs.intervals.plain.Lts as lts
 
--- src/lib.rt:118:47
 add-t2 : tie.Need-add-t2
 add-t2 c = search needs
 
--- src/lib.rt:118:46
 cast-t3 : tie.Need-cast-t3
 cast-t3 c = search needs
 
--- src/lib.rt:114:1
 returns : tie.Need-returns
 unfolding planOf number noAdds
 returns c = ap (λ (z : ℤ). record { «add_start» = pos 0; «add_end» = pos 0; number = z }) (toZ-pos w64 (c .args .splits + 1) (omega arith) ∙ flat (c .args .splits))

@@ -1,3 +1,4 @@
+-- `arithmetic::intervals::widened` meets its contract. Assumes nothing.
 use mir.Val.{toZ, ofZ}
 use mathlib.Core.Path.{subst}
 use lib.Dec.{T}
@@ -7,25 +8,15 @@ use mir.ValLaws.{toZ-ofZ}
 use Rattle.arithmetic.specs.Rounding.{within}
 use Rattle.arithmetic.specs.Intervals.{overStart, overEnd}
 use Rattle.arithmetic.proofs.Plans.{T-of, start-within, end-within, plan-is}
-use native.Mathlib.Omega.{arith}
-use mathlib.Core.Path.{_≡_, refl, sym, ap, _∙_}
-use mathlib.Core.List.{List, [], _∷_, _++_}
-use Prim.Native.Nat.{ℕ, zero, suc, _+_, _-_, _*_, _≤_, _<_}
-use lib.ListN.{length, getD, set, take, drop, replicate, length-set}
+use mathlib.Core.Path.{sym, _∙_}
+use Prim.Native.Nat.{_-_}
 use borrow.Author.Needs.{needs}
 use Rattle.arithmetic.proofs.intervals.widened.Statement.{statement}
 use Rattle.arithmetic.proofs.intervals.widened.Tie as tie
-use Rattle.arithmetic.proofs.intervals.widened.Reads as reads
-use Rattle.arithmetic.proofs.intervals.widened.Lts as lts
-use Rattle.arithmetic.proofs.intervals.ceil_of.Reads as ceil-of-reads
-use Rattle.arithmetic.proofs.intervals.count.Reads as count-reads
-use Rattle.arithmetic.proofs.intervals.width.Reads as width-reads
 
--- src/lib.rt:115:9
 width-requires : tie.Need-width-requires
 width-requires c κs = search needs
 
--- src/lib.rt:116:9
 ceil-of-requires : tie.Need-ceil-of-requires
 unfolding overStart
 ceil-of-requires c κs =
@@ -33,7 +24,6 @@ ceil-of-requires c κs =
     subst (λ (w : Float). T (within (div binary64 (overStart (s .args .nyquist) (s .args .hi)) w))) (sym (c .width .ensures))
     (start-within (s .args .nyquist) (s .args .hi) (s .args .splits) (T-of (s .good .0 .1)) (T-of (s .good .1 .1 .1 .0 .1)) (s .pre .0) (s .pre .1 .1))
 
--- src/lib.rt:117:9
 ceil-of-requires-2 : tie.Need-ceil-of-requires-2
 unfolding overEnd
 ceil-of-requires-2 c κs =
@@ -41,11 +31,9 @@ ceil-of-requires-2 c κs =
     subst (λ (w : Float). T (within (div binary64 (overEnd (s .args .nyquist) (s .args .lo)) w))) (sym (c .before .width .ensures))
     (end-within (s .args .nyquist) (s .args .lo) (s .args .splits) (T-of (s .good .0 .1)) (T-of (s .good .1 .1 .0 .1)) (s .pre .0) (s .pre .1 .0))
 
--- src/lib.rt:118:46
 count-requires : tie.Need-count-requires
 count-requires c κs = search needs
 
--- src/lib.rt:110:1
 returns : tie.Need-returns
 unfolding overStart overEnd
 returns c =

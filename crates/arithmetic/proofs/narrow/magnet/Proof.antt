@@ -1,18 +1,17 @@
 -- `arithmetic::magnet` meets its contract. With the exponent's field F, x is digits * 2 ^ (F - 1) of binary64's smallest values (`pattern`), so the unit is 2 ^ (F - 897) of binary32's, or 1
 -- below F = 897, and the pattern of the field F + 29 is 2 ^ 52 units (`power`). Assumes nothing.
-use mathlib.Core.Path.{_≡_, refl, sym, ap, _∙_, subst}
-use mathlib.Core.Bool.{Bool, true, false, not}
+use mathlib.Core.Path.{_≡_, refl, sym, subst}
+use mathlib.Core.Bool.{Bool, false, not}
 use Prim.Native.Nat.{ℕ, zero, suc, _+_, _-_, _*_, _/_, _%_, _^_, _≤_, _<_}
 use native.Mathlib.Nat.{le-trans, le-of-eq, lt-of-lt-of-le, lt-of-le-of-lt, lt-of-not-le, not-le-of-lt, mul-right-comm, mul-le-mul-right, mul-lt-mul-of-pos-right, lt-of-mul-lt-mul-right}
 use native.Mathlib.Omega.{arith}
-use lib.Dec.{T, lit<, lit≤}
+use lib.Dec.{T, lit≤}
 use lib.Pow.{pow-add, pow-pos, pow-mono, shl-lt}
-use lib.IntN.{pos}
-use lib.Ieee.{Float, nan, inf, fin, binary64, fits, isNan, toBits, ofBits, nanBits}
+use lib.Ieee.{Float, nan, inf, fin, binary64, fits, isNan, toBits, ofBits}
 use lib.Ieee.Bits.{ofBits-toBits, nanBits-is}
 use lib.Ieee.Exact.{HasValue}
 use lib.Ieee.Positive.{num, den, positive, den-pos, value→cross}
-use Rattle.arithmetic.proofs.PatternLaws.{digits, Pattern, pattern, power}
+use Rattle.arithmetic.proofs.PatternLaws.{digits, pattern, power}
 use Rattle.arithmetic.proofs.NarrowLaws.{unit, unit-tiny, unit-normal, no-nan}
 use Rattle.arithmetic.proofs.narrow.magnet.Statement.{statement}
 use Rattle.arithmetic.proofs.narrow.magnet.Tie as tie

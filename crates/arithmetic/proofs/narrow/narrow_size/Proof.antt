@@ -1,7 +1,7 @@
 -- `arithmetic::narrow_size` meets its contract (`Narrowing.antt`). Assumes nothing.
-use mathlib.Core.Path.{_≡_, refl, sym, ap, _∙_, subst}
-use mathlib.Core.Bool.{Bool, true, false, not, _&&_}
-use Prim.Native.Nat.{ℕ, _*_, _^_, _<_}
+use mathlib.Core.Path.{_≡_, refl, sym, _∙_, subst}
+use mathlib.Core.Bool.{false, not, _&&_}
+use Prim.Native.Nat.{_*_, _^_, _<_}
 use lib.Dec.{T}
 use lib.Ieee.{Float, inf, binary32, ofBits, div, fits, isNan}
 use lib.Ieee.Positive.{num, den, positive}

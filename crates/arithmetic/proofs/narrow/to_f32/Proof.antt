@@ -1,17 +1,14 @@
 -- `arithmetic::narrow` meets its contract: a NaN and the zeros as they are, and a negative x by its size. Assumes nothing.
 use borrow.Author.Needs.{needs}
 use mathlib.Core.Path.{_≡_, refl, sym, ap, _∙_, subst}
-use mathlib.Core.Bool.{Bool, true, false, not, _&&_, true≢false, false≢true}
-use Prim.Native.Nat.{ℕ, zero, suc, _*_, _^_, _<_}
+use mathlib.Core.Bool.{true, false}
+use Prim.Native.Nat.{_*_}
 use lib.Dec.{T}
-use lib.IntN.{ℤ, pos}
-use lib.Ieee.{Float, nan, inf, fin, binary32, binary64, up, down, round, ofBits, neg, div, lt, eq, ne, fits, isNan}
+use lib.Ieee.{Float, nan, inf, fin, binary32, binary64, up, down, ofBits, neg, div, fits}
 use lib.Ieee.Compare.{differs-from-itself}
-use lib.Ieee.Positive.{above}
 use Rattle.arithmetic.specs.Rounding.{narrowed}
 use Rattle.arithmetic.proofs.RoundLaws.{neg-round}
 use Rattle.arithmetic.proofs.NarrowLaws.{zero-narrowed, neg-above, pos-above}
-use Rattle.arithmetic.proofs.RangeLaws.{zeroF}
 use Rattle.arithmetic.proofs.narrow.to_f32.Statement.{statement}
 use Rattle.arithmetic.proofs.narrow.to_f32.Tie as tie
 

@@ -1,15 +1,15 @@
 -- `arithmetic::ceil` meets its contract: each return is one case of the tests (`Ranges.antt`). Assumes nothing.
 use borrow.Author.Needs.{needs}
-use mathlib.Core.Path.{_≡_, refl, sym, ap, _∙_, subst}
-use mathlib.Core.Bool.{Bool, true, false}
+use mathlib.Core.Path.{_≡_, sym, ap, _∙_, subst}
+use mathlib.Core.Bool.{Bool, true}
 use Prim.Native.Nat.{ℕ}
 use lib.Dec.{T}
 use lib.IntN.{ℤ, pos, negℤ}
-use lib.Ieee.{Float, neg, ofBits, lt, le, eq}
+use lib.Ieee.{Float, neg, ofBits}
 use lib.Ieee.Positive.{positive}
 use Rattle.arithmetic.specs.declared.rounding.Rounded.the-variants.{Whole}
 use Rattle.arithmetic.specs.Rounding.{within, ceilingWhole, ifWithin}
-use Rattle.arithmetic.proofs.RangeLaws.{zeroF, most, least, pos-within, pos-positive, neg-within, within-neg, neg-positive, zero-within, ceiling-zero, none-within, ceiling-pos, ceiling-neg, as-i32, minus-fits, as-minus}
+use Rattle.arithmetic.proofs.RangeLaws.{pos-within, pos-positive, neg-within, within-neg, neg-positive, zero-within, ceiling-zero, none-within, ceiling-pos, ceiling-neg, as-i32, minus-fits, as-minus}
 use Rattle.arithmetic.proofs.rounding.ceil.Statement.{statement}
 use Rattle.arithmetic.proofs.rounding.ceil.Tie as tie
 

@@ -3,17 +3,17 @@ use borrow.Author.Needs.{needs}
 use mathlib.Core.Path.{_≡_, refl, sym, ap, _∙_, subst}
 use mathlib.Core.Bool.{Bool, true, false, not, cond, true≢false}
 use Prim.Native.Nat.{ℕ, suc, _+_, _*_, _/_, _%_, _^_, _≤_, _<_}
-use native.Mathlib.Nat.{le-trans, le-of-eq, lt-of-lt-of-le, mul-right-comm, mul-one, mul-lt-mul-of-pos-right, lt-of-mul-lt-mul-right, div-add-mod'}
+use native.Mathlib.Nat.{le-trans, lt-of-lt-of-le, mul-right-comm, mul-one, mul-lt-mul-of-pos-right, lt-of-mul-lt-mul-right, div-add-mod'}
 use native.Mathlib.Numerals.{add-one}
 use native.Mathlib.Omega.{arith}
-use lib.Dec.{T, ltb, leb, eqb, leb→le, ltb→lt, lt→ltb, nltb→le, eqb→eq, eqb-refl, not-T, lit≤}
+use lib.Dec.{T, ltb, leb, eqb, leb→le, ltb→lt, lt→ltb, nltb→le, eqb→eq, not-T, lit≤}
 use lib.IntN.{pos}
 use lib.Ieee.{Float, nan, inf, fin, binary64, up, down, round, ofInt, lt}
 use lib.Ieee.Back.{round-whole}
-use lib.Ieee.Bits.{is-true, is-false}
+use lib.Ieee.Bits.{is-false}
 use lib.Ieee.Exact.{HasValue}
 use lib.Ieee.Fits.{down-pos}
-use lib.Ieee.Positive.{num, den, positive, den-pos}
+use lib.Ieee.Positive.{num, den, positive}
 use Rattle.arithmetic.specs.Rounding.{within, ceiling}
 use Rattle.arithmetic.proofs.rounding.ceil_size.Statement.{statement}
 use Rattle.arithmetic.proofs.rounding.ceil_size.Tie as tie

@@ -1,14 +1,11 @@
 -- `arithmetic::nearest_size` meets its contract: x + 2 ^ 52 is the float of 2 ^ 52 and the nearest whole number (`whole-sum`), so its cast is exact. Assumes nothing.
-use mathlib.Core.Path.{_≡_, refl, sym, ap, _∙_, subst}
-use mathlib.Core.Bool.{true, false}
+use mathlib.Core.Path.{_≡_, sym, ap, _∙_, subst}
 use Prim.Native.Nat.{ℕ, _+_, _-_, _*_, _^_, _≤_, _<_}
-use native.Mathlib.Nat.{le-trans, le-of-eq, lt-of-le-of-lt, mul-one, mul-lt-mul-of-pos-right}
+use native.Mathlib.Nat.{le-trans, le-of-eq, mul-one}
 use native.Mathlib.Omega.{arith}
-use lib.Dec.{T, leb→le, le→leb, lit<, lit≤}
-use lib.IntN.{pos}
-use lib.Ieee.{Float, nan, inf, fin, binary64, up, down, add, ofInt, ofBits, inFloat, inUnsigned, toUnsigned}
+use lib.Dec.{T, leb→le, le→leb, lit<}
+use lib.Ieee.{Float, nan, inf, fin, binary64, up, down, add, ofBits, inFloat, inUnsigned, toUnsigned}
 use lib.Ieee.Back.{unsigned-back}
-use lib.Ieee.Fits.{down-pos}
 use lib.Ieee.Nearest.{closest, closest-mono}
 use lib.Ieee.Positive.{num, den, positive, own-value, den-pos}
 use Rattle.arithmetic.specs.Rounding.{within}

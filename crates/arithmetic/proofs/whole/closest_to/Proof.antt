@@ -1,12 +1,11 @@
 -- `arithmetic::closest_to` meets its contract: the three returns are the three cases of `compare`. Assumes nothing.
 use borrow.Author.Needs.{needs}
-use mathlib.Core.Path.{_≡_, refl, sym, ap, _∙_}
-use Prim.Native.Nat.{ℕ, suc, _+_, _*_, _/_, _%_, _^_, _≤_, _<_, compare, Ordering, Ordering·lt, Ordering·eq, Ordering·gt}
-use native.Mathlib.Nat.{mod-lt, div-lt-iff-lt-mul, le-trans, lt-of-lt-of-le}
+use mathlib.Core.Path.{sym, ap, _∙_}
+use Prim.Native.Nat.{ℕ, _*_, _/_, _%_, _^_, _≤_, _<_, Ordering}
+use native.Mathlib.Nat.{mod-lt, div-lt-iff-lt-mul}
 use native.Mathlib.Omega.{arith}
 use native.Mathlib.Numerals.{add-one}
 use lib.Ieee.{nearest}
-use lib.Ieee.Nearest.{closest}
 use Rattle.arithmetic.proofs.RoundLaws.{is-lt, is-eq, is-gt}
 use Rattle.arithmetic.proofs.whole.closest_to.Statement.{statement}
 use Rattle.arithmetic.proofs.whole.closest_to.Tie as tie

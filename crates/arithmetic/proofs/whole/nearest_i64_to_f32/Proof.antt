@@ -1,17 +1,17 @@
 -- `arithmetic::nearest_i64_to_f32` meets its contract: -(k + 1) goes by way of k, which fits at `i64::MIN` too. Assumes nothing.
 use borrow.Author.Needs.{needs}
 use mathlib.Core.Path.{_≡_, refl, sym, ap, _∙_, subst}
-use mathlib.Core.Bool.{Bool, true, false, not, true≢false, false≢true}
-use Prim.Native.Nat.{ℕ, zero, suc, _+_, _-_, _^_, _≤_, _<_}
+use mathlib.Core.Bool.{true, false, true≢false, false≢true}
+use Prim.Native.Nat.{ℕ, zero, suc, _+_, _-_, _^_, _<_}
 use native.Mathlib.Numerals.{add-one}
 use native.Mathlib.Omega.{arith}
 use lib.Dec.{T, leb·zero}
 use lib.IntN.{ℤ, pos, negsuc, negℤ, natAbs, sucℤ, negℤ-negℤ, _+ℤ_, _-ℤ_, +ℤ-one, +ℤ-idl}
-use lib.Signed.{mag, nonNeg, leZ}
+use lib.Signed.{nonNeg, leZ}
 use mir.Syntax.{w64}
 use mir.Val.{Fits, SFits, toZ, ofZ}
 use mir.ValLaws.{toZ-ofZ}
-use lib.Ieee.{Float, binary32, ofInt, neg, round}
+use lib.Ieee.{binary32, ofInt, neg}
 use Rattle.arithmetic.proofs.RoundLaws.{neg-round}
 use Rattle.arithmetic.proofs.whole.nearest_i64_to_f32.Statement.{statement}
 use Rattle.arithmetic.proofs.whole.nearest_i64_to_f32.Tie as tie

@@ -1,8 +1,8 @@
 -- `arithmetic::nearest_u64_to_f32` meets its contract. With z leading zeros n has 24 + k digits, k = 40 - z. The product is exact in an f64 (`mul-exact`), and has the value
 -- of n rounded to an f32 (`round-large`), so it is that f32 (`value-unique`). Assumes nothing.
 use borrow.Author.Needs.{needs}
-use mathlib.Core.Path.{_≡_, refl, sym, ap, _∙_, subst}
-use mathlib.Core.Bool.{Bool, true, false, not, _&&_}
+use mathlib.Core.Path.{_≡_, sym, ap, _∙_, subst}
+use mathlib.Core.Bool.{Bool, false, not, _&&_}
 use Prim.Native.Nat.{ℕ, suc, _+_, _-_, _*_, _/_, _%_, _^_, _≤_, _<_, compare}
 use native.Mathlib.Nat.{le-trans, le-of-eq, lt-of-lt-of-le, one-mul, mod-eq-of-lt, le-div-iff-mul-le, zero-lt-suc, two-pow-succ}
 use native.Mathlib.Omega.{arith}

@@ -1,14 +1,10 @@
+-- `memory::tree::leaves` meets its contract. Assumes nothing.
 use Rattle.memory.proofs.tree.TreeLaws.{Leafing, leaf-start, leaf-turn, leaf-end}
 use borrow.Author.Needs.{needs}
 use native.Mathlib.Omega.{arith}
-use mathlib.Core.Path.{_≡_, refl, sym, ap, _∙_}
-use mathlib.Core.List.{List, [], _∷_, _++_}
-use Prim.Native.Nat.{ℕ, zero, suc, _+_, _-_, _*_, _≤_, _<_}
-use lib.ListN.{length, getD, set, take, drop, replicate, length-set}
+use Prim.Native.Nat.{_-_, _≤_}
 use Rattle.memory.proofs.tree.leaves.Statement.{statement}
 use Rattle.memory.proofs.tree.leaves.Tie as tie
-use Rattle.memory.proofs.tree.leaves.Reads as reads
-use Rattle.memory.proofs.tree.leaves.Lts as lts
 
 abbrev Inv-loop : tie.InvT-loop
 Inv-loop w₀ m e₀ w e = (e ≤ m) × Leafing m e w₀ w
@@ -16,47 +12,36 @@ Inv-loop w₀ m e₀ w e = (e ≤ m) × Leafing m e w₀ w
 abbrev μ-loop : tie.MeasureT-loop
 μ-loop w₀ m e₀ w e = m - e
 
--- src/lib.rt:58:5
 loop-holds : tie.Need-loop-holds Inv-loop μ-loop
 loop-holds c = (omega arith, leaf-start (c .args .m) (c .args .w .now))
 
--- src/lib.rt:59:24
 cast-w : tie.Need-cast-w Inv-loop μ-loop
 cast-w c = search needs
 
--- src/lib.rt:59:11
 add-w : tie.Need-add-w Inv-loop μ-loop
 add-w c = search needs
 
--- src/lib.rt:59:11
 add-w-2 : tie.Need-add-w-2 Inv-loop μ-loop
 add-w-2 c = search needs
 
--- src/lib.rt:59:9
 mul-w : tie.Need-mul-w Inv-loop μ-loop
 mul-w c = search needs
 
--- src/lib.rt:59:9
 slice-write-w : tie.Need-slice-write-w Inv-loop μ-loop
 slice-write-w c = search needs
 
--- src/lib.rt:60:9
 add-e : tie.Need-add-e Inv-loop μ-loop
 add-e c = search needs
 
--- src/lib.rt:58:5
 loop-less : tie.Need-loop-less Inv-loop μ-loop
 loop-less c = search needs
 
--- src/lib.rt:58:5
 loop-again : tie.Need-loop-again Inv-loop μ-loop
 loop-again c = (omega arith, leaf-turn (c .before .before .args .m) (c .before .loop .e) (c .before .before .args .w .now) (c .before .loop .w) (c .before .loop .inv .1) (c .before .before .pre .0) (omega arith))
 
--- src/lib.rt:53:1
 same-length : tie.Need-same-length Inv-loop μ-loop
 same-length c = search needs
 
--- src/lib.rt:53:1
 returns : tie.Need-returns Inv-loop μ-loop
 returns c = leaf-end _ _ _ _ (c .before .loop .inv .1) (c .before .before .pre .0) (omega arith)
 

@@ -1,32 +1,23 @@
+-- `memory::tree::pick` meets its contract. Assumes nothing.
 use borrow.Author.Tests.{lt-ltb, le-ltb}
 use Rattle.memory.specs.Tree.{pick}
-use borrow.Author.Needs.{needs}
-use native.Mathlib.Omega.{arith}
-use mathlib.Core.Path.{_≡_, refl, sym, ap, _∙_}
-use mathlib.Core.List.{List, [], _∷_, _++_}
-use Prim.Native.Nat.{ℕ, zero, suc, _+_, _-_, _*_, _≤_, _<_}
-use lib.ListN.{length, getD, set, take, drop, replicate, length-set}
+use mathlib.Core.Path.{refl}
+use Prim.Native.Nat.{_-_}
 use Rattle.memory.proofs.tree.pick.Statement.{statement}
 use Rattle.memory.proofs.tree.pick.Tie as tie
-use Rattle.memory.proofs.tree.pick.Reads as reads
-use Rattle.memory.proofs.tree.pick.Lts as lts
 
--- src/lib.rt:13:9
 returns : tie.Need-returns
 unfolding pick
 returns c = let s = c .before .args in rw (lt-ltb (s .b) (s .a) (c .if1 .taken)) refl
 
--- src/lib.rt:16:9
 returns-2 : tie.Need-returns-2
 unfolding pick
 returns-2 c = let s = c .before .before .args in rw (le-ltb (s .b) (s .a) (c .before .if1 .left), lt-ltb (s .a) (s .b) (c .if2 .taken)) refl
 
--- src/lib.rt:19:9
 returns-3 : tie.Need-returns-3
 unfolding pick
 returns-3 c = let s = c .before .before .before .args in rw (le-ltb (s .b) (s .a) (c .before .before .if1 .left), le-ltb (s .a) (s .b) (c .before .if2 .left), lt-ltb (s .i) (s .j) (c .if3 .taken)) refl
 
--- src/lib.rt:9:1
 returns-4 : tie.Need-returns-4
 unfolding pick
 returns-4 c = let s = c .before .before .before .args in rw (le-ltb (s .b) (s .a) (c .before .before .if1 .left), le-ltb (s .a) (s .b) (c .before .if2 .left), le-ltb (s .i) (s .j) (c .if3 .left)) refl

@@ -1,15 +1,10 @@
+-- `memory::tree::play` meets its contract. Assumes nothing.
 use Rattle.memory.proofs.tree.TreeLaws.{Playing, Game, game-in, play-turn, play-end}
-use borrow.Author.Needs.{needs}
 use native.Mathlib.Omega.{arith}
-use mathlib.Core.Path.{_≡_, refl, sym, ap, _∙_}
-use mathlib.Core.List.{List, [], _∷_, _++_}
-use Prim.Native.Nat.{ℕ, zero, suc, _+_, _-_, _*_, _≤_, _<_}
-use lib.ListN.{length, getD, set, take, drop, replicate, length-set}
+use mathlib.Core.Path.{refl}
+use Prim.Native.Nat.{_-_, _<_}
 use Rattle.memory.proofs.tree.play.Statement.{statement}
 use Rattle.memory.proofs.tree.play.Tie as tie
-use Rattle.memory.proofs.tree.play.Reads as reads
-use Rattle.memory.proofs.tree.play.Lts as lts
-use Rattle.memory.proofs.tree.pick.Reads as pick-reads
 
 abbrev Inv-loop : tie.InvT-loop
 Inv-loop w₀ m k0 k₀ w k = (k < m) × Playing m w₀ w 1 k
@@ -20,102 +15,78 @@ abbrev μ-loop : tie.MeasureT-loop
 at : (c : tie.In-loop Inv-loop μ-loop) → Game (c .before .before .before .args .m) (c .before .loop .w) (c .before .loop .k)
 at c = game-in (c .before .before .before .args .m) (c .before .loop .w) 1 (c .before .loop .k) (c .before .loop .k) (c .before .loop .inv .1 .played) (omega arith) (omega arith) (omega arith)
 
--- src/lib.rt:31:5
 loop-holds : tie.Need-loop-holds Inv-loop μ-loop
 loop-holds c = (c .before .pre .1, record { weights = refl; rest = refl; long = refl; played = c .before .pre .0 })
 
--- src/lib.rt:32:23
 mul-i : tie.Need-mul-i Inv-loop μ-loop
 mul-i c = omega (arith, at c)
 
--- src/lib.rt:32:19
 add-i : tie.Need-add-i Inv-loop μ-loop
 add-i c = omega (arith, at c)
 
--- src/lib.rt:32:17
 mul-i-2 : tie.Need-mul-i-2 Inv-loop μ-loop
 mul-i-2 c = omega (arith, at c)
 
--- src/lib.rt:32:17
 slice-read-i : tie.Need-slice-read-i Inv-loop μ-loop
 slice-read-i c = omega (arith, at (c .before))
 
--- src/lib.rt:33:23
 mul-j : tie.Need-mul-j Inv-loop μ-loop
 mul-j c = omega (arith, at (c .before))
 
--- src/lib.rt:33:19
 add-j : tie.Need-add-j Inv-loop μ-loop
 add-j c = omega (arith, at (c .before))
 
--- src/lib.rt:33:19
 add-j-2 : tie.Need-add-j-2 Inv-loop μ-loop
 add-j-2 c = omega (arith, at (c .before))
 
--- src/lib.rt:33:17
 mul-j-2 : tie.Need-mul-j-2 Inv-loop μ-loop
 mul-j-2 c = omega (arith, at (c .before))
 
--- src/lib.rt:33:17
 slice-read-j : tie.Need-slice-read-j Inv-loop μ-loop
 slice-read-j c = omega (arith, at (c .before .before))
 
--- src/lib.rt:34:19
 cast-a : tie.Need-cast-a Inv-loop μ-loop
 cast-a c = omega (arith, at (c .before .before))
 
--- src/lib.rt:34:17
 mul-a : tie.Need-mul-a Inv-loop μ-loop
 mul-a c = omega (arith, at (c .before .before))
 
--- src/lib.rt:34:17
 slice-read-a : tie.Need-slice-read-a Inv-loop μ-loop
 slice-read-a c = omega (arith, at (c .before .before .before))
 
--- src/lib.rt:35:19
 cast-b : tie.Need-cast-b Inv-loop μ-loop
 cast-b c = omega (arith, at (c .before .before .before))
 
--- src/lib.rt:35:17
 mul-b : tie.Need-mul-b Inv-loop μ-loop
 mul-b c = omega (arith, at (c .before .before .before))
 
--- src/lib.rt:35:17
 slice-read-b : tie.Need-slice-read-b Inv-loop μ-loop
 slice-read-b c = omega (arith, at (c .before .before .before .before))
 
--- src/lib.rt:36:13
 pick-requires : tie.Need-pick-requires Inv-loop μ-loop
 pick-requires c κs = tt
 
--- src/lib.rt:37:11
 add-w : tie.Need-add-w Inv-loop μ-loop
 add-w c = omega (arith, at (c .before .before .before .before .before))
 
--- src/lib.rt:37:9
 mul-w : tie.Need-mul-w Inv-loop μ-loop
 mul-w c = omega (arith, at (c .before .before .before .before .before))
 
--- src/lib.rt:37:9
 slice-write-w : tie.Need-slice-write-w Inv-loop μ-loop
 slice-write-w c = omega (arith, at (c .before .before .before .before .before))
 
--- src/lib.rt:31:5
 loop-less : tie.Need-loop-less Inv-loop μ-loop
 loop-less c = omega (arith, c .before .before .before .before .before .loop-test)
 
--- src/lib.rt:31:5
 loop-again : tie.Need-loop-again Inv-loop μ-loop
 loop-again c =
     let d = c .before .before .before .before .before in
     let l = d .before .loop in
     (omega (arith, l .inv .0), play-turn (d .before .before .before .args .m) (d .before .before .before .args .w .now) (l .w) (l .k) (c .pick .result) (l .inv .1) (d .loop-test .taken) (l .inv .0) (c .pick .ensures))
 
--- src/lib.rt:25:1
 same-length : tie.Need-same-length Inv-loop μ-loop
 same-length c = c .before .loop .inv .1 .long
 
--- src/lib.rt:25:1
 returns : tie.Need-returns Inv-loop μ-loop
 returns c = play-end (c .before .before .before .args .m) (c .before .before .before .args .w .now) (c .before .loop .w) (c .before .loop .k) (c .before .loop .inv .1) (omega arith)
 

@@ -1,37 +1,28 @@
+-- `memory::tree::weigh` meets its contract. Assumes nothing.
 use Rattle.memory.proofs.tree.TreeLaws.{weight-set}
 use native.Mathlib.Omega.{arith}
-use mathlib.Core.Path.{_≡_, refl, sym, ap, _∙_}
-use mathlib.Core.List.{List, [], _∷_, _++_}
-use Prim.Native.Nat.{ℕ, zero, suc, _+_, _-_, _*_, _≤_, _<_}
-use lib.ListN.{length, getD, set, take, drop, replicate, length-set}
+use mathlib.Core.Path.{_∙_}
+use Prim.Native.Nat.{_-_}
+use lib.ListN.{length-set}
 use borrow.Author.Needs.{needs}
 use Rattle.memory.proofs.tree.weigh.Statement.{statement}
 use Rattle.memory.proofs.tree.weigh.Tie as tie
-use Rattle.memory.proofs.tree.weigh.Reads as reads
-use Rattle.memory.proofs.tree.weigh.Lts as lts
-use Rattle.memory.proofs.tree.play.Reads as play-reads
 
--- src/lib.rt:48:5
 mul-w : tie.Need-mul-w
 mul-w c = search needs
 
--- src/lib.rt:48:5
 slice-write-w : tie.Need-slice-write-w
 slice-write-w c = search needs
 
--- src/lib.rt:49:17
 add-play : tie.Need-add-play
 add-play c = search needs
 
--- src/lib.rt:49:5
 play-requires : tie.Need-play-requires
 play-requires c κs = (weight-set (c .before .before .args .m) (c .before .before .args .w .now) (c .before .before .args .e) (c .before .before .args .v) (c .before .before .pre .0) (c .before .before .pre .1), omega arith)
 
--- src/lib.rt:43:1
 same-length : tie.Need-same-length
 same-length c = c .before .before .play .ensures .long ∙ length-set (c .before .before .before .before .before .args .w .now) (c .before .before .before .before .before .args .e) (c .before .before .before .before .before .args .v)
 
--- src/lib.rt:43:1
 returns : tie.Need-returns
 returns c = search needs
 

@@ -1,16 +1,10 @@
-use borrow.Author.Needs.{needs}
-use native.Mathlib.Omega.{arith}
-use mathlib.Core.Path.{_≡_, refl, sym, ap, _∙_}
-use mathlib.Core.List.{List, [], _∷_, _++_}
-use Prim.Native.Nat.{ℕ, zero, suc, _+_, _-_, _*_, _≤_, _<_}
-use lib.ListN.{length, getD, set, take, drop, replicate, length-set}
+-- `network::edges::begin` meets its contract. Assumes nothing.
+use mathlib.Core.Path.{refl}
+use Prim.Native.Nat.{_-_}
 use Rattle.network.specs.Edges.{begun}
 use Rattle.network.proofs.edges.begin.Statement.{statement}
 use Rattle.network.proofs.edges.begin.Tie as tie
-use Rattle.network.proofs.edges.begin.Reads as reads
-use Rattle.network.proofs.edges.begin.Lts as lts
 
--- src/lib.rt:256:1
 returns : tie.Need-returns
 unfolding begun
 returns c = (refl, refl)

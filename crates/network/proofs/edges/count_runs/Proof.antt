@@ -1,17 +1,10 @@
-use borrow.Author.Needs.{needs}
+-- `network::edges::count_runs` meets its contract. Assumes nothing.
 use Rattle.network.specs.Gather.{pairIs}
 use Rattle.network.proofs.edges.RunCount.{Counting, count-begin, count-on, count-end, count-none}
 use native.Mathlib.Omega.{arith}
-use mathlib.Core.Path.{_≡_, refl, sym, ap, _∙_}
-use mathlib.Core.List.{List, [], _∷_, _++_}
-use Prim.Native.Nat.{ℕ, zero, suc, _+_, _-_, _*_, _≤_, _<_}
-use lib.ListN.{length, getD, set, take, drop, replicate, length-set}
+use Prim.Native.Nat.{_-_}
 use Rattle.network.proofs.edges.count_runs.Statement.{statement}
 use Rattle.network.proofs.edges.count_runs.Tie as tie
-use Rattle.network.proofs.edges.count_runs.Reads as reads
-use Rattle.network.proofs.edges.count_runs.Lts as lts
-use Rattle.network.proofs.edges.next_run.Reads as next-run-reads
-use Rattle.network.proofs.edges.pair_at.Reads as pair-at-reads
 
 abbrev Inv-loop : tie.InvT-loop
 Inv-loop w vel n m p₀ e₀ i₀ p e i = Counting w vel n m (pairIs p) e i
@@ -19,39 +12,30 @@ Inv-loop w vel n m p₀ e₀ i₀ p e i = Counting w vel n m (pairIs p) e i
 abbrev μ-loop : tie.MeasureT-loop
 μ-loop w vel n m p₀ e₀ i₀ p e i = m - i
 
--- src/edges.rt:396:9
 returns : tie.Need-returns Inv-loop μ-loop
 returns c = let a = c .before .before .before .args in count-none (a .w .now) (a .vel .now) (a .n) (a .m) (c .if1 .taken)
 
--- src/edges.rt:398:9
 pair-at-requires : tie.Need-pair-at-requires Inv-loop μ-loop
 pair-at-requires c κs = (c .before .before .before .pre, omega (arith, c .if1 .left))
 
--- src/edges.rt:401:5
 loop-holds : tie.Need-loop-holds Inv-loop μ-loop
 loop-holds c = let a = c .before .before .before .before .args in count-begin (a .w .now) (a .vel .now) (a .n) (a .m) (pairIs (c .pair-at .result)) (omega (arith, c .before .if1 .left)) (c .pair-at .ensures)
 
--- src/edges.rt:402:13
 pair-at-requires-2 : tie.Need-pair-at-requires-2 Inv-loop μ-loop
 pair-at-requires-2 c κs = (c .before .before .before .before .before .before .pre, c .loop-test .taken)
 
--- src/edges.rt:403:9
 next-run-requires : tie.Need-next-run-requires Inv-loop μ-loop
 next-run-requires c κs = omega (arith, c .before .before .loop .inv .few, c .before .loop-test .taken, c .before .before .before .before .before .before .before .pre .small)
 
--- src/edges.rt:405:9
 add-i : tie.Need-add-i Inv-loop μ-loop
 add-i c = omega (arith, c .before .before .loop-test .taken, c .before .before .before .before .before .before .before .before .pre .small)
 
--- src/edges.rt:401:5
 loop-less : tie.Need-loop-less Inv-loop μ-loop
 loop-less c = omega (arith, c .before .before .loop-test .taken)
 
--- src/edges.rt:401:5
 loop-again : tie.Need-loop-again Inv-loop μ-loop
 loop-again c = let a = c .before .before .before .before .before .before .before .before .args in let l = c .before .before .before .loop in count-on (a .w .now) (a .vel .now) (a .n) (a .m) (pairIs (l .p)) (pairIs (c .before .pair-at2 .result)) (l .e) (c .next-run .result) (l .i) (l .inv) (c .before .before .loop-test .taken) (c .before .pair-at2 .ensures) (c .next-run .ensures)
 
--- src/edges.rt:391:1
 returns-2 : tie.Need-returns-2 Inv-loop μ-loop
 returns-2 c = let a = c .before .before .before .before .before .before .args in let l = c .before .loop in count-end (a .w .now) (a .vel .now) (a .n) (a .m) (pairIs (l .p)) (l .e) (l .i) (l .inv) (omega (arith, c .loop-test .left))
 

@@ -1,20 +1,13 @@
+-- `network::edges::gather` meets its contract. Assumes nothing.
 use borrow.Author.Needs.{needs}
 use native.Mathlib.Omega.{arith}
-use mathlib.Core.Path.{_≡_, refl, sym, ap, _∙_}
-use mathlib.Core.List.{List, [], _∷_, _++_}
-use Prim.Native.Nat.{ℕ, zero, suc, _+_, _-_, _*_, _≤_, _<_}
-use lib.ListN.{length, getD, set, take, drop, replicate, length-set}
+use mathlib.Core.Path.{ap, _∙_}
+use Prim.Native.Nat.{_-_, _≤_}
 use Rattle.network.proofs.edges.Going.{lw, ld}
 use Rattle.network.specs.Edges.{begun}
 use Rattle.network.proofs.edges.Going.{Going, going-begin, going-ready, going-slot, going-on, going-end, none-gathered}
 use Rattle.network.proofs.edges.gather.Statement.{statement}
 use Rattle.network.proofs.edges.gather.Tie as tie
-use Rattle.network.proofs.edges.gather.Reads as reads
-use Rattle.network.proofs.edges.gather.Lts as lts
-use Rattle.network.proofs.edges.begin.Reads as begin-reads
-use Rattle.network.proofs.edges.gather_one.Reads as gather-one-reads
-use Rattle.network.proofs.edges.pair_at.Reads as pair-at-reads
-use Rattle.network.proofs.edges.put_edge.Reads as put-edge-reads
 
 abbrev Inv-loop : tie.InvT-loop
 Inv-loop w₀ d₀ vel n m t c wide s₀ i₀ w d s i = (i ≤ m) × Going wide w₀ d₀ vel n m t c w d s i
@@ -22,55 +15,42 @@ Inv-loop w₀ d₀ vel n m t c wide s₀ i₀ w d s i = (i ≤ m) × Going wide 
 abbrev μ-loop : tie.MeasureT-loop
 μ-loop w₀ d₀ vel n m t c wide s₀ i₀ w d s i = m - i
 
--- src/lib.rt:357:9
 returns : tie.Need-returns Inv-loop μ-loop
 returns c = let a = c .before .before .before .before .args in none-gathered (a .wide) (a .w .now) (a .d .now) (a .vel .now) (a .n) (a .m) (a .t) (a .c) (c .if1 .taken)
 
--- src/lib.rt:359:9
 pair-at-requires : tie.Need-pair-at-requires Inv-loop μ-loop
 pair-at-requires c κs = (c .before .before .before .before .before .pre .ready, omega (arith, c .before .if1 .left))
 
--- src/lib.rt:360:9
 begin-requires : tie.Need-begin-requires Inv-loop μ-loop
 begin-requires c κs = search needs
 
--- src/lib.rt:362:5
 loop-holds : tie.Need-loop-holds Inv-loop μ-loop
 loop-holds c = let a = c .before .before .before .before .before .before .before .args in (omega (arith, c .before .before .before .if1 .left), going-begin (a .wide) (a .w .now) (a .d .now) (a .vel .now) (a .n) (a .m) (a .t) (a .c) (c .before .before .before .before .before .before .before .pre) (c .begin .result) (omega (arith, c .before .before .before .if1 .left)) (c .begin .ensures .0 ∙ ap begun (c .before .pair-at .ensures)) (c .begin .ensures .1))
 
--- src/lib.rt:363:9
 gather-one-requires : tie.Need-gather-one-requires Inv-loop μ-loop
 gather-one-requires c κs = let a = c .before .before .before .before .before .before .before .before .before .before .before .args in let l = c .before .before .before .loop in (going-ready (a .wide) (a .w .now) (a .d .now) (a .vel .now) (a .n) (a .m) (a .t) (a .c) (c .before .before .before .before .before .before .before .before .before .before .before .pre) (l .w) (l .d) (l .s) (l .i) (l .inv .1), (going-slot (a .wide) (a .w .now) (a .d .now) (a .vel .now) (a .n) (a .m) (a .t) (a .c) (c .before .before .before .before .before .before .before .before .before .before .before .pre) (l .w) (l .d) (l .s) (l .i) (l .inv .1), (c .before .before .loop-test .taken, omega (arith, l .inv .1 .few, c .before .before .loop-test .taken, c .before .before .before .before .before .before .before .before .before .before .before .pre .ready .small))))
 
--- src/lib.rt:364:9
 add-i : tie.Need-add-i Inv-loop μ-loop
 add-i c = omega (arith, c .before .before .before .before .before .before .before .loop-test .taken, c .before .before .before .before .before .before .before .before .before .before .before .before .before .before .before .before .pre .ready .small)
 
--- src/lib.rt:362:5
 loop-less : tie.Need-loop-less Inv-loop μ-loop
 loop-less c = omega (arith, c .before .before .before .before .before .before .before .loop-test .taken)
 
--- src/lib.rt:362:5
 loop-again : tie.Need-loop-again Inv-loop μ-loop
 loop-again c = let a = c .before .before .before .before .before .before .before .before .before .before .before .before .before .before .before .before .args in let l = c .before .before .before .before .before .before .before .before .loop in (omega (arith, c .before .before .before .before .before .before .before .loop-test .taken), going-on (a .wide) (a .w .now) (a .d .now) (a .vel .now) (a .n) (a .m) (a .t) (a .c) (c .before .before .before .before .before .before .before .before .before .before .before .before .before .before .before .before .pre) (l .w) (l .d) (l .s) (l .i) (l .inv .1) (c .before .before .before .before .gather-one .last .0) (c .before .before .before .before .gather-one .last .1 .0) (c .before .before .before .before .gather-one .result) (c .before .before .before .before .before .before .before .loop-test .taken) (c .before .before .before .before .gather-one .ensures))
 
--- src/lib.rt:366:5
 put-edge-requires : tie.Need-put-edge-requires Inv-loop μ-loop
 put-edge-requires c κs = let a = c .before .before .before .before .before .before .before .before .before .before .before .args in let l = c .before .before .before .loop in let z = going-slot (a .wide) (a .w .now) (a .d .now) (a .vel .now) (a .n) (a .m) (a .t) (a .c) (c .before .before .before .before .before .before .before .before .before .before .before .pre) (l .w) (l .d) (l .s) (l .i) (l .inv .1) in (z .words, z .diffs, z .place)
 
--- src/lib.rt:367:5
 add-result : tie.Need-add-result Inv-loop μ-loop
 add-result c = let a = c .before .before .before .before .before .before .before .before .before .before .before .before .before .before .before .before .before .args in let l = c .before .before .before .before .before .before .before .before .before .loop in let z = going-slot (a .wide) (a .w .now) (a .d .now) (a .vel .now) (a .n) (a .m) (a .t) (a .c) (c .before .before .before .before .before .before .before .before .before .before .before .before .before .before .before .before .before .pre) (l .w) (l .d) (l .s) (l .i) (l .inv .1) in omega (arith, z .place, c .before .before .before .before .before .before .before .before .before .before .before .before .before .before .before .before .before .fits .c)
 
--- src/lib.rt:343:1
 same-length : tie.Need-same-length Inv-loop μ-loop
 same-length c = let a = c .before .before .before .before .before .before .before .before .before .before .before .before .before .before .before .before .before .args in let l = c .before .before .before .before .before .before .before .before .before .loop in c .before .before .before .before .before .put-edge .kept .0 ∙ lw (a .wide) (a .w .now) (a .d .now) (a .vel .now) (a .n) (a .m) (a .t) (a .c) (c .before .before .before .before .before .before .before .before .before .before .before .before .before .before .before .before .before .pre) (l .w) (l .d) (l .s) (l .i) (l .inv .1)
 
--- src/lib.rt:343:1
 same-length-2 : tie.Need-same-length-2 Inv-loop μ-loop
 same-length-2 c = let a = c .before .before .before .before .before .before .before .before .before .before .before .before .before .before .before .before .before .args in let l = c .before .before .before .before .before .before .before .before .before .loop in c .before .before .before .before .before .put-edge .kept .1 .0 ∙ ld (a .wide) (a .w .now) (a .d .now) (a .vel .now) (a .n) (a .m) (a .t) (a .c) (c .before .before .before .before .before .before .before .before .before .before .before .before .before .before .before .before .before .pre) (l .w) (l .d) (l .s) (l .i) (l .inv .1)
 
--- src/lib.rt:343:1
 returns-2 : tie.Need-returns-2 Inv-loop μ-loop
 returns-2 c = let a = c .before .before .before .before .before .before .before .before .before .before .before .before .before .before .before .before .before .args in let l = c .before .before .before .before .before .before .before .before .before .loop in going-end (a .wide) (a .w .now) (a .d .now) (a .vel .now) (a .n) (a .m) (a .t) (a .c) (c .before .before .before .before .before .before .before .before .before .before .before .before .before .before .before .before .before .pre) (l .w) (l .d) (l .s) (l .i) (l .inv .1) (c .before .before .before .before .before .put-edge .last .0) (c .before .before .before .before .before .put-edge .last .1 .0) (c .before .before .before .before .before .before .before .before .loop-test .left) (c .before .before .before .before .before .put-edge .ensures .0) (c .before .before .before .before .before .put-edge .ensures .1)
 

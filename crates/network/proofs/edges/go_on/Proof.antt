@@ -1,22 +1,16 @@
+-- `network::edges::go_on` meets its contract. Assumes nothing.
 use native.Mathlib.Omega.{arith}
-use mathlib.Core.Path.{_≡_, refl, sym, ap, _∙_}
-use mathlib.Core.List.{List, [], _∷_, _++_}
-use Prim.Native.Nat.{ℕ, zero, suc, _+_, _-_, _*_, _≤_, _<_}
-use lib.ListN.{length, getD, set, take, drop, replicate, length-set}
+use mathlib.Core.Path.{_≡_, refl}
+use Prim.Native.Nat.{suc, _+_, _-_}
 use borrow.Author.Needs.{needs}
 use lib.Ieee.{add, binary64}
 use Rattle.network.specs.Edges.{plus}
 use Rattle.network.proofs.edges.go_on.Statement.{statement}
 use Rattle.network.proofs.edges.go_on.Tie as tie
-use Rattle.network.proofs.edges.go_on.Reads as reads
-use Rattle.network.proofs.edges.go_on.Lts as lts
-use Rattle.network.specs.declared.edges.EdgeRecord.{EdgeRecord}
 
--- src/lib.rt:277:16
 add-t3 : tie.Need-add-t3
 add-t3 c = search needs
 
--- src/lib.rt:270:1
 returns : tie.Need-returns
 unfolding plus
 returns c = let s = c .before .before .before .before .before .args .s in let p = c .before .before .before .before .before .args .p in let e : s .count + 1 ≡ suc (s .count) = omega arith in ((λ j. record { one = s .one; two = s .two; count = e j; sum1 = add binary64 (s .sum1) (p .vel1); sum2 = add binary64 (s .sum2) (p .vel2) }), refl)

@@ -1,16 +1,14 @@
+-- `network::edges::labels_of` meets its contract. Assumes nothing.
 use borrow.Author.Needs.{needs}
 use native.Mathlib.Omega.{arith}
-use mathlib.Core.Path.{_≡_, refl, sym, ap, _∙_}
-use mathlib.Core.List.{List, [], _∷_, _++_}
-use Prim.Native.Nat.{ℕ, zero, suc, _+_, _-_, _*_, _≤_, _<_}
-use lib.ListN.{length, getD, set, take, drop, replicate, length-set}
+use mathlib.Core.Path.{_≡_, refl, ap, _∙_}
+use Prim.Native.Nat.{ℕ, _-_, _≤_}
+use lib.ListN.{length, length-set}
 use Rattle.network.proofs.edges.Fills.{Turn, turn, labels-begin}
 use Rattle.network.specs.Sorts.{labelsOf}
 use Rattle.arithmetic.specs.Seg.{put}
 use Rattle.network.proofs.edges.labels_of.Statement.{statement}
 use Rattle.network.proofs.edges.labels_of.Tie as tie
-use Rattle.network.proofs.edges.labels_of.Reads as reads
-use Rattle.network.proofs.edges.labels_of.Lts as lts
 
 abbrev Inv-loop : tie.InvT-loop
 Inv-loop w₀ n src m dst i₀ w i = (i ≤ m) × ((w ≡ put w₀ dst (labelsOf w₀ src i)) × (length w ≡ length w₀))
@@ -24,59 +22,45 @@ at c = let a = c .before .before .args in let l = c .before .loop in turn (a .w 
 loop-holds : tie.Need-loop-holds Inv-loop μ-loop
 loop-holds c = (omega arith, (labels-begin (c .args .w .now) (c .args .src) (c .args .dst), refl))
 
--- src/lib.rt:199:19
 add-x : tie.Need-add-x Inv-loop μ-loop
 add-x c = omega (arith, at c)
 
--- src/lib.rt:199:17
 mul-x : tie.Need-mul-x Inv-loop μ-loop
 mul-x c = omega (arith, at c)
 
--- src/lib.rt:199:17
 slice-read-x : tie.Need-slice-read-x Inv-loop μ-loop
 slice-read-x c = omega (arith, at (c .before))
 
--- src/lib.rt:199:17
 cast-x : tie.Need-cast-x Inv-loop μ-loop
 cast-x c = omega (arith, at (c .before))
 
--- src/lib.rt:200:22
 mul-w : tie.Need-mul-w Inv-loop μ-loop
 mul-w c = omega (arith, at (c .before))
 
--- src/lib.rt:200:22
 slice-read-w : tie.Need-slice-read-w Inv-loop μ-loop
 slice-read-w c = omega (arith, at (c .before .before))
 
--- src/lib.rt:200:11
 add-w : tie.Need-add-w Inv-loop μ-loop
 add-w c = omega (arith, at (c .before .before))
 
--- src/lib.rt:200:9
 mul-w-2 : tie.Need-mul-w-2 Inv-loop μ-loop
 mul-w-2 c = omega (arith, at (c .before .before))
 
--- src/lib.rt:200:9
 slice-write-w : tie.Need-slice-write-w Inv-loop μ-loop
 slice-write-w c = omega (arith, at (c .before .before))
 
--- src/lib.rt:201:9
 add-i : tie.Need-add-i Inv-loop μ-loop
 add-i c = search needs
 
--- src/lib.rt:198:5
 loop-less : tie.Need-loop-less Inv-loop μ-loop
 loop-less c = search needs
 
--- src/lib.rt:198:5
 loop-again : tie.Need-loop-again Inv-loop μ-loop
 loop-again c = (omega arith, (at (c .before .before) .step, simp length-set (at (c .before .before) .long)))
 
--- src/lib.rt:193:1
 same-length : tie.Need-same-length Inv-loop μ-loop
 same-length c = search needs
 
--- src/lib.rt:193:1
 returns : tie.Need-returns Inv-loop μ-loop
 returns c = c .before .loop .inv .1 .0 ∙ ap (λ (x : ℕ). put (c .before .before .args .w .now) (c .before .before .args .dst) (labelsOf (c .before .before .args .w .now) (c .before .before .args .src) x)) (omega (arith, c .before .loop .inv .0, c .loop-test .left))
 

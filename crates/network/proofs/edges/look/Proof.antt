@@ -1,10 +1,9 @@
+-- `network::edges::look` meets its contract. Assumes nothing.
 use borrow.Author.Needs.{needs}
 use native.Mathlib.Omega.{arith}
-use mathlib.Core.Path.{_≡_, refl, sym, ap, _∙_}
-use mathlib.Core.List.{List, [], _∷_, _++_}
-use Prim.Native.Nat.{ℕ, zero, suc, _+_, _-_, _*_, _≤_, _<_}
-use lib.ListN.{length, getD, set, take, drop, replicate, length-set}
-use mathlib.Core.Option.{some, none}
+use mathlib.Core.Path.{_≡_, sym, ap, _∙_}
+use Prim.Native.Nat.{ℕ, suc, _-_, _*_, _<_}
+use mathlib.Core.Option.{some}
 use Rattle.network.proofs.edges.Looking.{none-on, seen-on, skip-on, last-on, begins}
 use Rattle.network.proofs.edges.Next.{next-in}
 use Rattle.network.specs.Sees.{shape, way, answer}
@@ -12,10 +11,6 @@ use Rattle.network.specs.Edges.{sees, next}
 use Rattle.network.specs.Edges as edges
 use Rattle.network.proofs.edges.look.Statement.{statement}
 use Rattle.network.proofs.edges.look.Tie as tie
-use Rattle.network.proofs.edges.look.Reads as reads
-use Rattle.network.proofs.edges.look.Lts as lts
-use Rattle.network.proofs.edges.reach.Reads as reach-reads
-use Rattle.network.proofs.edges.step.Reads as step-reads
 
 abbrev Inv-loop : tie.InvT-loop
 Inv-loop labels f d g left₀ h₀ left h = (h < f .rays * f .gates) × (sees (shape f) labels (way d) g ≡ edges.look (shape f) (way d) labels (suc left) h)
@@ -23,7 +18,6 @@ Inv-loop labels f d g left₀ h₀ left h = (h < f .rays * f .gates) × (sees (s
 abbrev μ-loop : tie.MeasureT-loop
 μ-loop labels f d g left₀ h₀ left h = left
 
--- src/lib.rt:111:9
 reach-requires : tie.Need-reach-requires Inv-loop μ-loop
 reach-requires c κs = search needs
 
@@ -37,47 +31,36 @@ inside c = next-in (shape (c .before .before .before .before .before .before .be
 loop-holds : tie.Need-loop-holds Inv-loop μ-loop
 loop-holds c = (c .before .before .pre .inside, begins (shape (c .before .before .args .f)) (way (c .before .before .args .d)) (c .before .before .args .labels .now) (c .reach .result) (c .before .before .args .g) (c .reach .ensures))
 
--- src/lib.rt:114:13
 step-requires : tie.Need-step-requires Inv-loop μ-loop
 step-requires c κs = record { inside = c .loop .inv .0; small = c .before .before .before .pre .small }
 
--- src/lib.rt:115:22
 enum-known-s : tie.Need-enum-known-s Inv-loop μ-loop
 enum-known-s c = search needs
 
--- src/lib.rt:116:13
 enum-told : tie.Need-enum-told Inv-loop μ-loop
 enum-told c = search needs
 
--- src/lib.rt:116:13
 returns : tie.Need-returns Inv-loop μ-loop
 returns c = sym (c .before .before .before .loop .inv .1 ∙ none-on (shape (c .before .before .before .before .before .before .args .f)) (way (c .before .before .before .before .before .before .args .d)) (c .before .before .before .before .before .before .args .labels .now) (c .before .before .before .loop .left) (c .before .before .before .loop .h) (sym (c .before .before .step .ensures) ∙ ap answer (c .enum-told .given .1)))
 
--- src/lib.rt:118:12
 mul-if1 : tie.Need-mul-if1 Inv-loop μ-loop
 mul-if1 c = omega (arith, inside c, c .before .before .before .before .before .before .before .pre .small)
 
--- src/lib.rt:118:12
 shared-slice-read-if1 : tie.Need-shared-slice-read-if1 Inv-loop μ-loop
 shared-slice-read-if1 c = omega (arith, inside (c .before), c .before .before .before .before .before .before .before .before .pre .whole)
 
--- src/lib.rt:119:13
 returns-2 : tie.Need-returns-2 Inv-loop μ-loop
 returns-2 c = sym (c .before .before .before .before .before .before .loop .inv .1 ∙ seen-on (shape (c .before .before .before .before .before .before .before .before .before .args .f)) (way (c .before .before .before .before .before .before .before .before .before .args .d)) (c .before .before .before .before .before .before .before .before .before .args .labels .now) (c .before .before .before .before .before .before .loop .left) (c .before .before .before .before .before .before .loop .h) (c .before .before .before .s .given .0 .0) (is-next (c .before .before)) (c .if1 .taken))
 
--- src/lib.rt:122:13
 returns-3 : tie.Need-returns-3 Inv-loop μ-loop
 returns-3 c = sym (c .before .before .before .before .before .before .before .loop .inv .1 ∙ ap (λ (x : ℕ). edges.look (shape (c .before .before .before .before .before .before .before .before .before .before .args .f)) (way (c .before .before .before .before .before .before .before .before .before .before .args .d)) (c .before .before .before .before .before .before .before .before .before .before .args .labels .now) (suc x) (c .before .before .before .before .before .before .before .loop .h)) (c .if2 .taken) ∙ last-on (shape (c .before .before .before .before .before .before .before .before .before .before .args .f)) (way (c .before .before .before .before .before .before .before .before .before .before .args .d)) (c .before .before .before .before .before .before .before .before .before .before .args .labels .now) (c .before .before .before .before .before .before .before .loop .h) (c .before .before .before .before .s .given .0 .0) (is-next (c .before .before .before)) (c .before .if1 .left))
 
--- src/lib.rt:125:9
 sub-left : tie.Need-sub-left Inv-loop μ-loop
 sub-left c = search needs
 
--- src/lib.rt:113:5
 loop-less : tie.Need-loop-less Inv-loop μ-loop
 loop-less c = search needs
 
--- src/lib.rt:113:5
 loop-again : tie.Need-loop-again Inv-loop μ-loop
 loop-again c = (inside (c .before .before .before), c .before .before .before .before .before .before .before .loop .inv .1 ∙ skip-on (shape (c .before .before .before .before .before .before .before .before .before .before .args .f)) (way (c .before .before .before .before .before .before .before .before .before .before .args .d)) (c .before .before .before .before .before .before .before .before .before .before .args .labels .now) (c .before .before .before .before .before .before .before .loop .left) (c .before .before .before .before .before .before .before .loop .h) (c .before .before .before .before .s .given .0 .0) (is-next (c .before .before .before)) (c .before .if1 .left) ∙ ap (λ (x : ℕ). edges.look (shape (c .before .before .before .before .before .before .before .before .before .before .args .f)) (way (c .before .before .before .before .before .before .before .before .before .before .args .d)) (c .before .before .before .before .before .before .before .before .before .before .args .labels .now) x (c .before .before .before .before .s .given .0 .0)) (omega (arith, c .if2 .left)))
 

@@ -1,8 +1,6 @@
-use native.Mathlib.Omega.{arith}
-use mathlib.Core.Path.{_≡_, refl, sym, ap, _∙_}
-use mathlib.Core.List.{List, [], _∷_, _++_}
-use Prim.Native.Nat.{ℕ, zero, suc, _+_, _-_, _*_, _≤_, _<_}
-use lib.ListN.{length, getD, set, take, drop, replicate, length-set}
+-- `network::edges::next_run` meets its contract. Assumes nothing.
+use mathlib.Core.Path.{sym, ap, _∙_}
+use Prim.Native.Nat.{_+_, _-_}
 use borrow.Author.Needs.{needs}
 use mathlib.Core.Bool.{Bool, cond}
 use Rattle.network.specs.declared.edges.EdgeRecord.{EdgeRecord}
@@ -10,30 +8,21 @@ use Rattle.network.specs.Gather.{pairIs}
 use Rattle.network.specs.Order.{alike}
 use Rattle.network.proofs.edges.next_run.Statement.{statement}
 use Rattle.network.proofs.edges.next_run.Tie as tie
-use Rattle.network.proofs.edges.next_run.Reads as reads
-use Rattle.network.proofs.edges.next_run.Lts as lts
-use Rattle.network.proofs.edges.begin.Reads as begin-reads
-use Rattle.network.proofs.edges.same_labels.Reads as same-labels-reads
 
--- src/edges.rt:384:20
 begin-requires : tie.Need-begin-requires
 begin-requires c κs = search needs
 
--- src/edges.rt:384:8
 same-labels-requires : tie.Need-same-labels-requires
 same-labels-requires c κs = search needs
 
--- src/edges.rt:385:9
 returns : tie.Need-returns
 returns c =
     let a = c .before .before .before .args in
     sym (ap (λ (b : Bool). cond b (a .e) (a .e + 1)) (ap (λ (r : EdgeRecord). alike r (pairIs (a .q))) (sym (c .before .before .begin .ensures .0)) ∙ sym (c .before .same-labels .ensures) ∙ c .if1 .taken))
 
--- src/edges.rt:387:5
 add-result : tie.Need-add-result
 add-result c = search needs
 
--- src/edges.rt:380:1
 returns-2 : tie.Need-returns-2
 returns-2 c =
     let a = c .before .before .before .args in

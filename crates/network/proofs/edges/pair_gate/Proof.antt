@@ -1,50 +1,36 @@
+-- `network::edges::pair_gate` meets its contract. Assumes nothing.
 use native.Mathlib.Omega.{arith}
-use mathlib.Core.Path.{_≡_, refl, sym, ap, _∙_}
-use mathlib.Core.List.{List, [], _∷_, _++_}
-use Prim.Native.Nat.{ℕ, zero, suc, _+_, _-_, _*_, _≤_, _<_}
-use lib.ListN.{length, getD, set, take, drop, replicate, length-set}
+use Prim.Native.Nat.{_-_}
 use borrow.Author.Needs.{needs}
 use Rattle.network.proofs.edges.PairTurn.{place-less, place-on, four, unlabelled}
-use Rattle.network.specs.Edges.{left, right, top, bottom}
+use Rattle.network.specs.Edges.{left, right, top}
 use Rattle.network.proofs.edges.pair_gate.Statement.{statement}
 use Rattle.network.proofs.edges.pair_gate.Tie as tie
-use Rattle.network.proofs.edges.pair_gate.Reads as reads
-use Rattle.network.proofs.edges.pair_gate.Lts as lts
-use Rattle.network.proofs.edges.pair_one.Reads as pair-one-reads
 
--- src/lib.rt:154:8
 mul-if1 : tie.Need-mul-if1
 mul-if1 c = search needs
 
--- src/lib.rt:154:8
 slice-read-if1 : tie.Need-slice-read-if1
 slice-read-if1 c = search needs
 
--- src/lib.rt:155:9
 returns : tie.Need-returns
 returns c = let a = c .before .before .before .args in unlabelled (a .f) (a .n) (a .w .now) (a .g) (a .c) (c .before .before .before .pre .inside) (c .if1 .taken)
 
--- src/lib.rt:157:9
 pair-one-requires : tie.Need-pair-one-requires
 pair-one-requires c κs = search needs
 
--- src/lib.rt:158:9
 pair-one-requires-2 : tie.Need-pair-one-requires-2
 pair-one-requires-2 c κs = let a = c .before .before .before .before .before .before .before .before .args in place-less (a .f) (a .n) (c .before .before .before .pair-one .last .0) (a .g) (c .before .before .before .pair-one .result) 3 1 (place-on (a .f) (a .n) (a .w .now) (c .before .before .before .pair-one .last .0) (a .g) (a .c) (c .before .before .before .pair-one .result) 3 left (c .before .before .before .before .before .before .before .before .pre) (c .before .before .before .pair-one .ensures)) (omega arith)
 
--- src/lib.rt:159:9
 pair-one-requires-3 : tie.Need-pair-one-requires-3
 pair-one-requires-3 c κs = let a = c .before .before .before .before .before .before .before .before .before .before .before .before .args in place-less (a .f) (a .n) (c .before .before .before .pair-one2 .last .0) (a .g) (c .before .before .before .pair-one2 .result) 2 1 (place-on (a .f) (a .n) (c .before .before .before .before .before .before .before .pair-one .last .0) (c .before .before .before .pair-one2 .last .0) (a .g) (c .before .before .before .before .before .before .before .pair-one .result) (c .before .before .before .pair-one2 .result) 2 right (place-on (a .f) (a .n) (a .w .now) (c .before .before .before .before .before .before .before .pair-one .last .0) (a .g) (a .c) (c .before .before .before .before .before .before .before .pair-one .result) 3 left (c .before .before .before .before .before .before .before .before .before .before .before .before .pre) (c .before .before .before .before .before .before .before .pair-one .ensures)) (c .before .before .before .pair-one2 .ensures)) (omega arith)
 
--- src/lib.rt:160:5
 pair-one-requires-4 : tie.Need-pair-one-requires-4
 pair-one-requires-4 c κs = let a = c .before .before .before .before .before .before .before .before .before .before .before .before .before .before .before .before .args in place-on (a .f) (a .n) (c .before .before .before .before .before .before .before .pair-one2 .last .0) (c .before .before .before .pair-one3 .last .0) (a .g) (c .before .before .before .before .before .before .before .pair-one2 .result) (c .before .before .before .pair-one3 .result) 1 top (place-on (a .f) (a .n) (c .before .before .before .before .before .before .before .before .before .before .before .pair-one .last .0) (c .before .before .before .before .before .before .before .pair-one2 .last .0) (a .g) (c .before .before .before .before .before .before .before .before .before .before .before .pair-one .result) (c .before .before .before .before .before .before .before .pair-one2 .result) 2 right (place-on (a .f) (a .n) (a .w .now) (c .before .before .before .before .before .before .before .before .before .before .before .pair-one .last .0) (a .g) (a .c) (c .before .before .before .before .before .before .before .before .before .before .before .pair-one .result) 3 left (c .before .before .before .before .before .before .before .before .before .before .before .before .before .before .before .before .pre) (c .before .before .before .before .before .before .before .before .before .before .before .pair-one .ensures)) (c .before .before .before .before .before .before .before .pair-one2 .ensures)) (c .before .before .before .pair-one3 .ensures)
 
--- src/lib.rt:150:1
 same-length : tie.Need-same-length
 same-length c = search needs
 
--- src/lib.rt:150:1
 returns-2 : tie.Need-returns-2
 returns-2 c = let a = c .before .before .before .before .before .before .before .before .before .before .before .before .before .before .before .before .before .before .before .args in four (a .f) (a .n) (a .g) (a .w .now) (c .before .before .before .before .before .before .before .before .before .before .before .before .before .before .pair-one .last .0) (c .before .before .before .before .before .before .before .before .before .before .pair-one2 .last .0) (c .before .before .before .before .before .before .pair-one3 .last .0) (c .before .before .pair-one4 .last .0) (a .c) (c .before .before .before .before .before .before .before .before .before .before .before .before .before .before .pair-one .result) (c .before .before .before .before .before .before .before .before .before .before .pair-one2 .result) (c .before .before .before .before .before .before .pair-one3 .result) (c .before .before .pair-one4 .result) (c .before .before .before .before .before .before .before .before .before .before .before .before .before .before .before .before .before .before .before .pre) (c .before .before .before .before .before .before .before .before .before .before .before .before .before .before .before .before .if1 .left) (c .before .before .before .before .before .before .before .before .before .before .before .before .before .before .pair-one .ensures) (c .before .before .before .before .before .before .before .before .before .before .pair-one2 .ensures) (c .before .before .before .before .before .before .pair-one3 .ensures) (c .before .before .pair-one4 .ensures)
 

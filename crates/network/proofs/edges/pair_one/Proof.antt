@@ -1,49 +1,38 @@
+-- `network::edges::pair_one` meets its contract. Assumes nothing.
 use native.Mathlib.Omega.{arith}
-use mathlib.Core.Path.{_≡_, refl, sym, ap, _∙_}
-use mathlib.Core.List.{List, [], _∷_, _++_}
-use Prim.Native.Nat.{ℕ, zero, suc, _+_, _-_, _*_, _≤_, _<_}
-use lib.ListN.{length, getD, set, take, drop, replicate, length-set}
+use mathlib.Core.Path.{_≡_, sym, ap, _∙_}
+use Prim.Native.Nat.{ℕ, _-_, _<_}
+use lib.ListN.{length-set}
 use borrow.Author.Needs.{needs}
-use mathlib.Core.Option.{some, none}
+use mathlib.Core.Option.{some}
 use Rattle.network.proofs.edges.PairTurn.{saw-none, saw-other, saw-less, seen-in}
 use Rattle.network.specs.Sees.{shape, way, answer}
 use Rattle.network.specs.Edges.{sees}
 use Rattle.arithmetic.specs.Seg.{seg}
 use Rattle.network.proofs.edges.pair_one.Statement.{statement}
 use Rattle.network.proofs.edges.pair_one.Tie as tie
-use Rattle.network.proofs.edges.pair_one.Reads as reads
-use Rattle.network.proofs.edges.pair_one.Lts as lts
-use Rattle.network.proofs.edges.look.Reads as look-reads
 
--- src/lib.rt:137:18
 sub-look : tie.Need-sub-look
 sub-look c = search needs
 
--- src/lib.rt:137:18
 part-look-start : tie.Need-part-look-start
 part-look-start c = search needs
 
--- src/lib.rt:137:18
 part-look-end : tie.Need-part-look-end
 part-look-end c = search needs
 
--- src/lib.rt:137:9
 look-requires : tie.Need-look-requires
 look-requires c κs = search needs
 
--- src/lib.rt:138:18
 enum-known-s : tie.Need-enum-known-s
 enum-known-s c = search needs
 
--- src/lib.rt:139:9
 enum-told : tie.Need-enum-told
 enum-told c = search needs
 
--- src/lib.rt:139:9
 same-length : tie.Need-same-length
 same-length c = search needs
 
--- src/lib.rt:139:9
 -- what the look said
 known : (c : tie.After-look) → sees (shape (c .before .before .before .before .args .f)) (seg (c .before .before .before .before .args .w .now) 0 (c .before .before .before .before .args .n)) (way (c .before .before .before .before .args .d)) (c .before .before .before .before .args .g) ≡ answer (c .look .result)
 unfolding seg
@@ -58,75 +47,57 @@ inside c = let a = c .before .before .before .before .before .before .args in se
 returns : tie.Need-returns
 returns c = let a = c .before .before .before .before .before .before .args in saw-none (a .n) (a .w .now) (a .g) (a .c) (sees (shape (a .f)) (seg (a .w .now) 0 (a .n)) (way (a .d)) (a .g)) (known (c .before .before) ∙ ap answer (c .enum-told .given .1))
 
--- src/lib.rt:141:8
 mul-if1 : tie.Need-mul-if1
 mul-if1 c = search needs
 
--- src/lib.rt:141:8
 slice-read-if1 : tie.Need-slice-read-if1
 slice-read-if1 c = search needs
 
--- src/lib.rt:141:16
 mul-if1-2 : tie.Need-mul-if1-2
 mul-if1-2 c = omega (arith, inside (c .before .before), c .before .before .before .before .before .before .before .before .pre .small)
 
--- src/lib.rt:141:16
 slice-read-if1-2 : tie.Need-slice-read-if1-2
 slice-read-if1-2 c = omega (arith, inside (c .before .before .before), c .before .before .before .before .before .before .before .before .before .pre .room)
 
--- src/lib.rt:142:9
 same-length-2 : tie.Need-same-length-2
 same-length-2 c = search needs
 
--- src/lib.rt:142:9
 returns-2 : tie.Need-returns-2
 returns-2 c = let a = c .before .before .before .before .before .before .before .before .before .before .args in saw-other (a .n) (a .w .now) (a .g) (a .c) (sees (shape (a .f)) (seg (a .w .now) 0 (a .n)) (way (a .d)) (a .g)) (c .before .before .before .before .s .given .0 .0) (saw (c .before .before .before .before)) (c .before .before .before .before .before .before .before .before .before .before .pre .inside) (inside (c .before .before .before .before)) (c .if1 .taken)
 
--- src/lib.rt:144:16
 cast-w : tie.Need-cast-w
 cast-w c = search needs
 
--- src/lib.rt:144:7
 add-w : tie.Need-add-w
 add-w c = search needs
 
--- src/lib.rt:144:5
 mul-w : tie.Need-mul-w
 mul-w c = search needs
 
--- src/lib.rt:144:5
 slice-write-w : tie.Need-slice-write-w
 slice-write-w c = search needs
 
--- src/lib.rt:145:20
 cast-w-2 : tie.Need-cast-w-2
 cast-w-2 c = omega (arith, inside (c .before .before .before .before), c .before .before .before .before .before .before .before .before .before .before .pre .small)
 
--- src/lib.rt:145:7
 mul-w-2 : tie.Need-mul-w-2
 mul-w-2 c = search needs
 
--- src/lib.rt:145:7
 add-w-2 : tie.Need-add-w-2
 add-w-2 c = search needs
 
--- src/lib.rt:145:5
 mul-w-3 : tie.Need-mul-w-3
 mul-w-3 c = search needs
 
--- src/lib.rt:145:5
 slice-write-w-2 : tie.Need-slice-write-w-2
 slice-write-w-2 c = simp length-set (omega (arith, c .before .before .before .before .before .before .before .before .before .before .pre .room, c .before .before .before .before .before .before .before .before .before .before .pre .place))
 
--- src/lib.rt:146:5
 add-result : tie.Need-add-result
 add-result c = search needs
 
--- src/lib.rt:133:1
 same-length-3 : tie.Need-same-length-3
 same-length-3 c = search needs
 
--- src/lib.rt:133:1
 returns-3 : tie.Need-returns-3
 returns-3 c = let a = c .before .before .before .before .before .before .before .before .before .before .args in saw-less (a .n) (a .w .now) (a .g) (a .c) (sees (shape (a .f)) (seg (a .w .now) 0 (a .n)) (way (a .d)) (a .g)) (c .before .before .before .before .s .given .0 .0) (saw (c .before .before .before .before)) (c .before .before .before .before .before .before .before .before .before .before .pre .inside) (inside (c .before .before .before .before)) (c .if1 .left)
 

@@ -1,67 +1,46 @@
-use native.Mathlib.Omega.{arith}
-use mathlib.Core.Path.{_≡_, refl, sym, ap, _∙_}
-use mathlib.Core.List.{List, [], _∷_, _++_}
-use Prim.Native.Nat.{ℕ, zero, suc, _+_, _-_, _*_, _≤_, _<_}
-use lib.ListN.{length, getD, set, take, drop, replicate, length-set}
+-- `network::edges::sort_pairs` meets its contract. Assumes nothing.
+use Prim.Native.Nat.{_-_}
 use borrow.Author.Needs.{needs}
 use Rattle.network.proofs.edges.SortSteps.{reads-one, reads-two, sort-lay, sort-done}
 use Rattle.network.proofs.edges.sort_pairs.Statement.{statement}
 use Rattle.network.proofs.edges.sort_pairs.Tie as tie
-use Rattle.network.proofs.edges.sort_pairs.Reads as reads
-use Rattle.network.proofs.edges.sort_pairs.Lts as lts
-use Rattle.network.proofs.edges.labels_of.Reads as labels-of-reads
-use Rattle.network.proofs.edges.number.Reads as number-reads
-use Rattle.memory.proofs.sort.sort2.Reads as sort2-reads
 
--- src/lib.rt:210:16
 mul-base : tie.Need-mul-base
 mul-base c = search needs
 
--- src/lib.rt:211:5
 number-requires : tie.Need-number-requires
 number-requires c κs = search needs
 
--- src/lib.rt:212:27
 add-labels-of : tie.Need-add-labels-of
 add-labels-of c = search needs
 
--- src/lib.rt:212:27
 add-labels-of-2 : tie.Need-add-labels-of-2
 add-labels-of-2 c = search needs
 
--- src/lib.rt:212:5
 labels-of-requires : tie.Need-labels-of-requires
 labels-of-requires c κs = let a = c .before .before .before .before .before .before .args in reads-one (a .w .now) (a .n) (a .m) (a .k) (c .before .before .before .before .before .before .pre) (c .before .before .before .number .last .0) (c .before .before .before .number .ensures)
 
--- src/lib.rt:213:21
 mul-labels-of : tie.Need-mul-labels-of
 mul-labels-of c = search needs
 
--- src/lib.rt:213:31
 add-labels-of-3 : tie.Need-add-labels-of-3
 add-labels-of-3 c = search needs
 
--- src/lib.rt:213:31
 add-labels-of-4 : tie.Need-add-labels-of-4
 add-labels-of-4 c = search needs
 
--- src/lib.rt:213:31
 add-labels-of-5 : tie.Need-add-labels-of-5
 add-labels-of-5 c = search needs
 
--- src/lib.rt:213:5
 labels-of-requires-2 : tie.Need-labels-of-requires-2
 labels-of-requires-2 c κs = let a = c .before .before .before .before .before .before .before .before .before .before .args in reads-two (a .w .now) (a .n) (a .m) (a .k) (c .before .before .before .before .before .before .before .before .before .before .pre) (c .before .before .before .before .before .before .before .number .last .0) (c .before .before .before .before .before .before .before .number .ensures) (c .before .before .before .labels-of .last .0) (c .before .before .before .labels-of .ensures)
 
--- src/lib.rt:214:5
 sort2-requires : tie.Need-sort2-requires
 sort2-requires c κs = let a = c .before .before .before .before .before .before .before .before .before .before .before .before .before .before .args in sort-lay (a .w .now) (a .n) (a .m) (a .k) (c .before .before .before .before .before .before .before .before .before .before .before .before .before .before .pre) (c .before .before .before .before .before .before .before .before .before .before .before .number .last .0) (c .before .before .before .before .before .before .before .before .before .before .before .number .ensures) (c .before .before .before .before .before .before .before .labels-of .last .0) (c .before .before .before .before .before .before .before .labels-of .ensures) (c .before .before .before .labels-of2 .last .0) (c .before .before .before .labels-of2 .ensures)
 
--- src/lib.rt:206:1
 same-length : tie.Need-same-length
 same-length c = search needs
 
--- src/lib.rt:206:1
 returns : tie.Need-returns
 returns c = let a = c .before .before .before .before .before .before .before .before .before .before .before .before .before .before .before .before .before .args in sort-done (a .w .now) (a .n) (a .m) (a .k) (c .before .before .before .before .before .before .before .before .before .before .before .before .before .before .before .before .before .pre) (c .before .before .before .before .before .before .before .before .before .before .before .before .before .before .number .last .0) (c .before .before .before .before .before .before .before .before .before .before .before .before .before .before .number .ensures) (c .before .before .before .before .before .before .before .before .before .before .labels-of .last .0) (c .before .before .before .before .before .before .before .before .before .before .labels-of .ensures) (c .before .before .before .before .before .before .labels-of2 .last .0) (c .before .before .before .before .before .before .labels-of2 .ensures) (c .before .before .sort2 .last .0) (c .before .before .sort2 .ensures .0) (c .before .before .sort2 .ensures .1)
 

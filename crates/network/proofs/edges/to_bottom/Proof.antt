@@ -1,8 +1,7 @@
+-- `network::edges::to_bottom` meets its contract. Assumes nothing.
 use native.Mathlib.Omega.{arith}
-use mathlib.Core.Path.{_≡_, refl, sym, ap, _∙_}
-use mathlib.Core.List.{List, [], _∷_, _++_}
-use Prim.Native.Nat.{ℕ, zero, suc, _+_, _-_, _*_, _≤_, _<_}
-use lib.ListN.{length, getD, set, take, drop, replicate, length-set}
+use mathlib.Core.Path.{sym, ap, _∙_}
+use Prim.Native.Nat.{_-_}
 use borrow.Author.Needs.{needs}
 use mathlib.Core.Option.{some}
 use native.Mathlib.Numerals.{add-one}
@@ -10,26 +9,19 @@ use Rattle.network.specs.Sees.{shape}
 use Rattle.network.proofs.edges.Next.{holds, bottom-none, bottom-on}
 use Rattle.network.proofs.edges.to_bottom.Statement.{statement}
 use Rattle.network.proofs.edges.to_bottom.Tie as tie
-use Rattle.network.proofs.edges.to_bottom.Reads as reads
-use Rattle.network.proofs.edges.to_bottom.Lts as lts
 
--- src/lib.rt:75:9
 add-if1 : tie.Need-add-if1
 add-if1 c = search needs
 
--- src/lib.rt:75:8
 rem-if1 : tie.Need-rem-if1
 rem-if1 c = omega (arith, holds (c .before .args .f .rays) (c .before .args .f .gates) (c .before .args .g) (c .before .pre .inside))
 
--- src/lib.rt:76:9
 returns : tie.Need-returns
 returns c = sym (bottom-none (shape (c .before .before .args .f)) (c .before .before .args .g) (rw add-one at (c .if1 .taken)))
 
--- src/lib.rt:78:14
 add-t3 : tie.Need-add-t3
 add-t3 c = search needs
 
--- src/lib.rt:71:1
 returns-2 : tie.Need-returns-2
 returns-2 c = ap some (omega arith) ∙ sym (bottom-on (shape (c .before .before .args .f)) (c .before .before .args .g) (rw add-one at (c .if1 .left)))
 

@@ -1,37 +1,27 @@
-use borrow.Author.Needs.{needs}
+-- `network::edges::to_left` meets its contract. Assumes nothing.
 use native.Mathlib.Omega.{arith}
-use mathlib.Core.Path.{_≡_, refl, sym, ap, _∙_}
-use mathlib.Core.List.{List, [], _∷_, _++_}
-use Prim.Native.Nat.{ℕ, zero, suc, _+_, _-_, _*_, _≤_, _<_}
-use lib.ListN.{length, getD, set, take, drop, replicate, length-set}
+use mathlib.Core.Path.{sym}
+use Prim.Native.Nat.{_-_}
 use Rattle.network.proofs.edges.Next.{holds, left-back, left-none, left-wrap}
 use Rattle.network.specs.Sees.{shape}
 use Rattle.network.proofs.edges.to_left.Statement.{statement}
 use Rattle.network.proofs.edges.to_left.Tie as tie
-use Rattle.network.proofs.edges.to_left.Reads as reads
-use Rattle.network.proofs.edges.to_left.Lts as lts
 
--- src/lib.rt:36:9
 returns : tie.Need-returns
 returns c = sym (left-back (shape (c .before .args .f)) (c .before .args .g) (omega arith))
 
--- src/lib.rt:39:9
 returns-2 : tie.Need-returns-2
 returns-2 c = sym (left-none (shape (c .before .before .before .args .f)) (c .before .before .before .args .g) (omega arith) (c .if2 .taken))
 
--- src/lib.rt:41:19
 sub-t6 : tie.Need-sub-t6
 sub-t6 c = omega (arith, holds (c .before .before .before .before .args .f .rays) (c .before .before .before .before .args .f .gates) (c .before .before .before .before .args .g) (c .before .before .before .before .pre .inside))
 
--- src/lib.rt:41:18
 mul-t7 : tie.Need-mul-t7
 mul-t7 c = omega (arith, holds (c .before .before .before .before .args .f .rays) (c .before .before .before .before .args .f .gates) (c .before .before .before .before .args .g) (c .before .before .before .before .pre .inside))
 
--- src/lib.rt:41:14
 add-t8 : tie.Need-add-t8
 add-t8 c = omega (arith, holds (c .before .before .before .before .args .f .rays) (c .before .before .before .before .args .f .gates) (c .before .before .before .before .args .g) (c .before .before .before .before .pre .inside))
 
--- src/lib.rt:30:1
 returns-3 : tie.Need-returns-3
 returns-3 c = sym (left-wrap (shape (c .before .before .before .before .args .f)) (c .before .before .before .before .args .g) (omega arith) (omega arith))
 

@@ -1,26 +1,19 @@
-use borrow.Author.Needs.{needs}
+-- `network::edges::to_top` meets its contract. Assumes nothing.
 use native.Mathlib.Omega.{arith}
-use mathlib.Core.Path.{_≡_, refl, sym, ap, _∙_}
-use mathlib.Core.List.{List, [], _∷_, _++_}
-use Prim.Native.Nat.{ℕ, zero, suc, _+_, _-_, _*_, _%_, _≤_, _<_}
-use lib.ListN.{length, getD, set, take, drop, replicate, length-set}
+use mathlib.Core.Path.{_≡_, sym}
+use Prim.Native.Nat.{ℕ, zero, suc, _-_, _%_, _≤_}
 use native.Mathlib.Nat.{zero-mod}
 use Rattle.network.specs.Sees.{shape}
 use Rattle.network.proofs.edges.Next.{holds, top-none, top-back}
 use Rattle.network.proofs.edges.to_top.Statement.{statement}
 use Rattle.network.proofs.edges.to_top.Tie as tie
-use Rattle.network.proofs.edges.to_top.Reads as reads
-use Rattle.network.proofs.edges.to_top.Lts as lts
 
--- src/lib.rt:64:8
 rem-if1 : tie.Need-rem-if1
 rem-if1 c = omega (arith, holds (c .before .args .f .rays) (c .before .args .f .gates) (c .before .args .g) (c .before .pre .inside))
 
--- src/lib.rt:65:9
 returns : tie.Need-returns
 returns c = sym (top-none (shape (c .before .before .args .f)) (c .before .before .args .g) (omega arith))
 
--- src/lib.rt:67:14
 zero-top : (g k : ℕ) → (g % k ≡ 0 → ⊥) → 1 ≤ g
 zero-top zero k h = absurd (h (zero-mod k))
 zero-top (suc g) k h = omega arith
@@ -28,7 +21,6 @@ zero-top (suc g) k h = omega arith
 sub-t3 : tie.Need-sub-t3
 sub-t3 c = zero-top (c .before .before .args .g) (c .before .before .args .f .gates) (c .if1 .left)
 
--- src/lib.rt:60:1
 returns-2 : tie.Need-returns-2
 returns-2 c = sym (top-back (shape (c .before .before .args .f)) (c .before .before .args .g) (c .if1 .left))
 

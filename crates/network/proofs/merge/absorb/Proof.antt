@@ -1,61 +1,48 @@
+-- `network::merge::absorb` meets its contract. Assumes nothing.
 use mathlib.Core.Path.{subst}
 use Rattle.network.specs.Does.{Does}
 use Rattle.network.specs.Steps.{absorbAt}
 use Rattle.network.proofs.network.View.{weight-at}
-use Rattle.network.specs.Mem.{view, total}
+use Rattle.network.specs.Mem.{view}
 use Rattle.network.proofs.network.Leaf.{absorb-does, total-two}
 use native.Mathlib.Omega.{arith}
-use mathlib.Core.Path.{_≡_, refl, sym, ap, _∙_}
-use mathlib.Core.List.{List, [], _∷_, _++_}
-use Prim.Native.Nat.{ℕ, zero, suc, _+_, _-_, _*_, _≤_, _<_}
-use lib.ListN.{length, getD, set, take, drop, replicate, length-set}
+use mathlib.Core.Path.{sym}
+use mathlib.Core.List.{List}
+use Prim.Native.Nat.{ℕ, _-_}
+use lib.ListN.{set}
 use borrow.Author.Needs.{needs}
 use Rattle.network.proofs.merge.absorb.Statement.{statement}
 use Rattle.network.proofs.merge.absorb.Tie as tie
-use Rattle.network.proofs.merge.absorb.Reads as reads
-use Rattle.network.proofs.merge.absorb.Lts as lts
-use Rattle.network.proofs.merge.plus.Reads as plus-reads
-use Rattle.memory.proofs.tree.weigh.Reads as weigh-reads
 use lib.Ieee.{Float}
 
--- src/lib.rt:148:13
 mul-y : tie.Need-mul-y
 mul-y c = search needs
 
--- src/lib.rt:148:13
 slice-read-y : tie.Need-slice-read-y
 slice-read-y c = search needs
 
--- src/lib.rt:149:9
 plus-requires : tie.Need-plus-requires
 unfolding view
 plus-requires c κs = (c .before .before .before .pre .1 .0 .single (c .before .before .before .args .q) (c .before .before .before .pre .1 .1 .0 .q-in), c .before .before .before .pre .1 .1 .1)
 
--- src/lib.rt:150:5
 mul-d : tie.Need-mul-d
 mul-d c = search needs
 
--- src/lib.rt:150:5
 slice-write-d : tie.Need-slice-write-d
 slice-write-d c = search needs
 
--- src/lib.rt:151:13
 mul-t : tie.Need-mul-t
 mul-t c = search needs
 
--- src/lib.rt:151:13
 slice-read-t : tie.Need-slice-read-t
 slice-read-t c = search needs
 
--- src/lib.rt:151:20
 mul-t-2 : tie.Need-mul-t-2
 mul-t-2 c = search needs
 
--- src/lib.rt:151:20
 slice-read-t-2 : tie.Need-slice-read-t-2
 slice-read-t-2 c = search needs
 
--- src/lib.rt:151:13
 add-t : tie.Need-add-t
 add-t c =
     let s = c .before .before .before .before .before .before in
@@ -65,23 +52,18 @@ add-t c =
     let l : List ℕ = view (a .m) (a .n) (a .w .now) (a .d .now) .weight in
     omega (arith, total-two l (a .q) (a .f) (omega (arith, h .l-weight, p .q-in)) (omega (arith, h .l-weight, p .f-in)) (p .apart), weight-at (a .m) (a .n) (a .w .now) (a .d .now) (a .q) (p .q-in), weight-at (a .m) (a .n) (a .w .now) (a .d .now) (a .f) (p .f-in), h .light)
 
--- src/lib.rt:152:5
 weigh-requires : tie.Need-weigh-requires
 weigh-requires c κs = search needs
 
--- src/lib.rt:153:5
 weigh-requires-2 : tie.Need-weigh-requires-2
 weigh-requires-2 c κs = search needs
 
--- src/lib.rt:141:1
 same-length : tie.Need-same-length
 same-length c = search needs
 
--- src/lib.rt:141:1
 same-length-2 : tie.Need-same-length-2
 same-length-2 c = search needs
 
--- src/lib.rt:141:1
 returns : tie.Need-returns
 returns c =
     let s = c .before .before .before .before .before .before .before .before .before .before .before .before .before .before in

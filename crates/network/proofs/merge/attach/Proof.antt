@@ -1,92 +1,69 @@
+-- `network::merge::attach` meets its contract. Assumes nothing.
 use Rattle.network.proofs.network.Leaf.{attach-does}
 use native.Mathlib.Omega.{arith}
-use mathlib.Core.Path.{_≡_, refl, sym, ap, _∙_}
-use mathlib.Core.List.{List, [], _∷_, _++_}
-use Prim.Native.Nat.{ℕ, zero, suc, _+_, _-_, _*_, _≤_, _<_}
-use lib.ListN.{length, getD, set, take, drop, replicate, length-set}
+use Prim.Native.Nat.{_-_}
+use lib.ListN.{length-set}
 use borrow.Author.Needs.{needs}
 use Rattle.network.proofs.merge.attach.Statement.{statement}
 use Rattle.network.proofs.merge.attach.Tie as tie
-use Rattle.network.proofs.merge.attach.Reads as reads
-use Rattle.network.proofs.merge.attach.Lts as lts
 
--- src/lib.rt:162:7
 mul-w : tie.Need-mul-w
 mul-w c = search needs
 
--- src/lib.rt:162:7
 add-w : tie.Need-add-w
 add-w c = search needs
 
--- src/lib.rt:162:5
 mul-w-2 : tie.Need-mul-w-2
 mul-w-2 c = search needs
 
--- src/lib.rt:162:5
 slice-write-w : tie.Need-slice-write-w
 slice-write-w c = search needs
 
--- src/lib.rt:163:7
 mul-w-3 : tie.Need-mul-w-3
 mul-w-3 c = search needs
 
--- src/lib.rt:163:7
 add-w-2 : tie.Need-add-w-2
 add-w-2 c = search needs
 
--- src/lib.rt:163:5
 mul-w-4 : tie.Need-mul-w-4
 mul-w-4 c = search needs
 
--- src/lib.rt:163:5
 slice-write-w-2 : tie.Need-slice-write-w-2
 slice-write-w-2 c = simp length-set (omega arith)
 
--- src/lib.rt:164:37
 cast-w : tie.Need-cast-w
 cast-w c = search needs
 
--- src/lib.rt:164:7
 mul-w-5 : tie.Need-mul-w-5
 mul-w-5 c = search needs
 
--- src/lib.rt:164:15
 mul-w-6 : tie.Need-mul-w-6
 mul-w-6 c = search needs
 
--- src/lib.rt:164:7
 add-w-3 : tie.Need-add-w-3
 add-w-3 c = search needs
 
--- src/lib.rt:164:7
 add-w-4 : tie.Need-add-w-4
 add-w-4 c = search needs
 
--- src/lib.rt:164:5
 mul-w-7 : tie.Need-mul-w-7
 mul-w-7 c = search needs
 
--- src/lib.rt:164:5
 slice-write-w-3 : tie.Need-slice-write-w-3
 slice-write-w-3 c = simp length-set (omega arith)
 
--- src/lib.rt:165:5
 mul-d : tie.Need-mul-d
 mul-d c = search needs
 
--- src/lib.rt:165:5
 slice-write-d : tie.Need-slice-write-d
 slice-write-d c = search needs
 
--- src/lib.rt:157:1
 same-length : tie.Need-same-length
 same-length c = simp length-set
 
--- src/lib.rt:157:1
 same-length-2 : tie.Need-same-length-2
 same-length-2 c = simp length-set
 
--- src/lib.rt:157:1
 returns : tie.Need-returns
 returns c = attach-does (c .args .m) (c .args .n) (c .args .w .now) (c .args .d .now) (c .pre .0) (c .args .b) (c .args .f) (c .args .c) (c .args .x) (c .pre .1 .0) (c .pre .1 .1)
 

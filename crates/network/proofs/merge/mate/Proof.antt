@@ -1,100 +1,74 @@
+-- `network::merge::mate` meets its contract. Assumes nothing.
 use Rattle.network.proofs.network.Leaf.{mate-out, mate-dead, mate-first, mate-second, mate-found}
 use native.Mathlib.Omega.{arith}
-use mathlib.Core.Path.{_≡_, refl, sym, ap, _∙_}
-use mathlib.Core.List.{List, [], _∷_, _++_}
-use Prim.Native.Nat.{ℕ, zero, suc, _+_, _-_, _*_, _≤_, _<_}
-use lib.ListN.{length, getD, set, take, drop, replicate, length-set}
+use Prim.Native.Nat.{_+_, _-_, _*_}
 use borrow.Author.Needs.{needs}
 use Rattle.network.proofs.merge.mate.Statement.{statement}
 use Rattle.network.proofs.merge.mate.Tie as tie
-use Rattle.network.proofs.merge.mate.Reads as reads
-use Rattle.network.proofs.merge.mate.Lts as lts
 
--- src/lib.rt:124:15
 mul-q : tie.Need-mul-q
 mul-q c = search needs
 
--- src/lib.rt:124:23
 mul-q-2 : tie.Need-mul-q-2
 mul-q-2 c = search needs
 
--- src/lib.rt:124:15
 add-q : tie.Need-add-q
 add-q c = search needs
 
--- src/lib.rt:124:15
 add-q-2 : tie.Need-add-q-2
 add-q-2 c = search needs
 
--- src/lib.rt:124:13
 mul-q-3 : tie.Need-mul-q-3
 mul-q-3 c = search needs
 
--- src/lib.rt:124:13
 shared-slice-read-q : tie.Need-shared-slice-read-q
 shared-slice-read-q c = search needs
 
--- src/lib.rt:124:13
 cast-q : tie.Need-cast-q
 cast-q c = omega (arith, c .shared-slice-known .given (7 * (c .before .args .m) + 2 * (c .before .args .n) + c .before .args .c))
 
--- src/lib.rt:126:9
 returns : tie.Need-returns
 returns c = let s = c .before .before in mate-out (s .args .m) (s .args .n) (s .args .w .now) (s .args .d .now) (s .pre .0) (s .args .b) (s .args .c) (s .pre .1) (c .if1 .taken)
 
--- src/lib.rt:128:8
 mul-if2 : tie.Need-mul-if2
 mul-if2 c = search needs
 
--- src/lib.rt:128:8
 shared-slice-read-if2 : tie.Need-shared-slice-read-if2
 shared-slice-read-if2 c = search needs
 
--- src/lib.rt:129:9
 returns-2 : tie.Need-returns-2
 returns-2 c = let s = c .before .before .before .before in mate-dead (s .args .m) (s .args .n) (s .args .w .now) (s .args .d .now) (s .pre .0) (s .args .b) (s .args .c) (s .pre .1) (c .before .before .if1 .left) (c .if2 .taken)
 
--- src/lib.rt:131:10
 mul-if3 : tie.Need-mul-if3
 mul-if3 c = search needs
 
--- src/lib.rt:131:10
 add-if3 : tie.Need-add-if3
 add-if3 c = search needs
 
--- src/lib.rt:131:8
 mul-if3-2 : tie.Need-mul-if3-2
 mul-if3-2 c = search needs
 
--- src/lib.rt:131:8
 shared-slice-read-if3 : tie.Need-shared-slice-read-if3
 shared-slice-read-if3 c = search needs
 
--- src/lib.rt:132:9
 returns-3 : tie.Need-returns-3
 returns-3 c = let s = c .before .before .before .before .before .before in mate-first (s .args .m) (s .args .n) (s .args .w .now) (s .args .d .now) (s .pre .0) (s .args .b) (s .args .c) (s .pre .1) (c .before .before .before .before .if1 .left) (c .before .before .if2 .left) (c .if3 .taken)
 
--- src/lib.rt:134:10
 mul-if4 : tie.Need-mul-if4
 mul-if4 c = search needs
 
--- src/lib.rt:134:10
 add-if4 : tie.Need-add-if4
 add-if4 c = search needs
 
--- src/lib.rt:134:8
 mul-if4-2 : tie.Need-mul-if4-2
 mul-if4-2 c = search needs
 
--- src/lib.rt:134:8
 shared-slice-read-if4 : tie.Need-shared-slice-read-if4
 shared-slice-read-if4 c = search needs
 
--- src/lib.rt:135:9
 returns-4 : tie.Need-returns-4
 returns-4 c = let s = c .before .before .before .before .before .before .before .before in mate-second (s .args .m) (s .args .n) (s .args .w .now) (s .args .d .now) (s .pre .0) (s .args .b) (s .args .c) (s .pre .1) (c .before .before .before .before .before .before .if1 .left) (c .before .before .before .before .if2 .left) (c .before .before .if3 .left) (c .if4 .taken)
 
--- src/lib.rt:119:1
 returns-5 : tie.Need-returns-5
 returns-5 c = let s = c .before .before .before .before .before .before .before .before in mate-found (s .args .m) (s .args .n) (s .args .w .now) (s .args .d .now) (s .pre .0) (s .args .b) (s .args .c) (s .pre .1) (c .before .before .before .before .before .before .if1 .left) (c .before .before .before .before .if2 .left) (c .before .before .if3 .left) (c .if4 .left)
 

@@ -1,86 +1,62 @@
+-- `network::merge::moved_edge` meets its contract. Assumes nothing.
 use lib.Ieee.{binary32, fits, nan, Float, neg}
 use lib.Dec.{T}
 use mathlib.Core.Path.{subst}
-use mathlib.Core.Bool.{Bool, true, false}
-use Rattle.network.specs.Mem.{view}
-use Rattle.network.specs.Steps.{shift}
+use mathlib.Core.Bool.{true, false}
 use Rattle.network.proofs.network.SoundSteps.{shift-ok, neg-ok}
 use Rattle.network.proofs.network.JoinDoes.{moved-out, moved-dead, moved-first, moved-second, moved-far, moved-joins, moved-joins-second, moved-single}
-use native.Mathlib.Omega.{arith}
-use mathlib.Core.Path.{_≡_, refl, sym, ap, _∙_}
-use mathlib.Core.List.{List, [], _∷_, _++_}
-use Prim.Native.Nat.{ℕ, zero, suc, _+_, _-_, _*_, _≤_, _<_}
-use lib.ListN.{length, getD, set, take, drop, replicate, length-set}
+use mathlib.Core.Path.{sym, ap}
+use Prim.Native.Nat.{_-_}
+use lib.ListN.{getD}
 use borrow.Author.Needs.{needs}
 use Rattle.network.proofs.merge.moved_edge.Statement.{statement}
 use Rattle.network.proofs.merge.moved_edge.Tie as tie
-use Rattle.network.proofs.merge.moved_edge.Reads as reads
-use Rattle.network.proofs.merge.moved_edge.Lts as lts
-use Rattle.network.proofs.merge.join_edge.Reads as join-edge-reads
-use Rattle.network.proofs.merge.shift_down.Reads as shift-down-reads
-use Rattle.network.proofs.merge.shift_up.Reads as shift-up-reads
 
--- src/lib.rt:192:9
 returns : tie.Need-returns
 returns c = let a = c .before .before .before .args in moved-out (a .m) (a .n) (a .w .now) (a .d .now) (c .before .before .before .pre .0) (a .b) (a .v) (a .g) (a .f) (c .if1 .taken)
 
--- src/lib.rt:194:13
 mul-t : tie.Need-mul-t
 mul-t c = search needs
 
--- src/lib.rt:194:13
 slice-read-t : tie.Need-slice-read-t
 slice-read-t c = search needs
 
--- src/lib.rt:196:9
 returns-2 : tie.Need-returns-2
 returns-2 c = let a = c .before .before .before .before .before .args in moved-dead (a .m) (a .n) (a .w .now) (a .d .now) (c .before .before .before .before .before .pre .0) (a .b) (a .v) (a .g) (a .f) (c .before .before .if1 .left) (c .if2 .taken)
 
--- src/lib.rt:198:15
 mul-x : tie.Need-mul-x
 mul-x c = search needs
 
--- src/lib.rt:198:15
 add-x : tie.Need-add-x
 add-x c = search needs
 
--- src/lib.rt:198:13
 mul-x-2 : tie.Need-mul-x-2
 mul-x-2 c = search needs
 
--- src/lib.rt:198:13
 slice-read-x : tie.Need-slice-read-x
 slice-read-x c = search needs
 
--- src/lib.rt:199:15
 mul-y : tie.Need-mul-y
 mul-y c = search needs
 
--- src/lib.rt:199:15
 add-y : tie.Need-add-y
 add-y c = search needs
 
--- src/lib.rt:199:13
 mul-y-2 : tie.Need-mul-y-2
 mul-y-2 c = search needs
 
--- src/lib.rt:199:13
 slice-read-y : tie.Need-slice-read-y
 slice-read-y c = search needs
 
--- src/lib.rt:200:13
 mul-z : tie.Need-mul-z
 mul-z c = search needs
 
--- src/lib.rt:200:13
 slice-read-z : tie.Need-slice-read-z
 slice-read-z c = search needs
 
--- src/lib.rt:202:13
 shift-up-requires : tie.Need-shift-up-requires
 shift-up-requires c κs = let a = c .before .before .before .before .before .before .before .before .before .args in (moved-single (a .m) (a .n) (a .w .now) (a .d .now) (c .before .before .before .before .before .before .before .before .before .pre .0) (a .b) (a .v) (a .g) (a .f) (c .before .before .before .before .before .before .if1 .left) (c .before .before .before .before .before .before .before .before .before .pre .1 .0), c .before .before .before .before .before .before .before .before .before .pre .1 .1 .g-in)
 
--- src/lib.rt:203:9
 join-edge-requires : tie.Need-join-edge-requires
 join-edge-requires c κs = let a = c .before .before .before .before .before .before .before .before .before .before .before .before .args in let p = c .before .before .before .before .before .before .before .before .before .before .before .before .pre in (
   p .0,
@@ -93,23 +69,18 @@ join-edge-requires c κs = let a = c .before .before .before .before .before .be
   ),
 )
 
--- src/lib.rt:204:9
 same-length : tie.Need-same-length
 same-length c = search needs
 
--- src/lib.rt:204:9
 same-length-2 : tie.Need-same-length-2
 same-length-2 c = search needs
 
--- src/lib.rt:204:9
 returns-3 : tie.Need-returns-3
 returns-3 c = let a = c .before .before .before .before .before .before .before .before .before .before .before .before .before .before .before .before .before .args in moved-first (a .m) (a .n) (a .w .now) (a .d .now) (c .before .before .before .before .before .before .before .before .before .before .before .before .before .before .before .before .before .pre .0) (a .b) (a .v) (a .g) (a .f) (c .before .before .before .before .before .before .before .before .before .before .before .before .before .before .if1 .left) (c .before .before .before .before .before .before .before .before .before .before .before .before .if2 .left) _ _ (c .before .before .before .before .before .before .before .shift-up .result) (c .before .before .before .before .before .before .before .before .if3 .taken) (c .before .before .before .before .before .before .before .shift-up .ensures) (c .before .before .before .before .join-edge .ensures)
 
--- src/lib.rt:207:13
 shift-down-requires : tie.Need-shift-down-requires
 shift-down-requires c κs = let a = c .before .before .before .before .before .before .before .before .before .before .args in (moved-single (a .m) (a .n) (a .w .now) (a .d .now) (c .before .before .before .before .before .before .before .before .before .before .pre .0) (a .b) (a .v) (a .g) (a .f) (c .before .before .before .before .before .before .before .if1 .left) (c .before .before .before .before .before .before .before .before .before .before .pre .1 .0), c .before .before .before .before .before .before .before .before .before .before .pre .1 .1 .g-in)
 
--- src/lib.rt:208:9
 join-edge-requires-2 : tie.Need-join-edge-requires-2
 unfolding neg
 join-edge-requires-2 c κs = let a = c .before .before .before .before .before .before .before .before .before .before .before .before .before .args in let p = c .before .before .before .before .before .before .before .before .before .before .before .before .before .pre in (
@@ -123,20 +94,16 @@ join-edge-requires-2 c κs = let a = c .before .before .before .before .before .
   ),
 )
 
--- src/lib.rt:209:9
 same-length-3 : tie.Need-same-length-3
 same-length-3 c = search needs
 
--- src/lib.rt:209:9
 same-length-4 : tie.Need-same-length-4
 same-length-4 c = search needs
 
--- src/lib.rt:209:9
 returns-4 : tie.Need-returns-4
 unfolding neg
 returns-4 c = let a = c .before .before .before .before .before .before .before .before .before .before .before .before .before .before .before .before .before .before .args in moved-second (a .m) (a .n) (a .w .now) (a .d .now) (c .before .before .before .before .before .before .before .before .before .before .before .before .before .before .before .before .before .before .pre .0) (a .b) (a .v) (a .g) (a .f) (c .before .before .before .before .before .before .before .before .before .before .before .before .before .before .before .if1 .left) (c .before .before .before .before .before .before .before .before .before .before .before .before .before .if2 .left) _ _ (neg (c .before .before .before .before .before .before .before .shift-down .result)) (c .before .before .before .before .before .before .before .before .before .if3 .left) (c .before .before .before .before .before .before .before .before .if4 .taken) (ap (λ (x : Float). neg x) (c .before .before .before .before .before .before .before .shift-down .ensures)) (c .before .before .before .before .join-edge2 .ensures)
 
--- src/lib.rt:185:1
 returns-5 : tie.Need-returns-5
 returns-5 c = let a = c .before .before .before .before .before .before .before .before .before .before .args in moved-far (a .m) (a .n) (a .w .now) (a .d .now) (c .before .before .before .before .before .before .before .before .before .before .pre .0) (a .b) (a .v) (a .g) (a .f) (c .before .before .before .before .before .before .before .if1 .left) (c .before .before .before .before .before .if2 .left) (c .before .if3 .left) (c .if4 .left)
 

@@ -1,37 +1,26 @@
+-- `network::merge::shift_up` meets its contract. Assumes nothing.
 use borrow.Author.Tests.{eq-eqb, ne-eqb}
-use lib.Dec.{T}
-use lib.Ieee.Fits.{ofInt-fits, neg-fits}
+use lib.Ieee.Fits.{ofInt-fits}
 use lib.Ieee.{binary32, Float, neg, add}
-use Rattle.network.specs.Steps.{shift, unbias}
-use native.Mathlib.Omega.{arith}
-use mathlib.Core.Path.{_≡_, refl, sym, ap, _∙_}
-use mathlib.Core.List.{List, [], _∷_, _++_}
-use Prim.Native.Nat.{ℕ, zero, suc, _+_, _-_, _*_, _≤_, _<_}
-use lib.ListN.{length, getD, set, take, drop, replicate, length-set}
+use Rattle.network.specs.Steps.{shift}
+use mathlib.Core.Path.{refl, sym, ap, _∙_}
+use Prim.Native.Nat.{_-_}
 use borrow.Author.Needs.{needs}
 use Rattle.network.proofs.merge.shift_up.Statement.{statement}
 use Rattle.network.proofs.merge.shift_up.Tie as tie
-use Rattle.network.proofs.merge.shift_up.Reads as reads
-use Rattle.network.proofs.merge.shift_up.Lts as lts
-use Rattle.network.proofs.merge.plus.Reads as plus-reads
-use Rattle.network.proofs.merge.scaled.Reads as scaled-reads
 use Rattle.network.specs.Network.{scale}
 
--- src/lib.rt:54:9
 returns : tie.Need-returns
 unfolding shift
 returns c = rw (eq-eqb (c .before .args .g) 1000 (c .if1 .taken)) refl
 
--- src/lib.rt:56:9
 scaled-requires : tie.Need-scaled-requires
 scaled-requires c κs = search needs
 
--- src/lib.rt:57:5
 plus-requires : tie.Need-plus-requires
 unfolding scale neg
 plus-requires c κs = (c .before .before .pre .0, rw (c .scaled .ensures) (ofInt-fits binary32 _))
 
--- src/lib.rt:48:1
 returns-2 : tie.Need-returns-2
 unfolding shift neg
 returns-2 c =

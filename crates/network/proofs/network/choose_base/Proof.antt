@@ -1,16 +1,11 @@
+-- `network::network::choose_base` meets its contract. Assumes nothing.
 use Rattle.network.proofs.network.Turns.{chosen-live, chosen-number, ends-words, asks-first, asks-second, first-yes, first-no, second-yes, second-no}
-use Rattle.network.specs.Mem.{view}
 use native.Mathlib.Omega.{arith}
-use mathlib.Core.Path.{_≡_, refl, sym, ap, _∙_}
-use mathlib.Core.List.{List, [], _∷_, _++_}
-use Prim.Native.Nat.{ℕ, zero, suc, _+_, _-_, _*_, _≤_, _<_}
-use lib.ListN.{length, getD, set, take, drop, replicate, length-set}
+use Prim.Native.Nat.{_+_, _-_, _*_, _<_}
+use lib.ListN.{getD}
 use borrow.Author.Needs.{needs}
 use Rattle.network.proofs.network.choose_base.Statement.{statement}
 use Rattle.network.proofs.network.choose_base.Tie as tie
-use Rattle.network.proofs.network.choose_base.Reads as reads
-use Rattle.network.proofs.network.choose_base.Lts as lts
-use Rattle.network.proofs.merge.merge.Reads as merge-reads
 
 ends : (c : tie.Start) → (getD (c .args .w .now) (3 * c .args .m + c .args .e) 0 < c .args .n) × (getD (c .args .w .now) (4 * c .args .m + c .args .e) 0 < c .args .n)
 ends c =
@@ -21,151 +16,114 @@ ends c =
     let u = ends-words (a .m) (a .n) (p .0) (a .last) (a .w .now) (a .d .now) (p .1) R (a .e) (k .e-in) (chosen-live (a .m) (a .n) (p .0) (a .last) (a .w .now) (a .d .now) (p .1) R (a .e) (a .g) k) in
     (omega (arith, u .0, u .2), omega (arith, u .1, u .3))
 
--- src/lib.rt:366:15
 mul-p : tie.Need-mul-p
 mul-p c = search needs
 
--- src/lib.rt:366:15
 add-p : tie.Need-add-p
 add-p c = search needs
 
--- src/lib.rt:366:13
 mul-p-2 : tie.Need-mul-p-2
 mul-p-2 c = search needs
 
--- src/lib.rt:366:13
 slice-read-p : tie.Need-slice-read-p
 slice-read-p c = search needs
 
--- src/lib.rt:367:15
 mul-q : tie.Need-mul-q
 mul-q c = search needs
 
--- src/lib.rt:367:15
 add-q : tie.Need-add-q
 add-q c = search needs
 
--- src/lib.rt:367:13
 mul-q-2 : tie.Need-mul-q-2
 mul-q-2 c = search needs
 
--- src/lib.rt:367:13
 slice-read-q : tie.Need-slice-read-q
 slice-read-q c = search needs
 
--- src/lib.rt:368:16
 mul-sp : tie.Need-mul-sp
 mul-sp c = search needs
 
--- src/lib.rt:368:24
 mul-sp-2 : tie.Need-mul-sp-2
 mul-sp-2 c = search needs
 
--- src/lib.rt:368:16
 add-sp : tie.Need-add-sp
 add-sp c = search needs
 
--- src/lib.rt:368:32
 cast-sp : tie.Need-cast-sp
 cast-sp c = omega (arith, ends (c .before .before .before .before), c .before .before .before .before .pre .0 .words, c .before .before .before .before .pre .0 .small)
 
--- src/lib.rt:368:16
 add-sp-2 : tie.Need-add-sp-2
 add-sp-2 c = omega (arith, ends (c .before .before .before .before), c .before .before .before .before .pre .0 .words, c .before .before .before .before .pre .0 .small)
 
--- src/lib.rt:368:14
 mul-sp-3 : tie.Need-mul-sp-3
 mul-sp-3 c = omega (arith, ends (c .before .before .before .before), c .before .before .before .before .pre .0 .words, c .before .before .before .before .pre .0 .small)
 
--- src/lib.rt:368:14
 slice-read-sp : tie.Need-slice-read-sp
 slice-read-sp c = omega (arith, ends (c .before .before .before .before .before), c .before .before .before .before .before .pre .0 .words, c .before .before .before .before .before .pre .0 .small)
 
--- src/lib.rt:369:16
 mul-sq : tie.Need-mul-sq
 mul-sq c = search needs
 
--- src/lib.rt:369:24
 mul-sq-2 : tie.Need-mul-sq-2
 mul-sq-2 c = search needs
 
--- src/lib.rt:369:16
 add-sq : tie.Need-add-sq
 add-sq c = search needs
 
--- src/lib.rt:369:32
 cast-sq : tie.Need-cast-sq
 cast-sq c = omega (arith, ends (c .before .before .before .before .before), c .before .before .before .before .before .pre .0 .words, c .before .before .before .before .before .pre .0 .small)
 
--- src/lib.rt:369:16
 add-sq-2 : tie.Need-add-sq-2
 add-sq-2 c = omega (arith, ends (c .before .before .before .before .before), c .before .before .before .before .before .pre .0 .words, c .before .before .before .before .before .pre .0 .small)
 
--- src/lib.rt:369:14
 mul-sq-3 : tie.Need-mul-sq-3
 mul-sq-3 c = omega (arith, ends (c .before .before .before .before .before), c .before .before .before .before .before .pre .0 .words, c .before .before .before .before .before .pre .0 .small)
 
--- src/lib.rt:369:14
 slice-read-sq : tie.Need-slice-read-sq
 slice-read-sq c = omega (arith, ends (c .before .before .before .before .before .before), c .before .before .before .before .before .before .pre .0 .words, c .before .before .before .before .before .before .pre .0 .small)
 
--- src/lib.rt:371:13
 merge-requires : tie.Need-merge-requires
 merge-requires c κs = let a = c .before .before .before .before .before .before .before .before .before .args in let p = c .before .before .before .before .before .before .before .before .before .pre .1 .0 in let k = c .before .before .before .before .before .before .before .before .before .pre .1 .1 in (c .before .before .before .before .before .before .before .before .before .pre .0, asks-first (a .m) (a .n) (p .0) (a .last) (a .w .now) (a .d .now) (p .1) (p .2) (a .e) (k .e-in) (chosen-live (a .m) (a .n) (p .0) (a .last) (a .w .now) (a .d .now) (p .1) (p .2) (a .e) (a .g) k) (a .g) (chosen-number (a .m) (a .n) (p .0) (a .last) (a .w .now) (a .d .now) (p .1) (p .2) (a .e) (a .g) k))
 
--- src/lib.rt:373:13
 same-length : tie.Need-same-length
 same-length c = search needs
 
--- src/lib.rt:373:13
 same-length-2 : tie.Need-same-length-2
 same-length-2 c = search needs
 
--- src/lib.rt:373:13
 returns : tie.Need-returns
 returns c = λ gates t R. let a = c .before .before .before .before .before .before .before .before .before .before .before .before .before .before .before .args in let k = c .before .before .before .before .before .before .before .before .before .before .before .before .before .before .before .pre .1 .1 in first-yes (a .m) (a .n) gates (a .last) (a .w .now) (a .d .now) t R (a .e) (k .e-in) (chosen-live (a .m) (a .n) gates (a .last) (a .w .now) (a .d .now) t R (a .e) (a .g) k) (a .g) (chosen-number (a .m) (a .n) gates (a .last) (a .w .now) (a .d .now) t R (a .e) (a .g) k) (c .before .before .before .before .before .before .before .before .if1 .taken) _ _ (c .before .before .before .before .before .merge .result) (c .before .before .before .before .before .merge .ensures) (c .if2 .taken)
 
--- src/lib.rt:375:9
 same-length-3 : tie.Need-same-length-3
 same-length-3 c = search needs
 
--- src/lib.rt:375:9
 same-length-4 : tie.Need-same-length-4
 same-length-4 c = search needs
 
--- src/lib.rt:375:9
 returns-2 : tie.Need-returns-2
 returns-2 c = λ gates t R. let a = c .before .before .before .before .before .before .before .before .before .before .before .before .before .before .before .args in let k = c .before .before .before .before .before .before .before .before .before .before .before .before .before .before .before .pre .1 .1 in let z = c .before .before .before .before .before .merge in first-no (a .m) (a .n) gates (a .last) (a .w .now) (a .d .now) t R (a .e) (k .e-in) (chosen-live (a .m) (a .n) gates (a .last) (a .w .now) (a .d .now) t R (a .e) (a .g) k) (a .g) (chosen-number (a .m) (a .n) gates (a .last) (a .w .now) (a .d .now) t R (a .e) (a .g) k) (c .before .before .before .before .before .before .before .before .if1 .taken) (z .last .0) (z .last .1 .0) (z .result) (z .ensures) (c .if2 .left) _ _
 
--- src/lib.rt:377:42
 sub-merge : tie.Need-sub-merge
 sub-merge c = search needs
 
--- src/lib.rt:377:9
 merge-requires-2 : tie.Need-merge-requires-2
 merge-requires-2 c κs = let a = c .before .before .before .before .before .before .before .before .before .args in let p = c .before .before .before .before .before .before .before .before .before .pre .1 .0 in let k = c .before .before .before .before .before .before .before .before .before .pre .1 .1 in (c .before .before .before .before .before .before .before .before .before .pre .0, asks-second (a .m) (a .n) (p .0) (a .last) (a .w .now) (a .d .now) (p .1) (p .2) (a .e) (k .e-in) (chosen-live (a .m) (a .n) (p .0) (a .last) (a .w .now) (a .d .now) (p .1) (p .2) (a .e) (a .g) k) (a .g) (chosen-number (a .m) (a .n) (p .0) (a .last) (a .w .now) (a .d .now) (p .1) (p .2) (a .e) (a .g) k))
 
--- src/lib.rt:379:9
 same-length-5 : tie.Need-same-length-5
 same-length-5 c = search needs
 
--- src/lib.rt:379:9
 same-length-6 : tie.Need-same-length-6
 same-length-6 c = search needs
 
--- src/lib.rt:379:9
 returns-3 : tie.Need-returns-3
 returns-3 c = λ gates t R. let a = c .before .before .before .before .before .before .before .before .before .before .before .before .before .before .before .args in let k = c .before .before .before .before .before .before .before .before .before .before .before .before .before .before .before .pre .1 .1 in second-yes (a .m) (a .n) gates (a .last) (a .w .now) (a .d .now) t R (a .e) (k .e-in) (chosen-live (a .m) (a .n) gates (a .last) (a .w .now) (a .d .now) t R (a .e) (a .g) k) (a .g) (chosen-number (a .m) (a .n) gates (a .last) (a .w .now) (a .d .now) t R (a .e) (a .g) k) (c .before .before .before .before .before .before .before .before .if1 .left) _ _ (c .before .before .before .before .before .merge2 .result) (c .before .before .before .before .before .merge2 .ensures) (c .if3 .taken)
 
--- src/lib.rt:360:1
 same-length-7 : tie.Need-same-length-7
 same-length-7 c = search needs
 
--- src/lib.rt:360:1
 same-length-8 : tie.Need-same-length-8
 same-length-8 c = search needs
 
--- src/lib.rt:360:1
 returns-4 : tie.Need-returns-4
 returns-4 c = λ gates t R. let a = c .before .before .before .before .before .before .before .before .before .before .before .before .before .before .before .args in let k = c .before .before .before .before .before .before .before .before .before .before .before .before .before .before .before .pre .1 .1 in let z = c .before .before .before .before .before .merge2 in second-no (a .m) (a .n) gates (a .last) (a .w .now) (a .d .now) t R (a .e) (k .e-in) (chosen-live (a .m) (a .n) gates (a .last) (a .w .now) (a .d .now) t R (a .e) (a .g) k) (a .g) (chosen-number (a .m) (a .n) gates (a .last) (a .w .now) (a .d .now) t R (a .e) (a .g) k) (c .before .before .before .before .before .before .before .before .if1 .left) (z .last .0) (z .last .1 .0) (z .result) (z .ensures) (c .if3 .left) _ _
 

@@ -1,16 +1,12 @@
+-- `network::network::fill_regions` meets its contract. Assumes nothing.
 use Rattle.network.proofs.network.BeginDoes.{Going, going-start, regions-turn, regions-end}
 use Rattle.network.specs.Begin.{regionsFrom}
 use Rattle.network.specs.Mem.{view}
-use borrow.Author.Needs.{needs}
 use native.Mathlib.Omega.{arith}
-use mathlib.Core.Path.{_≡_, refl, sym, ap, _∙_}
-use mathlib.Core.List.{List, [], _∷_, _++_}
-use Prim.Native.Nat.{ℕ, zero, suc, _+_, _-_, _*_, _≤_, _<_}
-use lib.ListN.{length, getD, set, take, drop, replicate, length-set}
+use Prim.Native.Nat.{_-_}
+use lib.ListN.{length-set}
 use Rattle.network.proofs.network.fill_regions.Statement.{statement}
 use Rattle.network.proofs.network.fill_regions.Tie as tie
-use Rattle.network.proofs.network.fill_regions.Reads as reads
-use Rattle.network.proofs.network.fill_regions.Lts as lts
 
 abbrev Inv-loop : tie.InvT-loop
 Inv-loop w₀ d m n x₀ w x = Going m n regionsFrom w₀ w d n x (regionsFrom n (view m n w₀ d) 0)
@@ -18,123 +14,93 @@ Inv-loop w₀ d m n x₀ w x = Going m n regionsFrom w₀ w d n x (regionsFrom n
 abbrev μ-loop : tie.MeasureT-loop
 μ-loop w₀ d m n x₀ w x = n - x
 
--- src/lib.rt:453:5
 loop-holds : tie.Need-loop-holds Inv-loop μ-loop
 loop-holds c = let a = c .args in going-start (a .m) (a .n) regionsFrom (a .w .now) (a .d .now) (a .n) (c .pre)
 
--- src/lib.rt:454:28
 cast-w : tie.Need-cast-w Inv-loop μ-loop
 cast-w c = omega (arith, c .loop-test .taken, c .before .loop .inv .room .words, c .before .loop .inv .room .small)
 
--- src/lib.rt:454:11
 mul-w : tie.Need-mul-w Inv-loop μ-loop
 mul-w c = omega (arith, c .loop-test .taken, c .before .loop .inv .room .words, c .before .loop .inv .room .small)
 
--- src/lib.rt:454:11
 add-w : tie.Need-add-w Inv-loop μ-loop
 add-w c = omega (arith, c .loop-test .taken, c .before .loop .inv .room .words, c .before .loop .inv .room .small)
 
--- src/lib.rt:454:11
 add-w-2 : tie.Need-add-w-2 Inv-loop μ-loop
 add-w-2 c = omega (arith, c .loop-test .taken, c .before .loop .inv .room .words, c .before .loop .inv .room .small)
 
--- src/lib.rt:454:9
 mul-w-2 : tie.Need-mul-w-2 Inv-loop μ-loop
 mul-w-2 c = omega (arith, c .loop-test .taken, c .before .loop .inv .room .words, c .before .loop .inv .room .small)
 
--- src/lib.rt:454:9
 slice-write-w : tie.Need-slice-write-w Inv-loop μ-loop
 slice-write-w c = omega (arith, c .loop-test .taken, c .before .loop .inv .room .words, c .before .loop .inv .room .small)
 
--- src/lib.rt:455:11
 mul-w-3 : tie.Need-mul-w-3 Inv-loop μ-loop
 mul-w-3 c = omega (arith, c .loop-test .taken, c .before .loop .inv .room .words, c .before .loop .inv .room .small)
 
--- src/lib.rt:455:19
 mul-w-4 : tie.Need-mul-w-4 Inv-loop μ-loop
 mul-w-4 c = omega (arith, c .loop-test .taken, c .before .loop .inv .room .words, c .before .loop .inv .room .small)
 
--- src/lib.rt:455:11
 add-w-3 : tie.Need-add-w-3 Inv-loop μ-loop
 add-w-3 c = omega (arith, c .loop-test .taken, c .before .loop .inv .room .words, c .before .loop .inv .room .small)
 
--- src/lib.rt:455:11
 add-w-4 : tie.Need-add-w-4 Inv-loop μ-loop
 add-w-4 c = omega (arith, c .loop-test .taken, c .before .loop .inv .room .words, c .before .loop .inv .room .small)
 
--- src/lib.rt:455:9
 mul-w-5 : tie.Need-mul-w-5 Inv-loop μ-loop
 mul-w-5 c = omega (arith, c .loop-test .taken, c .before .loop .inv .room .words, c .before .loop .inv .room .small)
 
--- src/lib.rt:455:9
 slice-write-w-2 : tie.Need-slice-write-w-2 Inv-loop μ-loop
 slice-write-w-2 c = let h = c .before .loop .inv .room .words in simp length-set (omega arith)
 
--- src/lib.rt:456:11
 mul-w-6 : tie.Need-mul-w-6 Inv-loop μ-loop
 mul-w-6 c = omega (arith, c .loop-test .taken, c .before .loop .inv .room .words, c .before .loop .inv .room .small)
 
--- src/lib.rt:456:19
 mul-w-7 : tie.Need-mul-w-7 Inv-loop μ-loop
 mul-w-7 c = omega (arith, c .loop-test .taken, c .before .loop .inv .room .words, c .before .loop .inv .room .small)
 
--- src/lib.rt:456:11
 add-w-5 : tie.Need-add-w-5 Inv-loop μ-loop
 add-w-5 c = omega (arith, c .loop-test .taken, c .before .loop .inv .room .words, c .before .loop .inv .room .small)
 
--- src/lib.rt:456:11
 add-w-6 : tie.Need-add-w-6 Inv-loop μ-loop
 add-w-6 c = omega (arith, c .loop-test .taken, c .before .loop .inv .room .words, c .before .loop .inv .room .small)
 
--- src/lib.rt:456:9
 mul-w-8 : tie.Need-mul-w-8 Inv-loop μ-loop
 mul-w-8 c = omega (arith, c .loop-test .taken, c .before .loop .inv .room .words, c .before .loop .inv .room .small)
 
--- src/lib.rt:456:9
 slice-write-w-3 : tie.Need-slice-write-w-3 Inv-loop μ-loop
 slice-write-w-3 c = let h = c .before .loop .inv .room .words in simp length-set (omega arith)
 
--- src/lib.rt:457:11
 mul-w-9 : tie.Need-mul-w-9 Inv-loop μ-loop
 mul-w-9 c = omega (arith, c .loop-test .taken, c .before .loop .inv .room .words, c .before .loop .inv .room .small)
 
--- src/lib.rt:457:19
 mul-w-10 : tie.Need-mul-w-10 Inv-loop μ-loop
 mul-w-10 c = omega (arith, c .loop-test .taken, c .before .loop .inv .room .words, c .before .loop .inv .room .small)
 
--- src/lib.rt:457:11
 add-w-7 : tie.Need-add-w-7 Inv-loop μ-loop
 add-w-7 c = omega (arith, c .loop-test .taken, c .before .loop .inv .room .words, c .before .loop .inv .room .small)
 
--- src/lib.rt:457:11
 add-w-8 : tie.Need-add-w-8 Inv-loop μ-loop
 add-w-8 c = omega (arith, c .loop-test .taken, c .before .loop .inv .room .words, c .before .loop .inv .room .small)
 
--- src/lib.rt:457:9
 mul-w-11 : tie.Need-mul-w-11 Inv-loop μ-loop
 mul-w-11 c = omega (arith, c .loop-test .taken, c .before .loop .inv .room .words, c .before .loop .inv .room .small)
 
--- src/lib.rt:457:9
 slice-write-w-4 : tie.Need-slice-write-w-4 Inv-loop μ-loop
 slice-write-w-4 c = let h = c .before .loop .inv .room .words in simp length-set (omega arith)
 
--- src/lib.rt:458:9
 add-x : tie.Need-add-x Inv-loop μ-loop
 add-x c = omega (arith, c .loop-test .taken, c .before .loop .inv .room .words, c .before .loop .inv .room .small)
 
--- src/lib.rt:453:5
 loop-less : tie.Need-loop-less Inv-loop μ-loop
 loop-less c = omega (arith, c .loop-test .taken)
 
--- src/lib.rt:453:5
 loop-again : tie.Need-loop-again Inv-loop μ-loop
 loop-again c = let a = c .before .before .args in let k = c .before .loop in regions-turn (a .m) (a .n) (a .w .now) (k .w) (a .d .now) (k .x) _ (k .inv) (c .loop-test .taken)
 
--- src/lib.rt:448:1
 same-length : tie.Need-same-length Inv-loop μ-loop
 same-length c = c .before .loop .inv .same-w
 
--- src/lib.rt:448:1
 returns : tie.Need-returns Inv-loop μ-loop
 returns c = let a = c .before .before .args in let k = c .before .loop in regions-end (a .m) (a .n) (a .w .now) (k .w) (a .d .now) (k .x) _ (k .inv) (c .loop-test .left)
 

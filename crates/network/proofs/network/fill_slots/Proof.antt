@@ -1,16 +1,11 @@
+-- `network::network::fill_slots` meets its contract. Assumes nothing.
 use Rattle.network.proofs.network.BeginDoes.{Going, going-start, slots-turn, slots-end}
 use Rattle.network.specs.Begin.{slotsFrom}
 use Rattle.network.specs.Mem.{view}
-use borrow.Author.Needs.{needs}
 use native.Mathlib.Omega.{arith}
-use mathlib.Core.Path.{_≡_, refl, sym, ap, _∙_}
-use mathlib.Core.List.{List, [], _∷_, _++_}
-use Prim.Native.Nat.{ℕ, zero, suc, _+_, _-_, _*_, _≤_, _<_}
-use lib.ListN.{length, getD, set, take, drop, replicate, length-set}
+use Prim.Native.Nat.{_+_, _-_, _*_}
 use Rattle.network.proofs.network.fill_slots.Statement.{statement}
 use Rattle.network.proofs.network.fill_slots.Tie as tie
-use Rattle.network.proofs.network.fill_slots.Reads as reads
-use Rattle.network.proofs.network.fill_slots.Lts as lts
 
 abbrev Inv-loop : tie.InvT-loop
 Inv-loop w₀ d m n l i₀ w i = Going m n slotsFrom w₀ w d l i (slotsFrom (2 * m + n) (view m n w₀ d) 0)
@@ -18,55 +13,42 @@ Inv-loop w₀ d m n l i₀ w i = Going m n slotsFrom w₀ w d l i (slotsFrom (2 
 abbrev μ-loop : tie.MeasureT-loop
 μ-loop w₀ d m n l i₀ w i = l - i
 
--- src/lib.rt:439:13
 mul-l : tie.Need-mul-l Inv-loop μ-loop
 mul-l c = omega (arith, c .pre .small)
 
--- src/lib.rt:439:13
 add-l : tie.Need-add-l Inv-loop μ-loop
 add-l c = omega (arith, c .pre .small)
 
--- src/lib.rt:441:5
 loop-holds : tie.Need-loop-holds Inv-loop μ-loop
 loop-holds c = let a = c .args in going-start (a .m) (a .n) slotsFrom (a .w .now) (a .d .now) (2 * a .m + a .n) (c .pre)
 
--- src/lib.rt:442:24
 cast-w : tie.Need-cast-w Inv-loop μ-loop
 cast-w c = omega (arith, c .loop-test .taken, c .before .loop .inv .room .words, c .before .loop .inv .room .small)
 
--- src/lib.rt:442:11
 mul-w : tie.Need-mul-w Inv-loop μ-loop
 mul-w c = omega (arith, c .loop-test .taken, c .before .loop .inv .room .words, c .before .loop .inv .room .small)
 
--- src/lib.rt:442:11
 add-w : tie.Need-add-w Inv-loop μ-loop
 add-w c = omega (arith, c .loop-test .taken, c .before .loop .inv .room .words, c .before .loop .inv .room .small)
 
--- src/lib.rt:442:9
 mul-w-2 : tie.Need-mul-w-2 Inv-loop μ-loop
 mul-w-2 c = omega (arith, c .loop-test .taken, c .before .loop .inv .room .words, c .before .loop .inv .room .small)
 
--- src/lib.rt:442:9
 slice-write-w : tie.Need-slice-write-w Inv-loop μ-loop
 slice-write-w c = omega (arith, c .loop-test .taken, c .before .loop .inv .room .words, c .before .loop .inv .room .small)
 
--- src/lib.rt:443:9
 add-i : tie.Need-add-i Inv-loop μ-loop
 add-i c = omega (arith, c .loop-test .taken, c .before .loop .inv .room .words, c .before .loop .inv .room .small)
 
--- src/lib.rt:441:5
 loop-less : tie.Need-loop-less Inv-loop μ-loop
 loop-less c = omega (arith, c .loop-test .taken)
 
--- src/lib.rt:441:5
 loop-again : tie.Need-loop-again Inv-loop μ-loop
 loop-again c = let a = c .before .before .args in let k = c .before .loop in slots-turn (a .m) (a .n) (a .w .now) (k .w) (a .d .now) (k .i) _ (k .inv) (c .loop-test .taken)
 
--- src/lib.rt:435:1
 same-length : tie.Need-same-length Inv-loop μ-loop
 same-length c = c .before .loop .inv .same-w
 
--- src/lib.rt:435:1
 returns : tie.Need-returns Inv-loop μ-loop
 returns c = let a = c .before .before .args in let k = c .before .loop in slots-end (a .m) (a .n) (a .w .now) (k .w) (a .d .now) (k .i) _ (k .inv) (c .loop-test .left)
 

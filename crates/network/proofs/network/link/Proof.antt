@@ -1,153 +1,115 @@
+-- `network::network::link` meets its contract. Assumes nothing.
 use Rattle.network.proofs.network.View.{elen-at}
 use Rattle.network.proofs.network.BeginDoes.{link-does}
 use native.Mathlib.Omega.{arith}
-use mathlib.Core.Path.{_≡_, refl, sym, ap, _∙_}
-use mathlib.Core.List.{List, [], _∷_, _++_}
-use Prim.Native.Nat.{ℕ, zero, suc, _+_, _-_, _*_, _≤_, _<_}
-use lib.ListN.{length, getD, set, take, drop, replicate, length-set}
+use Prim.Native.Nat.{_-_}
+use lib.ListN.{length-set}
 use borrow.Author.Needs.{needs}
 use Rattle.network.proofs.network.link.Statement.{statement}
 use Rattle.network.proofs.network.link.Tie as tie
-use Rattle.network.proofs.network.link.Reads as reads
-use Rattle.network.proofs.network.link.Lts as lts
 
--- src/lib.rt:469:15
 mul-h : tie.Need-mul-h
 mul-h c = search needs
 
--- src/lib.rt:469:24
 mul-h-2 : tie.Need-mul-h-2
 mul-h-2 c = search needs
 
--- src/lib.rt:469:24
 add-h : tie.Need-add-h
 add-h c = search needs
 
--- src/lib.rt:469:15
 add-h-2 : tie.Need-add-h-2
 add-h-2 c = search needs
 
--- src/lib.rt:469:13
 mul-h-3 : tie.Need-mul-h-3
 mul-h-3 c = search needs
 
--- src/lib.rt:469:13
 slice-read-h : tie.Need-slice-read-h
 slice-read-h c = search needs
 
--- src/lib.rt:470:15
 mul-t : tie.Need-mul-t
 mul-t c = search needs
 
--- src/lib.rt:470:15
 add-t : tie.Need-add-t
 add-t c = search needs
 
--- src/lib.rt:470:13
 mul-t-2 : tie.Need-mul-t-2
 mul-t-2 c = search needs
 
--- src/lib.rt:470:13
 slice-read-t : tie.Need-slice-read-t
 slice-read-t c = search needs
 
--- src/lib.rt:471:15
 mul-l : tie.Need-mul-l
 mul-l c = search needs
 
--- src/lib.rt:471:23
 mul-l-2 : tie.Need-mul-l-2
 mul-l-2 c = search needs
 
--- src/lib.rt:471:15
 add-l : tie.Need-add-l
 add-l c = search needs
 
--- src/lib.rt:471:15
 add-l-2 : tie.Need-add-l-2
 add-l-2 c = search needs
 
--- src/lib.rt:471:13
 mul-l-3 : tie.Need-mul-l-3
 mul-l-3 c = search needs
 
--- src/lib.rt:471:13
 slice-read-l : tie.Need-slice-read-l
 slice-read-l c = search needs
 
--- src/lib.rt:472:7
 mul-w : tie.Need-mul-w
 mul-w c = search needs
 
--- src/lib.rt:472:16
 mul-w-2 : tie.Need-mul-w-2
 mul-w-2 c = search needs
 
--- src/lib.rt:472:16
 add-w : tie.Need-add-w
 add-w c = search needs
 
--- src/lib.rt:472:7
 add-w-2 : tie.Need-add-w-2
 add-w-2 c = search needs
 
--- src/lib.rt:472:5
 mul-w-3 : tie.Need-mul-w-3
 mul-w-3 c = search needs
 
--- src/lib.rt:472:5
 slice-write-w : tie.Need-slice-write-w
 slice-write-w c = search needs
 
--- src/lib.rt:473:7
 mul-w-4 : tie.Need-mul-w-4
 mul-w-4 c = search needs
 
--- src/lib.rt:473:7
 add-w-3 : tie.Need-add-w-3
 add-w-3 c = search needs
 
--- src/lib.rt:473:5
 mul-w-5 : tie.Need-mul-w-5
 mul-w-5 c = search needs
 
--- src/lib.rt:473:5
 slice-write-w-2 : tie.Need-slice-write-w-2
 slice-write-w-2 c = simp length-set (omega arith)
 
--- src/lib.rt:474:37
 add-w-4 : tie.Need-add-w-4
 add-w-4 c = let a = c .before .before .before .args in omega (arith, c .before .before .before .pre .1 .1, elen-at (a .m) (a .n) (a .w .now) (a .d .now) (a .a) (c .before .before .before .pre .1 .0 .0))
 
--- src/lib.rt:474:7
 mul-w-6 : tie.Need-mul-w-6
 mul-w-6 c = search needs
 
--- src/lib.rt:474:15
 mul-w-7 : tie.Need-mul-w-7
 mul-w-7 c = search needs
 
--- src/lib.rt:474:7
 add-w-5 : tie.Need-add-w-5
 add-w-5 c = search needs
 
--- src/lib.rt:474:7
 add-w-6 : tie.Need-add-w-6
 add-w-6 c = search needs
 
--- src/lib.rt:474:5
 mul-w-8 : tie.Need-mul-w-8
 mul-w-8 c = search needs
 
--- src/lib.rt:474:5
 slice-write-w-3 : tie.Need-slice-write-w-3
 slice-write-w-3 c = simp length-set (omega arith)
 
--- src/lib.rt:463:1
 same-length : tie.Need-same-length
 same-length c = simp length-set
 
--- src/lib.rt:463:1
 returns : tie.Need-returns
 returns c = let a = c .before .before .before .args in link-does (a .m) (a .n) (a .w .now) (a .d .now) (c .before .before .before .pre .0) (a .a) (a .i) (c .before .before .before .pre .1 .0 .0) (c .before .before .before .pre .1 .0 .1)
 

@@ -1,17 +1,11 @@
+-- `network::network::link_all` meets its contract. Assumes nothing.
 use Rattle.network.proofs.network.BeginDoes.{Linking, linking-start, link-one, link-two, link-turn, linking-end}
 use Rattle.network.specs.Begin.{linkFrom}
 use Rattle.network.specs.Mem.{view}
-use borrow.Author.Needs.{needs}
 use native.Mathlib.Omega.{arith}
-use mathlib.Core.Path.{_≡_, refl, sym, ap, _∙_}
-use mathlib.Core.List.{List, [], _∷_, _++_}
-use Prim.Native.Nat.{ℕ, zero, suc, _+_, _-_, _*_, _≤_, _<_}
-use lib.ListN.{length, getD, set, take, drop, replicate, length-set}
+use Prim.Native.Nat.{_-_}
 use Rattle.network.proofs.network.link_all.Statement.{statement}
 use Rattle.network.proofs.network.link_all.Tie as tie
-use Rattle.network.proofs.network.link_all.Reads as reads
-use Rattle.network.proofs.network.link_all.Lts as lts
-use Rattle.network.proofs.network.link.Reads as link-reads
 
 abbrev Inv-loop : tie.InvT-loop
 Inv-loop w₀ d₀ m n j₀ w d j = Linking m n w₀ d₀ w d j (linkFrom m m (view m n w₀ d₀) 0)
@@ -19,83 +13,63 @@ Inv-loop w₀ d₀ m n j₀ w d j = Linking m n w₀ d₀ w d j (linkFrom m m (v
 abbrev μ-loop : tie.MeasureT-loop
 μ-loop w₀ d₀ m n j₀ w d j = m - j
 
--- src/lib.rt:484:5
 loop-holds : tie.Need-loop-holds Inv-loop μ-loop
 loop-holds c = let a = c .before .before .args in linking-start (a .m) (a .n) (a .w .now) (a .d .now) (c .before .before .pre .0) (c .before .before .pre .1)
 
--- src/lib.rt:485:19
 mul-a : tie.Need-mul-a Inv-loop μ-loop
 mul-a c = omega (arith, c .loop-test .taken, c .before .loop .inv .room .words, c .before .loop .inv .room .small)
 
--- src/lib.rt:485:19
 add-a : tie.Need-add-a Inv-loop μ-loop
 add-a c = omega (arith, c .loop-test .taken, c .before .loop .inv .room .words, c .before .loop .inv .room .small)
 
--- src/lib.rt:485:17
 mul-a-2 : tie.Need-mul-a-2 Inv-loop μ-loop
 mul-a-2 c = omega (arith, c .loop-test .taken, c .before .loop .inv .room .words, c .before .loop .inv .room .small)
 
--- src/lib.rt:485:17
 slice-read-a : tie.Need-slice-read-a Inv-loop μ-loop
 slice-read-a c = omega (arith, c .before .loop-test .taken, c .before .before .loop .inv .room .words, c .before .before .loop .inv .room .small)
 
--- src/lib.rt:486:19
 mul-b : tie.Need-mul-b Inv-loop μ-loop
 mul-b c = omega (arith, c .before .loop-test .taken, c .before .before .loop .inv .room .words, c .before .before .loop .inv .room .small)
 
--- src/lib.rt:486:19
 add-b : tie.Need-add-b Inv-loop μ-loop
 add-b c = omega (arith, c .before .loop-test .taken, c .before .before .loop .inv .room .words, c .before .before .loop .inv .room .small)
 
--- src/lib.rt:486:17
 mul-b-2 : tie.Need-mul-b-2 Inv-loop μ-loop
 mul-b-2 c = omega (arith, c .before .loop-test .taken, c .before .before .loop .inv .room .words, c .before .before .loop .inv .room .small)
 
--- src/lib.rt:486:17
 slice-read-b : tie.Need-slice-read-b Inv-loop μ-loop
 slice-read-b c = omega (arith, c .before .before .loop-test .taken, c .before .before .before .loop .inv .room .words, c .before .before .before .loop .inv .room .small)
 
--- src/lib.rt:487:29
 mul-link : tie.Need-mul-link Inv-loop μ-loop
 mul-link c = omega (arith, c .before .before .before .before .loop-test .taken, c .before .before .before .before .before .loop .inv .room .words, c .before .before .before .before .before .loop .inv .room .small)
 
--- src/lib.rt:487:9
 link-requires : tie.Need-link-requires Inv-loop μ-loop
 link-requires c κs = let a = c .before .before .before .before .before .before .before .before .args in let k = c .before .before .before .before .before .loop in link-one (a .m) (a .n) (a .w .now) (a .d .now) (k .w) (k .d) (k .j) _ (k .inv) (c .before .before .before .before .loop-test .taken)
 
--- src/lib.rt:488:29
 mul-link-2 : tie.Need-mul-link-2 Inv-loop μ-loop
 mul-link-2 c = omega (arith, c .before .before .before .before .before .before .before .before .before .before .before .loop-test .taken, c .before .before .before .before .before .before .before .before .before .before .before .before .loop .inv .room .words, c .before .before .before .before .before .before .before .before .before .before .before .before .loop .inv .room .small)
 
--- src/lib.rt:488:29
 add-link : tie.Need-add-link Inv-loop μ-loop
 add-link c = omega (arith, c .before .before .before .before .before .before .before .before .before .before .before .loop-test .taken, c .before .before .before .before .before .before .before .before .before .before .before .before .loop .inv .room .words, c .before .before .before .before .before .before .before .before .before .before .before .before .loop .inv .room .small)
 
--- src/lib.rt:488:9
 link-requires-2 : tie.Need-link-requires-2 Inv-loop μ-loop
 link-requires-2 c κs = let a = c .before .before .before .before .before .before .before .before .before .before .before .before .before .before .before .args in let k = c .before .before .before .before .before .before .before .before .before .before .before .before .loop in let z = c .before .before .before .before .before .before .link in link-two (a .m) (a .n) (a .w .now) (a .d .now) (k .w) (k .d) (k .j) _ (k .inv) (c .before .before .before .before .before .before .before .before .before .before .before .loop-test .taken) (z .last .0) (z .last .1 .0) (z .kept .0) (z .kept .1 .0) (z .ensures)
 
--- src/lib.rt:489:9
 add-j : tie.Need-add-j Inv-loop μ-loop
 add-j c = omega (arith, c .before .before .before .before .before .before .before .before .before .before .before .before .before .before .before .before .loop-test .taken, c .before .before .before .before .before .before .before .before .before .before .before .before .before .before .before .before .before .loop .inv .room .words, c .before .before .before .before .before .before .before .before .before .before .before .before .before .before .before .before .before .loop .inv .room .small)
 
--- src/lib.rt:484:5
 loop-less : tie.Need-loop-less Inv-loop μ-loop
 loop-less c = omega (arith, c .before .before .before .before .before .before .before .before .before .before .before .before .before .before .before .before .loop-test .taken)
 
--- src/lib.rt:484:5
 loop-again : tie.Need-loop-again Inv-loop μ-loop
 loop-again c = let a = c .before .before .before .before .before .before .before .before .before .before .before .before .before .before .before .before .before .before .before .before .args in let k = c .before .before .before .before .before .before .before .before .before .before .before .before .before .before .before .before .before .loop in let z = c .before .before .before .before .before .before .before .before .before .before .before .link in let u = c .before .before .before .before .link2 in link-turn (a .m) (a .n) (a .w .now) (a .d .now) (k .w) (k .d) (k .j) _ (k .inv) (c .before .before .before .before .before .before .before .before .before .before .before .before .before .before .before .before .loop-test .taken) (z .last .0) (z .last .1 .0) (z .kept .0) (z .kept .1 .0) (z .ensures) (u .last .0) (u .last .1 .0) (u .kept .0) (u .kept .1 .0) (u .ensures)
 
--- src/lib.rt:478:1
 same-length : tie.Need-same-length Inv-loop μ-loop
 same-length c = c .before .loop .inv .same-w
 
--- src/lib.rt:478:1
 same-length-2 : tie.Need-same-length-2 Inv-loop μ-loop
 same-length-2 c = c .before .loop .inv .same-d
 
--- src/lib.rt:478:1
 returns : tie.Need-returns Inv-loop μ-loop
 returns c = let a = c .before .before .before .before .args in let k = c .before .loop in linking-end (a .m) (a .n) (a .w .now) (a .d .now) (k .w) (k .d) (k .j) _ (k .inv) (c .loop-test .left)
 

@@ -1,19 +1,10 @@
+-- `network::network::number` meets its contract. Assumes nothing.
 use Rattle.network.proofs.network.NumberIs.{above, below, sum-fits, sum-casts, sum-is, outside}
-use Rattle.arithmetic.specs.declared.rounding.Rounded.{Rounded}
 use Rattle.arithmetic.specs.Rounding.{roundEven}
-use lib.IntN.{ℤ, pos}
-use mathlib.Core.Bool.{Bool, true, false}
-use native.Mathlib.Omega.{arith}
-use mathlib.Core.Path.{_≡_, refl, sym, ap, _∙_}
-use mathlib.Core.List.{List, [], _∷_, _++_}
-use Prim.Native.Nat.{ℕ, zero, suc, _+_, _-_, _*_, _≤_, _<_}
-use lib.ListN.{length, getD, set, take, drop, replicate, length-set}
+use Prim.Native.Nat.{_-_}
 use borrow.Author.Needs.{needs}
 use Rattle.network.proofs.network.number.Statement.{statement}
 use Rattle.network.proofs.network.number.Tie as tie
-use Rattle.network.proofs.network.number.Reads as reads
-use Rattle.network.proofs.network.number.Lts as lts
-use Rattle.arithmetic.proofs.rounding.round_even.Reads as round-even-reads
 
 round-even-requires : tie.Need-round-even-requires
 round-even-requires c κs = search needs

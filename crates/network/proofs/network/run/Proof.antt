@@ -1,17 +1,13 @@
+-- `network::network::run` meets its contract. Assumes nothing.
 use Rattle.network.proofs.network.Turns.{Running, run-start, run-out, run-merged, run-denied, run-ended}
 use Rattle.network.specs.TurnIs.{gatesIn}
 use Rattle.network.specs.Mem.{view}
 use borrow.Author.Needs.{needs}
 use native.Mathlib.Omega.{arith}
-use mathlib.Core.Path.{_≡_, refl, sym, ap, _∙_}
-use mathlib.Core.List.{List, [], _∷_, _++_}
-use Prim.Native.Nat.{ℕ, zero, suc, _+_, _-_, _*_, _≤_, _<_}
-use lib.ListN.{length, getD, set, take, drop, replicate, length-set}
+use mathlib.Core.Path.{_∙_}
+use Prim.Native.Nat.{_-_}
 use Rattle.network.proofs.network.run.Statement.{statement}
 use Rattle.network.proofs.network.run.Tie as tie
-use Rattle.network.proofs.network.run.Reads as reads
-use Rattle.network.proofs.network.run.Lts as lts
-use Rattle.network.proofs.network.turn.Reads as turn-reads
 
 abbrev Inv-loop : tie.InvT-loop
 Inv-loop w₀ d₀ m n last₀ k₀ w d last k = Running m n w₀ d₀ w d last k
@@ -19,75 +15,57 @@ Inv-loop w₀ d₀ m n last₀ k₀ w d last k = Running m n w₀ d₀ w d last 
 abbrev μ-loop : tie.MeasureT-loop
 μ-loop w₀ d₀ m n last₀ k₀ w d last k = m - k
 
--- src/lib.rt:414:20
 cast-last : tie.Need-cast-last Inv-loop μ-loop
 cast-last c = omega (arith, c .before .before .pre .0 .small)
 
--- src/lib.rt:416:5
 loop-holds : tie.Need-loop-holds Inv-loop μ-loop
 loop-holds c = let a = c .before .before .args in run-start (a .m) (a .n) (a .w .now) (a .d .now) (c .before .before .pre .0) (c .before .before .pre .1)
 
--- src/lib.rt:417:15
 turn-requires : tie.Need-turn-requires Inv-loop μ-loop
 turn-requires c κs = let a = c .before .before .before .before .before .before .args in let i = c .before .before .before .loop .inv in (i .room, ((gatesIn (view (a .m) (a .n) (a .w .now) (a .d .now)), i .net, i .rep), omega (arith, c .before .before .loop-test .taken)))
 
--- src/lib.rt:418:28
 enum-known-b : tie.Need-enum-known-b Inv-loop μ-loop
 enum-known-b c = search needs
 
--- src/lib.rt:420:17
 add-k : tie.Need-add-k Inv-loop μ-loop
 add-k c = omega (arith, c .before .before .before .before .before .before .before .before .before .before .loop-test .taken)
 
--- src/lib.rt:416:5
 loop-less : tie.Need-loop-less Inv-loop μ-loop
 loop-less c = omega (arith, c .before .before .before .before .before .before .before .before .before .before .loop-test .taken)
 
--- src/lib.rt:416:5
 loop-again : tie.Need-loop-again Inv-loop μ-loop
 loop-again c = let a = c .before .before .before .before .before .before .before .before .before .before .before .before .before .before .args in let k = c .before .before .before .before .before .before .before .before .before .before .before .loop in let z = c .before .before .before .before .before .before .before .turn in run-merged (a .m) (a .n) (a .w .now) (a .d .now) (k .w) (k .d) (k .last) (k .k) (k .inv) (c .before .before .before .before .before .before .before .before .before .before .loop-test .taken) (z .last .0) (z .last .1 .0) (z .kept .0) (z .kept .1 .0) (c .before .b .given .0 .0) (z .result) (c .before .b .given .1) (z .ensures (gatesIn (view (a .m) (a .n) (a .w .now) (a .d .now))) (k .inv .net) (k .inv .rep))
 
--- src/lib.rt:423:17
 enum-told : tie.Need-enum-told Inv-loop μ-loop
 enum-told c = search needs
 
--- src/lib.rt:423:17
 same-length : tie.Need-same-length Inv-loop μ-loop
 same-length c = c .before .before .before .before .before .before .turn .kept .0 ∙ c .before .before .before .before .before .before .before .before .before .before .loop .inv .same-w
 
--- src/lib.rt:423:17
 same-length-2 : tie.Need-same-length-2 Inv-loop μ-loop
 same-length-2 c = c .before .before .before .before .before .before .turn .kept .1 .0 ∙ c .before .before .before .before .before .before .before .before .before .before .loop .inv .same-d
 
--- src/lib.rt:423:17
 returns : tie.Need-returns Inv-loop μ-loop
 returns c = let a = c .before .before .before .before .before .before .before .before .before .before .before .before .before .args in let k = c .before .before .before .before .before .before .before .before .before .before .loop in let z = c .before .before .before .before .before .before .turn in run-ended (a .m) (a .n) (a .w .now) (a .d .now) (k .w) (k .d) (k .last) (k .k) (k .inv) (c .before .before .before .before .before .before .before .before .before .loop-test .taken) (z .last .0) (z .last .1 .0) (z .kept .0) (z .kept .1 .0) (z .result) (c .enum-told .given .1) (z .ensures (gatesIn (view (a .m) (a .n) (a .w .now) (a .d .now))) (k .inv .net) (k .inv .rep))
 
--- src/lib.rt:426:17
 enum-told-2 : tie.Need-enum-told-2 Inv-loop μ-loop
 enum-told-2 c = search needs
 
--- src/lib.rt:426:17
 same-length-3 : tie.Need-same-length-3 Inv-loop μ-loop
 same-length-3 c = c .before .before .before .before .before .before .turn .kept .0 ∙ c .before .before .before .before .before .before .before .before .before .before .loop .inv .same-w
 
--- src/lib.rt:426:17
 same-length-4 : tie.Need-same-length-4 Inv-loop μ-loop
 same-length-4 c = c .before .before .before .before .before .before .turn .kept .1 .0 ∙ c .before .before .before .before .before .before .before .before .before .before .loop .inv .same-d
 
--- src/lib.rt:426:17
 returns-2 : tie.Need-returns-2 Inv-loop μ-loop
 returns-2 c = let a = c .before .before .before .before .before .before .before .before .before .before .before .before .before .args in let k = c .before .before .before .before .before .before .before .before .before .before .loop in let z = c .before .before .before .before .before .before .turn in run-denied (a .m) (a .n) (a .w .now) (a .d .now) (k .w) (k .d) (k .last) (k .k) (k .inv) (c .before .before .before .before .before .before .before .before .before .loop-test .taken) (z .last .0) (z .last .1 .0) (z .kept .0) (z .kept .1 .0) (z .result) (c .enum-told2 .given .1) (z .ensures (gatesIn (view (a .m) (a .n) (a .w .now) (a .d .now))) (k .inv .net) (k .inv .rep))
 
--- src/lib.rt:409:1
 same-length-5 : tie.Need-same-length-5 Inv-loop μ-loop
 same-length-5 c = c .before .loop .inv .same-w
 
--- src/lib.rt:409:1
 same-length-6 : tie.Need-same-length-6 Inv-loop μ-loop
 same-length-6 c = c .before .loop .inv .same-d
 
--- src/lib.rt:409:1
 returns-3 : tie.Need-returns-3 Inv-loop μ-loop
 returns-3 c = let a = c .before .before .before .before .args in let k = c .before .loop in run-out (a .m) (a .n) (a .w .now) (a .d .now) (k .w) (k .d) (k .last) (k .k) (k .inv) (c .loop-test .left)
 

@@ -1,141 +1,105 @@
-use Rattle.network.proofs.network.Reduction.{asked, sizes-ask, copy-ask, space, raw-ask, copy2-ask, l5, reduced}
+-- `network::reduce::reduce` meets its contract. Assumes nothing.
+use Rattle.network.proofs.network.Reduction.{sizes-ask, space, raw-ask, l5, reduced}
 use borrow.Rule.Slice.PartMut.{putMid}
 use Rattle.arithmetic.specs.Seg.{seg}
-use Rattle.network.proofs.network.Reduction.{asked, sizes-ask, copy-ask, space, raw-ask, copy2-ask, reduced}
+use Rattle.network.proofs.network.Reduction.{sizes-ask, space, raw-ask, reduced}
 use native.Mathlib.Omega.{arith}
-use mathlib.Core.Path.{_≡_, refl, sym, ap, _∙_}
-use mathlib.Core.List.{List, [], _∷_, _++_}
-use Prim.Native.Nat.{ℕ, zero, suc, _+_, _-_, _*_, _≤_, _<_}
-use lib.ListN.{length, getD, set, take, drop, replicate, length-set}
+use mathlib.Core.Path.{refl, _∙_}
+use Prim.Native.Nat.{_+_, _-_, _*_}
+use lib.ListN.{set, length-set}
 use borrow.Author.Needs.{needs}
 use Rattle.network.proofs.reduce.reduce.Statement.{statement}
 use Rattle.network.proofs.reduce.reduce.Tie as tie
-use Rattle.network.proofs.reduce.reduce.Reads as reads
-use Rattle.network.proofs.reduce.reduce.Lts as lts
-use Rattle.memory.proofs.sort.copy.Reads as copy-reads
-use Rattle.network.proofs.edges.find_edges.Reads as find-edges-reads
-use Rattle.network.proofs.network.merge_all.Reads as merge-all-reads
-use Rattle.network.proofs.sizes.count_sizes.Reads as count-sizes-reads
 
--- src/reduce.rt:19:13
 mul-t : tie.Need-mul-t
 mul-t c = search needs
 
--- src/reduce.rt:20:17
 add-nodes : tie.Need-add-nodes
 add-nodes c = search needs
 
--- src/reduce.rt:21:9
 find-edges-requires : tie.Need-find-edges-requires
 find-edges-requires c κs = search needs
 
--- src/reduce.rt:22:5
 count-sizes-requires : tie.Need-count-sizes-requires
 count-sizes-requires c κs = let a = c .before .before .before .before .before .before .before .before .before .before .before .args in let g = c .before .before .before .before .before .find-edges in sizes-ask (a .f) (a .w .now) (a .d .now) (a .vel .now) (a .n) (a .k) (a .wide) (c .before .before .before .before .before .before .before .before .before .before .before .pre) (g .last .0) (g .last .1 .0) (g .result) (g .kept .0) (g .kept .1 .0) (g .ensures)
 
--- src/reduce.rt:23:34
 mul-copy : tie.Need-mul-copy
 mul-copy c = search needs
 
--- src/reduce.rt:23:30
 add-copy : tie.Need-add-copy
 add-copy c = search needs
 
--- src/reduce.rt:23:42
 mul-copy-2 : tie.Need-mul-copy-2
 mul-copy-2 c = search needs
 
--- src/reduce.rt:23:30
 add-copy-2 : tie.Need-add-copy-2
 add-copy-2 c = search needs
 
--- src/reduce.rt:23:5
 copy-requires : tie.Need-copy-requires
 copy-requires c κs = search needs
 
--- src/reduce.rt:24:19
 mul-end : tie.Need-mul-end
 mul-end c = search needs
 
--- src/reduce.rt:24:15
 add-end : tie.Need-add-end
 add-end c = search needs
 
--- src/reduce.rt:24:27
 mul-end-2 : tie.Need-mul-end-2
 mul-end-2 c = search needs
 
--- src/reduce.rt:24:15
 add-end-2 : tie.Need-add-end-2
 add-end-2 c = search needs
 
--- src/reduce.rt:25:39
 mul-merge-all : tie.Need-mul-merge-all
 mul-merge-all c = search needs
 
--- src/reduce.rt:25:39
 sub-merge-all : tie.Need-sub-merge-all
 sub-merge-all c = search needs
 
--- src/reduce.rt:25:39
 part-merge-all-start : tie.Need-part-merge-all-start
 part-merge-all-start c = search needs
 
--- src/reduce.rt:25:39
 part-merge-all-end : tie.Need-part-merge-all-end
 part-merge-all-end c = search needs
 
--- src/reduce.rt:25:9
 merge-all-requires : tie.Need-merge-all-requires
 unfolding seg
 merge-all-requires c κs = let a = c .before .before .before .before .before .before .before .before .before .before .before .before .before .before .before .before .before .before .before .before .args in let g = c .before .before .before .before .before .before .before .before .before .before .before .before .before .before .find-edges in let z = c .before .before .before .before .before .before .before .before .count-sizes in let y = c .before .before .before .before .copy in (space (a .f) (a .w .now) (a .d .now) (a .vel .now) (a .n) (a .k) (a .wide) (c .before .before .before .before .before .before .before .before .before .before .before .before .before .before .before .before .before .before .before .before .pre) (g .last .0) (g .last .1 .0) (g .result) (g .kept .0) (g .kept .1 .0) (g .ensures) (z .last .0) (z .ensures) (y .last .0) (y .ensures) ((13 * a .n + 7 * g .result + 7 * (a .k + 1)) - 13 * a .n) (omega arith), raw-ask (a .f) (a .w .now) (a .d .now) (a .vel .now) (a .n) (a .k) (a .wide) (c .before .before .before .before .before .before .before .before .before .before .before .before .before .before .before .before .before .before .before .before .pre) (g .last .0) (g .last .1 .0) (g .result) (g .kept .0) (g .kept .1 .0) (g .ensures) (z .last .0) (z .ensures) (y .last .0) (y .ensures) ((13 * a .n + 7 * g .result + 7 * (a .k + 1)) - 13 * a .n) (omega arith))
 
--- src/reduce.rt:26:31
 mul-copy-3 : tie.Need-mul-copy-3
 mul-copy-3 c = search needs
 
--- src/reduce.rt:26:27
 add-copy-3 : tie.Need-add-copy-3
 add-copy-3 c = search needs
 
--- src/reduce.rt:26:39
 mul-copy-4 : tie.Need-mul-copy-4
 mul-copy-4 c = search needs
 
--- src/reduce.rt:26:27
 add-copy-4 : tie.Need-add-copy-4
 add-copy-4 c = search needs
 
--- src/reduce.rt:26:50
 add-copy-5 : tie.Need-add-copy-5
 add-copy-5 c = search needs
 
--- src/reduce.rt:26:5
 copy-requires-2 : tie.Need-copy-requires-2
 copy-requires-2 c κs = search needs
 
--- src/reduce.rt:27:7
 add-w : tie.Need-add-w
 add-w c = search needs
 
--- src/reduce.rt:27:5
 mul-w : tie.Need-mul-w
 mul-w c = search needs
 
--- src/reduce.rt:27:5
 slice-write-w : tie.Need-slice-write-w
 slice-write-w c = search needs
 
--- src/reduce.rt:7:1
 same-length : tie.Need-same-length
 unfolding seg
 same-length c = let a = c .before .before .before .before .before .before .before .before .before .before .before .before .before .before .before .before .before .before .before .before .before .before .before .before .before .before .before .before .before .args in let g = c .before .before .before .before .before .before .before .before .before .before .before .before .before .before .before .before .before .before .before .before .before .before .before .find-edges in let z = c .before .before .before .before .before .before .before .before .before .before .before .before .before .before .before .before .before .count-sizes in let y = c .before .before .before .before .before .before .before .before .before .before .before .before .before .copy in let m = c .before .before .before .before .before .before .before .before .merge-all in let x = c .before .before .copy2 in length-set (x .last .0) (a .n + (a .k + 1)) 1000 ∙ l5 (a .f) (a .w .now) (a .d .now) (a .vel .now) (a .n) (a .k) (a .wide) (c .before .before .before .before .before .before .before .before .before .before .before .before .before .before .before .before .before .before .before .before .before .before .before .before .before .before .before .before .before .pre) (g .last .0) (g .last .1 .0) (g .result) (g .kept .0) (g .kept .1 .0) (g .ensures) (z .last .0) (z .ensures) (y .last .0) (y .ensures) ((13 * a .n + 7 * g .result + 7 * (a .k + 1)) - 13 * a .n) (omega arith) (m .last .0) (m .last .1 .0) (m .result) (m .kept .0) (m .ensures) (putMid (13 * a .n) ((13 * a .n + 7 * g .result + 7 * (a .k + 1)) - 13 * a .n) (y .last .0) (m .last .0)) refl (x .last .0) (set (x .last .0) (a .n + (a .k + 1)) 1000) (x .ensures) refl
 
--- src/reduce.rt:7:1
 same-length-2 : tie.Need-same-length-2
 same-length-2 c = search needs
 
--- src/reduce.rt:7:1
 returns : tie.Need-returns
 unfolding seg
 returns c = let a = c .before .before .before .before .before .before .before .before .before .before .before .before .before .before .before .before .before .before .before .before .before .before .before .before .before .before .before .before .before .args in let g = c .before .before .before .before .before .before .before .before .before .before .before .before .before .before .before .before .before .before .before .before .before .before .before .find-edges in let z = c .before .before .before .before .before .before .before .before .before .before .before .before .before .before .before .before .before .count-sizes in let y = c .before .before .before .before .before .before .before .before .before .before .before .before .before .copy in let m = c .before .before .before .before .before .before .before .before .merge-all in let x = c .before .before .copy2 in reduced (a .f) (a .w .now) (a .d .now) (a .vel .now) (a .n) (a .k) (a .wide) (c .before .before .before .before .before .before .before .before .before .before .before .before .before .before .before .before .before .before .before .before .before .before .before .before .before .before .before .before .before .pre) (g .last .0) (g .last .1 .0) (g .result) (g .kept .0) (g .kept .1 .0) (g .ensures) (z .last .0) (z .ensures) (y .last .0) (y .ensures) ((13 * a .n + 7 * g .result + 7 * (a .k + 1)) - 13 * a .n) (omega arith) (m .last .0) (m .last .1 .0) (m .result) (m .kept .0) (m .ensures) (putMid (13 * a .n) ((13 * a .n + 7 * g .result + 7 * (a .k + 1)) - 13 * a .n) (y .last .0) (m .last .0)) refl (x .last .0) (set (x .last .0) (a .n + (a .k + 1)) 1000) (x .ensures) refl

@@ -1,19 +1,15 @@
-use borrow.Author.Needs.{needs}
+-- `network::sizes::count_sizes` meets its contract. Assumes nothing.
 use Rattle.arithmetic.specs.Seg.{seg, put}
 use Rattle.arithmetic.specs.Seq.{tabulate}
 use Rattle.network.specs.Network.{sizeIn}
 use Rattle.network.specs.Sizes.{Sizes}
 use Rattle.network.proofs.sizes.SizeLaws.{Sized, sized, sizes-fill, sizes-begin, sizes-end, sizes-whole}
 use native.Mathlib.Omega.{arith}
-use mathlib.Core.Path.{_≡_, refl, sym, ap, _∙_}
-use mathlib.Core.List.{List, [], _∷_, _++_}
-use Prim.Native.Nat.{ℕ, zero, suc, _+_, _-_, _*_, _≤_, _<_}
-use lib.ListN.{length, getD, set, take, drop, replicate, length-set}
+use mathlib.Core.Path.{_≡_, refl}
+use Prim.Native.Nat.{_-_, _≤_}
+use lib.ListN.{length, take, length-set}
 use Rattle.network.proofs.sizes.count_sizes.Statement.{statement}
 use Rattle.network.proofs.sizes.count_sizes.Tie as tie
-use Rattle.network.proofs.sizes.count_sizes.Reads as reads
-use Rattle.network.proofs.sizes.count_sizes.Lts as lts
-use Rattle.memory.proofs.sort.fill.Reads as fill-reads
 
 abbrev Inv-loop : tie.InvT-loop
 Inv-loop w₀ n at k g₀ w g = (g ≤ n) × (Sizes w₀ n at k × ((w ≡ put w₀ at (tabulate k (sizeIn (take g (seg w₀ 0 n))))) × (length w ≡ length w₀)))
@@ -24,71 +20,54 @@ abbrev μ-loop : tie.MeasureT-loop
 at : (c : tie.In-loop Inv-loop μ-loop) → Sized (c .before .before .before .before .fill .last .0) (c .before .loop .w) (c .before .before .before .before .before .before .before .args .n) (c .before .before .before .before .before .before .before .args .at) (c .before .before .before .before .before .before .before .args .k) (c .before .loop .g)
 at c = let a = c .before .before .before .before .before .before .before .args in let l = c .before .loop in sized (c .before .before .before .before .fill .last .0) (l .w) (a .n) (a .at) (a .k) (l .g) (l .inv .1 .0) (l .inv .1 .1 .0) (c .loop-test .taken)
 
--- src/sizes.rt:15:5
 fill-requires : tie.Need-fill-requires Inv-loop μ-loop
 fill-requires c κs = omega (arith, c .before .before .pre .room)
 
--- src/sizes.rt:17:5
 loop-holds : tie.Need-loop-holds Inv-loop μ-loop
 loop-holds c = let a = c .before .before .before .before .before .args in let u = c .before .before .fill in (omega arith, (sizes-fill (a .w .now) (u .last .0) (a .n) (a .at) (a .k) (c .before .before .before .before .before .pre) (u .ensures), (sizes-begin (a .w .now) (u .last .0) (a .n) (a .at) (a .k) (c .before .before .before .before .before .pre) (u .ensures), refl)))
 
--- src/sizes.rt:18:17
 mul-l : tie.Need-mul-l Inv-loop μ-loop
 mul-l c = omega (arith, at (c))
 
--- src/sizes.rt:18:17
 slice-read-l : tie.Need-slice-read-l Inv-loop μ-loop
 slice-read-l c = omega (arith, at (c .before))
 
--- src/sizes.rt:18:17
 cast-l : tie.Need-cast-l Inv-loop μ-loop
 cast-l c = omega (arith, at (c .before))
 
--- src/sizes.rt:19:19
 add-c : tie.Need-add-c Inv-loop μ-loop
 add-c c = omega (arith, at (c .before))
 
--- src/sizes.rt:19:17
 mul-c : tie.Need-mul-c Inv-loop μ-loop
 mul-c c = omega (arith, at (c .before))
 
--- src/sizes.rt:19:17
 slice-read-c : tie.Need-slice-read-c Inv-loop μ-loop
 slice-read-c c = omega (arith, at (c .before .before))
 
--- src/sizes.rt:20:21
 add-w : tie.Need-add-w Inv-loop μ-loop
 add-w c = omega (arith, at (c .before .before))
 
--- src/sizes.rt:20:11
 add-w-2 : tie.Need-add-w-2 Inv-loop μ-loop
 add-w-2 c = omega (arith, at (c .before .before))
 
--- src/sizes.rt:20:9
 mul-w : tie.Need-mul-w Inv-loop μ-loop
 mul-w c = omega (arith, at (c .before .before))
 
--- src/sizes.rt:20:9
 slice-write-w : tie.Need-slice-write-w Inv-loop μ-loop
 slice-write-w c = omega (arith, at (c .before .before))
 
--- src/sizes.rt:21:9
 add-g : tie.Need-add-g Inv-loop μ-loop
 add-g c = omega (arith, at (c .before .before))
 
--- src/sizes.rt:17:5
 loop-less : tie.Need-loop-less Inv-loop μ-loop
 loop-less c = omega (arith, c .before .before .loop-test .taken)
 
--- src/sizes.rt:17:5
 loop-again : tie.Need-loop-again Inv-loop μ-loop
 loop-again c = (omega (arith, c .before .before .loop-test .taken), (c .before .before .before .loop .inv .1 .0, (at (c .before .before) .step, simp length-set (omega (arith, c .before .before .before .loop .inv .1 .1 .1)))))
 
--- src/sizes.rt:11:1
 same-length : tie.Need-same-length Inv-loop μ-loop
 same-length c = omega (arith, c .before .loop .inv .1 .1 .1, c .before .before .before .before .fill .kept .0)
 
--- src/sizes.rt:11:1
 returns : tie.Need-returns Inv-loop μ-loop
 returns c = let a = c .before .before .before .before .before .before .before .args in let u = c .before .before .before .before .fill in sizes-whole (a .w .now) (u .last .0) (a .n) (a .at) (a .k) (c .before .before .before .before .before .before .before .pre) (u .ensures) (c .before .loop .w) (sizes-end (u .last .0) (c .before .loop .w) (a .n) (a .at) (a .k) (c .before .loop .g) (c .before .loop .inv .1 .0) (c .before .loop .inv .1 .1 .0) (omega (arith, c .loop-test .left)))
 
