@@ -32,6 +32,7 @@ pub mod Settles
 pub mod Joint
 pub mod Started
 pub mod Reduction
+pub mod LayoutLaws
 pub mod BeginDoes
 pub mod StartLinks
 pub mod StartRep
