@@ -24,7 +24,7 @@ use Rattle.arithmetic.specs.Asked.{Asked, Fair, front}
 use Rattle.arithmetic.specs.Seq.{all}
 
 -- ---- signed sums
-mag-add : (x y : ℤ) (m n : ℕ) → mag x ≤ m → mag y ≤ n → mag (x +ℤ y) ≤ suc (m + n)
+pub mag-add : (x y : ℤ) (m n : ℕ) → mag x ≤ m → mag y ≤ n → mag (x +ℤ y) ≤ suc (m + n)
 mag-add (pos a) (pos b) m n h k = omega arith
 mag-add (pos a) (negsuc b) m n h k = go (ltb a (suc b)) (nltb→le a (suc b))
   where

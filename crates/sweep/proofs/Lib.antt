@@ -1,3 +1,6 @@
+pub mod SignedLaws
+pub mod SumLaws
+pub mod FillLaws
 pub mod Early
 pub mod Echo
 pub mod GateCounts

@@ -7,7 +7,9 @@ use lib.ListN.{length, getD}
 use lib.IntN.{ℤ, pos, _+ℤ_, _-ℤ_, _*ℤ_}
 use lib.Ieee.{Float, binary64, div}
 use Rattle.arithmetic.specs.Seq.{upto, keep, all, tabulate}
-use Rattle.arithmetic.specs.Rounding.{nearestWhole, real}
+use Rattle.arithmetic.specs.Rounding.{roundEven, real}
+use Rattle.arithmetic.specs.declared.rounding.Rounded.{Rounded}
+use Rattle.arithmetic.specs.declared.rounding.Rounded.the-variants.{Whole, Outside}
 use Rattle.arithmetic.specs.Intervals.{folded}
 use Rattle.labels.specs.Label.{Found}
 use Rattle.labels.specs.Regions.{regions}
@@ -62,9 +64,14 @@ unfoldable pub gatesOf : List Region → ℕ
 gatesOf [] = 0
 gatesOf (r ∷ rs) = r .size + gatesOf rs
 
+-- a rounded number; 0 for what is no number, as the mean over no gates
+unfoldable pub orZero : Rounded → ℤ
+orZero (Whole z) = z
+orZero Outside = pos 0
+
 -- the mean count of the labelled gates, rounded
 unfoldable pub meanOf : List Region → ℤ
-meanOf rs = nearestWhole (div binary64 (real (weighed rs)) (real (pos (gatesOf rs))))
+meanOf rs = orZero (roundEven (div binary64 (real (weighed rs)) (real (pos (gatesOf rs)))))
 
 -- regions found, merges in order, each region's count, the offset, the gates' counts, and whether question 9 gets a yes at each merge
 pub record Unfolded : Type 0 where

@@ -1,1 +1,2 @@
-// Definitions alone stand here as yet: see specs/.
+// A sweep from its velocities to its fold counts.
+pub mod sweep;

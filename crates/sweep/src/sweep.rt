@@ -1,0 +1,114 @@
+// sweep.rs: the sums of centring, the offset, and the counts of all gates.
+ghost use mathlib.Core.Path.{_≡_};
+ghost use Prim.Native.Nat.{ℕ, _+_, _*_, _≤_, _<_, _^_};
+ghost use lib.IntN.{ℤ, pos, natAbs, subℕ};
+ghost use lib.ListN.{length, getD};
+ghost use lib.Ieee.{binary64, div};
+ghost use Rattle.arithmetic.specs.Seq.{tabulate};
+ghost use Rattle.arithmetic.specs.Rounding.{roundEven, real};
+ghost use Rattle.network.specs.Steps.{unbias};
+ghost use Rattle.network.specs.Reduce.{countsAt};
+ghost use Rattle.sweep.specs.Sweep.{orZero, gateCount};
+ghost use Rattle.sweep.specs.Mean.{sumFrom, sizeAt, heldAt, Tabled, Writes};
+ghost use Rattle.sweep.specs.Call.{cleared};
+
+// The gates of all regions, and their counts, with 1,000 added to each, summed over them.
+pub struct Sums {
+    pub gates: u64,
+    pub held: u64,
+}
+
+// The sums over regions 1 to k of n gates.
+fn add_up(w: &[u32], n: usize, k: usize) -> Sums
+    requires { ⌜ Tabled (now w) n k ⌝ }
+    ensures { λ r. ⌜ (r .gates ≡ sumFrom (sizeAt (now (w .entry)) n) 1 k) × (r .held ≡ sumFrom (heldAt (now (w .entry)) n k) 1 k) ⌝ }
+{
+    let mut gates: u64 = 0;
+    let mut held: u64 = 0;
+    let mut l = k;
+    while l > 0 {
+        let s = w[n + l] as u64;
+        let c = w[n + (k + 1) + l] as u64;
+        gates = s + gates;
+        held = s * c + held;
+        l -= 1;
+    }
+    Sums {
+        gates: gates,
+        held: held,
+    }
+}
+
+// The mean count, rounded; 0 where it is no number.
+fn mean(s: Sums) -> i32
+    requires { ⌜ (s .gates ≤ 1440000) × (s .held ≤ 2880000000) ⌝ }
+    ensures { λ r. ⌜ r ≡ orZero (roundEven (div binary64 (real (subℕ (s .held) (1000 * s .gates))) (real (pos (s .gates))))) ⌝ }
+{
+    let total = (s.held as i64) - ((1000 * s.gates) as i64);
+    let x = std::num::nearest_i64_to_f64(total) / std::num::nearest_u64_to_f64(s.gates);
+    match arithmetic::rounding::round_even(x) {
+        arithmetic::rounding::Rounded::Whole(z) => z,
+        arithmetic::rounding::Rounded::Outside => 0,
+    }
+}
+
+// The count of a gate with mask byte m, whose region's count, with 1,000 added, is c.
+fn fold_of(m: u8, c: u32, offset: i32) -> i32
+    requires { ⌜ (c ≤ 2000) × (natAbs offset ≤ 2 ^ 30) ⌝ }
+    ensures { λ r. ⌜ r ≡ gateCount offset m (unbias c) ⌝ }
+{
+    if m != 1 {
+        return 0;
+    }
+    ((c as i32) - 1000) - offset
+}
+
+// The counts of all gates: labels are the first n words, counts lie in their table.
+fn write_folds(w: &[u32], n: usize, k: usize, valid: &[u8], offset: i32, folds: &mut [i32])
+    requires { ⌜ Writes (now w) n k (now valid) offset (length (now folds)) ⌝ }
+    ensures { λ _. ⌜ now (folds .exit) ≡ tabulate n (λ g. gateCount offset (getD (now (valid .entry)) g 0) (unbias (getD (now (w .entry)) (countsAt n k + getD (now (w .entry)) g 0) 0))) ⌝ }
+{
+    let mut g = 0;
+    while g < n {
+        let l = w[g] as usize;
+        let c = w[n + (k + 1) + l];
+        folds[g] = fold_of(valid[g], c, offset);
+        g += 1;
+    }
+}
+
+// All counts 0.
+fn no_folds(folds: &mut [i32])
+    ensures { λ _. ⌜ now (folds .exit) ≡ tabulate (length (now (folds .entry))) (λ g. pos 0) ⌝ }
+{
+    let n = folds.len();
+    let mut g = 0;
+    while g < n {
+        folds[g] = 0;
+        g += 1;
+    }
+}
+
+// The first m words are zero.
+fn clear_words(w: &mut [u32], m: usize)
+    requires { ⌜ m ≤ length (now w) ⌝ }
+    ensures { λ _. ⌜ now (w .exit) ≡ cleared 0 m (now (w .entry)) ⌝ }
+{
+    let mut i = 0;
+    while i < m {
+        w[i] = 0;
+        i += 1;
+    }
+}
+
+// The same of f64.
+fn clear_floats(d: &mut [f64], m: usize)
+    requires { ⌜ m ≤ length (now d) ⌝ }
+    ensures { λ _. ⌜ now (d .exit) ≡ cleared (real (pos 0)) m (now (d .entry)) ⌝ }
+{
+    let mut i = 0;
+    while i < m {
+        d[i] = 0.0;
+        i += 1;
+    }
+}
