@@ -1,5 +1,6 @@
 // regions.rs: the regions of a sweep. The gates of each interval between neighbouring limits are labelled by area, numbers going on from one
 // interval to the next. All intervals are done at once: each gate's interval is found by halving, and gates are joined only within one interval.
+// Where the intervals outnumber the words lent for counters, they are done in blocks of 64, each put over those before.
 use crate::label;
 ghost use mathlib.Core.Path.{_≡_};
 ghost use mathlib.Core.List.{List, _++_};

@@ -6,6 +6,7 @@ pub mod SoundSet
 pub mod SpliceDoes
 pub mod SoundSteps
 pub mod Walks
+pub mod Passing
 pub mod JoinDoes
 pub mod Rows
 pub mod TableEdges
@@ -15,6 +16,9 @@ pub mod MovedWalk
 pub mod BaseWalk
 pub mod Prepared
 pub mod Circles
+pub mod Split
+pub mod Chained
+pub mod Dropping
 pub mod Pigeon
 pub mod Counts
 pub mod Sums
@@ -29,4 +33,5 @@ pub mod Joint
 pub mod Started
 pub mod Reduction
 pub mod BeginDoes
+pub mod StartLinks
 pub mod StartRep

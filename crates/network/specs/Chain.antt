@@ -1,10 +1,10 @@
 -- Chains of slots: circles, each led by one of its slots. Definitions only.
 use mathlib.Core.Path.{_≡_}
-use mathlib.Core.Bool.{cond}
+use mathlib.Core.Bool.{_&&_, cond}
 use mathlib.Core.List.{List}
-use Prim.Native.Nat.{ℕ, zero, suc, _+_, _<_}
+use Prim.Native.Nat.{ℕ, zero, suc, _+_, _-_, _<_}
 use lib.ListN.{getD}
-use lib.Dec.{eqb}
+use lib.Dec.{eqb, ltb}
 
 -- the slot i links after x
 unfoldable pub cur : List ℕ → ℕ → ℕ → ℕ
@@ -33,3 +33,13 @@ pos-joined own pos len b c s =
 
 unfoldable pub len-joined : (ℕ → ℕ) → ℕ → ℕ → ℕ → ℕ
 len-joined len b c h = cond (eqb b h) (len b + len c) (len h)
+
+-- slot x is taken out of its circle, and is a circle of its own
+unfoldable pub own-split : (ℕ → ℕ) → ℕ → ℕ → ℕ
+own-split own x s = cond (eqb x s) x (own s)
+
+unfoldable pub pos-split : (ℕ → ℕ) → (ℕ → ℕ) → ℕ → ℕ → ℕ
+pos-split own pos x s = cond (eqb x s) 0 (cond (eqb (own x) (own s) && ltb (pos x) (pos s)) (pos s - 1) (pos s))
+
+unfoldable pub len-split : (ℕ → ℕ) → (ℕ → ℕ) → ℕ → ℕ → ℕ
+len-split own len x h = cond (eqb x h) 1 (cond (eqb (own x) h) (len h - 1) (len h))

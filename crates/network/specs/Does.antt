@@ -3,7 +3,7 @@ use mathlib.Core.Path.{_≡_}
 use mathlib.Core.Bool.{Bool, true, false}
 use mathlib.Core.List.{List}
 use mathlib.Core.Option.{Option, none, some}
-use Prim.Native.Nat.{ℕ, _+_, _≤_, _<_, _^_}
+use Prim.Native.Nat.{ℕ, _+_, _*_, _≤_, _<_, _^_}
 use lib.ListN.{getD}
 use Rattle.memory.specs.Tree.{Tree}
 use Rattle.network.specs.Mem.{Mem, view}
@@ -19,6 +19,18 @@ pub record Does (m n : ℕ) (w : List ℕ) (d : List Float) (s : Mem) : Type 0 w
 unfoldable pub Raised : ℕ → ℕ → List ℕ → List Float → Option Mem → Bool → Type 0
 Raised m n w d none r = r ≡ false
 Raised m n w d (some s) r = (r ≡ true) × Does m n w d s
+
+-- the same, and the last slot kept
+pub record Passes (m n : ℕ) (w : List ℕ) (d : List Float) (s : Mem) (q r : ℕ) : Type 0 where
+  pub does : Does m n w d s
+  pub prev : r ≡ q
+
+-- slots p and x of node b's chain, which is not empty
+pub record Slots (m n b p x : ℕ) (s : Mem) : Type 0 where
+  pub b-in : b < n
+  pub p-in : p < 2 * m + n
+  pub x-in : x < 2 * m + n
+  pub some : 1 ≤ getD (s .elen) b 0
 
 -- two edges
 pub record Apart (m q f : ℕ) : Type 0 where

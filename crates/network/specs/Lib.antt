@@ -16,6 +16,7 @@ pub mod Chain
 pub mod Settle
 pub mod Rep
 pub mod TurnIs
+pub mod Popped
 pub mod Begin
 pub mod Reduce
 pub mod Evaluating

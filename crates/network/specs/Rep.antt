@@ -3,7 +3,7 @@ use mathlib.Core.Path.{_≡_}
 use mathlib.Core.Logic.{_⊎_}
 use mathlib.Core.Bool.{true}
 use mathlib.Core.List.{List, [], _∷_}
-use Prim.Native.Nat.{ℕ, _+_, _*_, _-_, _≤_, _<_, _^_}
+use Prim.Native.Nat.{ℕ, _+_, _*_, _<_, _^_}
 use lib.ListN.{getD}
 use Rattle.network.specs.Network.{Edge, Region, State, sizeOf}
 use Rattle.network.specs.Mem.{Mem, Sound}
@@ -22,14 +22,23 @@ Ends m eown j e =
     ((eown (2 * j) ≡ 2 * m + e .first) × (eown (2 * j + 1) ≡ 2 * m + e .second))
     ⊎ ((eown (2 * j) ≡ 2 * m + e .second) × (eown (2 * j + 1) ≡ 2 * m + e .first))
 
+-- the chains of slots: each node's are led by its header, and a live edge has a slot in the chain of each end;
+-- a slot that was dropped is a circle of its own
+pub record Circled (m n : ℕ) (node : ℕ → ℕ) (E : ℕ → Edge) (s : Mem) (eown epos elens : ℕ → ℕ) : Type 0 where
+  pub echains : Chains (s .enext) (2 * m + n) eown epos elens
+  pub header : (x : ℕ) → x < n → node x ≡ x → eown (2 * m + x) ≡ 2 * m + x
+  pub lengths : (x : ℕ) → x < n → node x ≡ x → elens (2 * m + x) ≡ getD (s .elen) x 0
+  pub ends : (j : ℕ) → j < m → E j .live ≡ true → Ends m eown j (E j)
+
 -- m edges, n regions; last is the last merge's base, or n
 pub record Rep (m n : ℕ) (gates : ℕ → ℕ) (last : ℕ) (s : Mem) (t : State) : Type 0 where
-  -- edges, each region's node, the places of regions and of slots in their chains
+  -- edges, each region's node, the places of regions and of slots in their chains, the lengths of the chains of slots
   pub E : ℕ → Edge
   pub node : ℕ → ℕ
   pub rpos : ℕ → ℕ
   pub eown : ℕ → ℕ
   pub epos : ℕ → ℕ
+  pub elens : ℕ → ℕ
   -- the network
   pub edges : t .edges ≡ rows E 0 m
   pub regions : t .regions ≡ rows (regionOf gates node s) 0 n
@@ -43,9 +52,8 @@ pub record Rep (m n : ℕ) (gates : ℕ → ℕ) (last : ℕ) (s : Mem) (t : Sta
   pub sizes : (x : ℕ) → x < n → node x ≡ x → getD (s .size) x 0 ≡ sizeOf (rows (regionOf gates node s) 0 n) x
   -- the chains
   pub rchains : Chains (s .rnext) n node rpos (λ x. getD (s .rlen) x 0)
-  pub echains : Chains (s .enext) (2 * m + n) eown epos (λ h. getD (s .elen) (h - 2 * m) 0)
-  pub high : (i : ℕ) → i < 2 * m + n → 2 * m ≤ eown i
-  pub header : (x : ℕ) → x < n → eown (2 * m + x) ≡ 2 * m + node x
-  pub ends : (j : ℕ) → j < m → E j .live ≡ true → Ends m eown j (E j)
+  pub circled : Circled m n node E s eown epos elens
+  -- a live edge's ends lead their regions
+  pub leading : (j : ℕ) → j < m → E j .live ≡ true → (node (E j .first) ≡ E j .first) × (node (E j .second) ≡ E j .second)
   -- the last base's edges are turned to it and marked
   pub marks : (j : ℕ) → j < m → E j .live ≡ true → (E j .first ≡ last) ⊎ (E j .second ≡ last) → (E j .first ≡ last) × (getD (s .mark) (E j .second) 0 ≡ j)

@@ -1,6 +1,5 @@
 -- What each function of the merging code does to the tables, step by step as the code goes. Definitions only.
-use mathlib.Core.Bool.{Bool, true, false, not, _&&_, cond}
-use mathlib.Core.List.{List}
+use mathlib.Core.Bool.{Bool, true, false, _&&_, cond}
 use mathlib.Core.Option.{Option, none, some}
 use Prim.Native.Nat.{ℕ, zero, suc, _+_, _*_, _-_, _/_}
 use lib.Dec.{eqb, ltb, leb}
@@ -32,10 +31,41 @@ baseEdge m b s f =
     (cond (eqb (getD (s .first) f 0) b) (mark-set s (getD (s .second) f 0) f) s)))
     s
 
--- the next k slots from slot x on
-unfoldable pub walkBase : ℕ → ℕ → ℕ → Mem → ℕ → Mem
-walkBase zero m b s x = s
-walkBase (suc k) m b s x = walkBase k m b (baseEdge m b s (x / 2)) (getD (s .enext) x 0)
+-- a slot that no walk needs: the header of a node that is merged, or a slot of a dead edge
+unfoldable pub spent : ℕ → Mem → ℕ → Bool
+spent m s x = cond (ltb (x / 2) m) (eqb (getD (s .weight) (x / 2) 0) 0) true
+
+-- slot x, the next after p in b's chain, becomes a circle of its own
+unfoldable pub dropAt : ℕ → Mem → ℕ → ℕ → Mem
+dropAt b s p x = elen-set (enext-set (enext-set s p (getD (s .enext) x 0)) x x) b (getD (s .elen) b 0 - 1)
+
+-- slot x of b's chain: dropped where it is spent, else f is done to its edge
+unfoldable pub passed : (Mem → ℕ → Mem) → ℕ → ℕ → Mem → ℕ → ℕ → Mem
+passed f m b s p x = cond (spent m s x) (dropAt b s p x) (f s (x / 2))
+
+-- the last slot kept: p before x
+unfoldable pub kept : ℕ → Mem → ℕ → ℕ → ℕ
+kept m s p x = cond (spent m s x) p x
+
+-- the next k slots of b's chain from slot x on, which comes after p
+unfoldable pub along : (Mem → ℕ → Mem) → ℕ → ℕ → ℕ → Mem → ℕ → ℕ → Mem
+along f zero m b s p x = s
+along f (suc k) m b s p x = along f k m b (passed f m b s p x) (kept m s p x) (getD (s .enext) x 0)
+
+-- all slots of b's chain
+unfoldable pub through : (Mem → ℕ → Mem) → ℕ → ℕ → Mem → Mem
+through f m b s = along f (getD (s .elen) b 0 - 1) m b s (2 * m + b) (getD (s .enext) (2 * m + b) 0)
+
+unfoldable pub walkBase : ℕ → ℕ → Mem → Mem
+walkBase m b s = through (baseEdge m b) m b s
+
+-- the edge stays as it is
+unfoldable pub still : Mem → ℕ → Mem
+still s f = s
+
+-- b's chain without its spent slots
+unfoldable pub pruned : ℕ → ℕ → Mem → Mem
+pruned m b s = through still m b s
 
 -- the number of the base's live edge to c, or m: what is marked there, if it is that
 unfoldable pub mate : ℕ → ℕ → Mem → ℕ → ℕ
@@ -105,11 +135,15 @@ grow b v s =
 
 -- the base's edges turned to it and marked, unless they are since the last merge
 unfoldable pub readied : ℕ → ℕ → ℕ → Mem → Mem
-readied m b last s = cond (eqb b last) s (walkBase (getD (s .elen) b 0 - 1) m b s (getD (s .enext) (2 * m + b) 0))
+readied m b last s = cond (eqb b last) s (walkBase m b s)
 
--- v's edges go to b
+-- v's edges go to b, along the whole of v's chain
+unfoldable pub movedAll : ℕ → ℕ → ℕ → ℕ → Mem → Mem
+movedAll m b v g s = walkMoved (getD (s .elen) v 0 - 1) m b v g s (getD (s .enext) (2 * m + v) 0)
+
+-- v's edges and regions go to b
 unfoldable pub handed : ℕ → ℕ → ℕ → ℕ → Mem → Mem
-handed m b v g s = grow b v (splice m b v (walkMoved (getD (s .elen) v 0 - 1) m b v g s (getD (s .enext) (2 * m + v) 0)))
+handed m b v g s = grow b v (splice m b v (movedAll m b v g (pruned m v s)))
 
 unfoldable pub then : Option Mem → (Mem → Mem) → Option Mem
 then none f = none

@@ -8,8 +8,8 @@ ghost use lib.Ieee.{binary32, fits, add};
 ghost use Rattle.network.specs.Network.{scale};
 ghost use lib.ListN.{getD};
 ghost use Rattle.network.specs.Mem.{Mem, view, Room, Sound};
-ghost use Rattle.network.specs.Steps.{unbias, baseEdge, walkBase, mate, absorbAt, attachAt, joinEdge, shift, movedEdge, walkMoved, walkRaise, splice, grow, readied, handed, merged};
-ghost use Rattle.network.specs.Does.{Does, Raised, Apart, Joins, Gains, Fit};
+ghost use Rattle.network.specs.Steps.{unbias, spent, passed, kept, still, dropAt, pruned, baseEdge, walkBase, mate, absorbAt, attachAt, joinEdge, shift, movedEdge, movedAll, walkRaise, splice, grow, readied, handed, merged};
+ghost use Rattle.network.specs.Does.{Does, Raised, Passes, Slots, Apart, Joins, Gains, Fit};
 
 // The f32 that an f64 is.
 fn single(x: f64) -> f32
@@ -97,19 +97,94 @@ fn base_edge(w: &mut [u32], d: &mut [f64], m: usize, n: usize, b: u32, f: usize)
     }
 }
 
-// The base's edges are turned to it and marked.
-fn walk_base(w: &mut [u32], d: &mut [f64], m: usize, n: usize, b: u32)
+// Whether slot x is needed by no walk: an old header, or a slot of a dead edge.
+fn is_spent(w: &[u32], d: &[f64], m: usize, n: usize, x: u32) -> bool
+    requires { ⌜ Room m n (now w) (now d) ⌝ }
+    ensures { λ r. ⌜ r ≡ spent m (view m n (now (w .entry)) (now (d .entry))) x ⌝ }
+{
+    let f = (x / 2) as usize;
+    if f >= m {
+        return true;
+    }
+    w[f] == 0
+}
+
+// Slot x, the next after p in node b's chain, becomes a circle of its own.
+fn drop_slot(w: &mut [u32], d: &mut [f64], m: usize, n: usize, b: u32, p: u32, x: u32)
+    requires { ⌜ Room m n (now w) (now d) ⌝ }
+    requires { ⌜ Slots m n b p x (view m n (now w) (now d)) ⌝ }
+    ensures { λ _. ⌜ Does m n (now (w .exit)) (now (d .exit)) (dropAt b (view m n (now (w .entry)) (now (d .entry))) p x) ⌝ }
+{
+    let t = w[5 * m + x as usize];
+    let l = w[7 * m + 4 * n + b as usize];
+    w[5 * m + p as usize] = t;
+    w[5 * m + x as usize] = x;
+    w[7 * m + 4 * n + b as usize] = l - 1;
+}
+
+// Slot x of node b's chain is dropped where it is spent; the last slot kept is returned.
+fn pass_slot(w: &mut [u32], d: &mut [f64], m: usize, n: usize, b: u32, p: u32, x: u32) -> u32
+    requires { ⌜ Room m n (now w) (now d) ⌝ }
+    requires { ⌜ Slots m n b p x (view m n (now w) (now d)) ⌝ }
+    ensures { λ r. ⌜ Passes m n (now (w .exit)) (now (d .exit)) (passed still m b (view m n (now (w .entry)) (now (d .entry))) p x) (kept m (view m n (now (w .entry)) (now (d .entry))) p x) r ⌝ }
+{
+    let gone = is_spent(w, d, m, n, x);
+    if gone {
+        drop_slot(w, d, m, n, b, p, x);
+        return p;
+    }
+    x
+}
+
+// The spent slots of node b's chain are dropped.
+fn prune(w: &mut [u32], d: &mut [f64], m: usize, n: usize, b: u32)
     requires { ⌜ Room m n (now w) (now d) ⌝ }
     requires { ⌜ Sound m n (view m n (now w) (now d)) ⌝ }
     requires { ⌜ b < n ⌝ }
-    ensures { λ _. ⌜ Does m n (now (w .exit)) (now (d .exit)) (walkBase (getD (view m n (now (w .entry)) (now (d .entry)) .elen) b 0 - 1) m b (view m n (now (w .entry)) (now (d .entry))) (getD (view m n (now (w .entry)) (now (d .entry)) .enext) (2 * m + b) 0)) ⌝ }
+    ensures { λ _. ⌜ Does m n (now (w .exit)) (now (d .exit)) (pruned m b (view m n (now (w .entry)) (now (d .entry)))) ⌝ }
 {
     let l = w[7 * m + 4 * n + b as usize] as usize;
+    let mut p = (2 * m + b as usize) as u32;
     let mut x = w[5 * m + (2 * m + b as usize)];
     let mut i = 1;
     while i < l {
         let t = w[5 * m + x as usize];
-        base_edge(w, d, m, n, b, (x / 2) as usize);
+        p = pass_slot(w, d, m, n, b, p, x);
+        x = t;
+        i += 1;
+    }
+}
+
+// Slot x of the base's chain: dropped where it is spent, else its edge is turned and marked; the last slot kept is returned.
+fn base_slot(w: &mut [u32], d: &mut [f64], m: usize, n: usize, b: u32, p: u32, x: u32) -> u32
+    requires { ⌜ Room m n (now w) (now d) ⌝ }
+    requires { ⌜ Sound m n (view m n (now w) (now d)) ⌝ }
+    requires { ⌜ Slots m n b p x (view m n (now w) (now d)) ⌝ }
+    ensures { λ r. ⌜ Passes m n (now (w .exit)) (now (d .exit)) (passed (baseEdge m b) m b (view m n (now (w .entry)) (now (d .entry))) p x) (kept m (view m n (now (w .entry)) (now (d .entry))) p x) r ⌝ }
+{
+    let gone = is_spent(w, d, m, n, x);
+    if gone {
+        drop_slot(w, d, m, n, b, p, x);
+        return p;
+    }
+    base_edge(w, d, m, n, b, (x / 2) as usize);
+    x
+}
+
+// The base's edges are turned to it and marked, and the spent slots of its chain are dropped.
+fn walk_base(w: &mut [u32], d: &mut [f64], m: usize, n: usize, b: u32)
+    requires { ⌜ Room m n (now w) (now d) ⌝ }
+    requires { ⌜ Sound m n (view m n (now w) (now d)) ⌝ }
+    requires { ⌜ b < n ⌝ }
+    ensures { λ _. ⌜ Does m n (now (w .exit)) (now (d .exit)) (walkBase m b (view m n (now (w .entry)) (now (d .entry)))) ⌝ }
+{
+    let l = w[7 * m + 4 * n + b as usize] as usize;
+    let mut p = (2 * m + b as usize) as u32;
+    let mut x = w[5 * m + (2 * m + b as usize)];
+    let mut i = 1;
+    while i < l {
+        let t = w[5 * m + x as usize];
+        p = base_slot(w, d, m, n, b, p, x);
         x = t;
         i += 1;
     }
@@ -215,7 +290,7 @@ fn walk_moved(w: &mut [u32], d: &mut [f64], m: usize, n: usize, b: u32, v: u32, 
     requires { ⌜ Room m n (now w) (now d) ⌝ }
     requires { ⌜ Sound m n (view m n (now w) (now d)) ⌝ }
     requires { ⌜ Gains n b v g ⌝ }
-    ensures { λ _. ⌜ Does m n (now (w .exit)) (now (d .exit)) (walkMoved (getD (view m n (now (w .entry)) (now (d .entry)) .elen) v 0 - 1) m b v g (view m n (now (w .entry)) (now (d .entry))) (getD (view m n (now (w .entry)) (now (d .entry)) .enext) (2 * m + v) 0)) ⌝ }
+    ensures { λ _. ⌜ Does m n (now (w .exit)) (now (d .exit)) (movedAll m b v g (view m n (now (w .entry)) (now (d .entry)))) ⌝ }
 {
     let l = w[7 * m + 4 * n + v as usize] as usize;
     let mut x = w[5 * m + (2 * m + v as usize)];
@@ -296,7 +371,7 @@ fn ready(w: &mut [u32], d: &mut [f64], m: usize, n: usize, b: u32, last: u32)
     walk_base(w, d, m, n, b);
 }
 
-// v's edges and regions go to b.
+// v's edges and regions go to b, the spent slots of its chain dropped before.
 fn hand(w: &mut [u32], d: &mut [f64], m: usize, n: usize, b: u32, v: u32, g: u32)
     requires { ⌜ Room m n (now w) (now d) ⌝ }
     requires { ⌜ Sound m n (view m n (now w) (now d)) ⌝ }
@@ -304,6 +379,7 @@ fn hand(w: &mut [u32], d: &mut [f64], m: usize, n: usize, b: u32, v: u32, g: u32
     requires { ⌜ Fit n b v (view m n (now w) (now d)) ⌝ }
     ensures { λ _. ⌜ Does m n (now (w .exit)) (now (d .exit)) (handed m b v g (view m n (now (w .entry)) (now (d .entry)))) ⌝ }
 {
+    prune(w, d, m, n, v);
     walk_moved(w, d, m, n, b, v, g);
     splice(w, d, m, n, b, v);
     grow(w, d, m, n, b, v);

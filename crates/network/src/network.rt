@@ -1,7 +1,9 @@
 // network.rs: choosing the heaviest edge and the run of merges to its end, over lent words and lent differences.
 ghost use mathlib.Core.Path.{_≡_};
 ghost use Prim.Native.Nat.{_+_, _*_, _-_, _/_, _<_, _^_};
-ghost use Rattle.network.specs.Network.{quot};
+ghost use Rattle.arithmetic.specs.Rounding.{roundEven};
+ghost use Rattle.network.specs.Network.{whole};
+ghost use Rattle.network.specs.Popped.{Pops, AnyPop};
 ghost use lib.ListN.{getD};
 ghost use Rattle.network.specs.Mem.{view, Room};
 ghost use Rattle.network.specs.Steps.{numberOf};
@@ -11,11 +13,45 @@ ghost use Rattle.network.specs.TurnIs.{Standing, AnyTurn, Chosen, AnyPic
 ghost use Rattle.network.specs.Begin.{slotsFrom, regionsFrom, linkAt, linkFrom, Space, Raw, Begun, Linkable, AllIs};
 ghost use Rattle.network.specs.Does.{Does};
 
-// The rounded difference with 1000 added, or 2001 where question 9 says no.
-fn number(x: f64, t: u32) -> u32
-    ensures { λ r. ⌜ r ≡ numberOf (quot x t) ⌝ }
+// The heaviest live edge: its ends, its difference after the division by its weight, and its number.
+pub struct PoppedEdge {
+    pub node1: u32,
+    pub node2: u32,
+    pub diff: f64,
+    pub edge_number: u32,
+}
+
+// That edge, or that none is live.
+pub enum Popped {
+    Edge(PoppedEdge),
+    Nothing,
+}
+
+// Chooses the heaviest live edge, the lowest number among equals: the tree's winner.
+pub fn pop_edge(w: &[u32], d: &[f64], m: usize, n: usize) -> Popped
+    requires { ⌜ Room m n (now w) (now d) ⌝ }
+    requires { ⌜ 0 < m ⌝ }
+    ensures { λ r. ⌜ Pops m (now (w .entry)) (now (d .entry)) r ⌝ }
+    ensures { λ r. ⌜ AnyPop m n (view m n (now (w .entry)) (now (d .entry))) r ⌝ }
 {
-    match arithmetic::rounding::round_even(x / (t as f64)) {
+    let e = memory::tree::best(w, m);
+    let t = w[e as usize];
+    if t == 0 {
+        return Popped::Nothing;
+    }
+    Popped::Edge(PoppedEdge {
+        node1: w[3 * m + e as usize],
+        node2: w[4 * m + e as usize],
+        diff: d[e as usize] / (t as f64),
+        edge_number: e,
+    })
+}
+
+// The rounded difference with 1000 added, or 2001 where question 9 says no.
+fn number(q: f64) -> u32
+    ensures { λ r. ⌜ r ≡ numberOf (whole (roundEven q)) ⌝ }
+{
+    match arithmetic::rounding::round_even(q) {
         arithmetic::rounding::Rounded::Whole(k) => {
             if k > 1000 {
                 return 2001;
@@ -75,16 +111,15 @@ fn turn(w: &mut [u32], d: &mut [f64], m: usize, n: usize, last: u32) -> Turned
     requires { ⌜ 0 < m ⌝ }
     ensures { λ r. ⌜ AnyTurn m n last (view m n (now (w .entry)) (now (d .entry))) (now (w .exit)) (now (d .exit)) r ⌝ }
 {
-    let e = memory::tree::best(w, m) as usize;
-    let t = w[e];
-    if t == 0 {
+    let p = pop_edge(w, d, m, n);
+    let Popped::Edge(q) = p else {
         return Turned::Ended;
-    }
-    let x = d[e];
-    let g = number(x, t);
+    };
+    let g = number(q.diff);
     if g > 2000 {
         return Turned::Refused;
     }
+    let e = q.edge_number as usize;
     choose_base(w, d, m, n, e, g, last)
 }
 

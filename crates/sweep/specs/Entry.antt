@@ -21,15 +21,15 @@ sweepOf rays gates nyquist splits skipRays skipGates centred wrap vel mask = rec
 -- questions 1 to 7
 unfoldable pub askedFirst : Sweep → Lent → Option ℕ
 askedFirst s l = firstNo (
-  ask 1 (inSize (s .shape .rays) (s .shape .gates))
-  ∷ ask 2 (inLength s l)
-  ∷ ask 3 (inMask (s .mask))
-  ∷ ask 4 (inRoom s l)
-  ∷ ask 5 (sized (s .nyquist))
-  ∷ ask 6 (inOptions s)
-  ∷ ask 7 (inSpeed (s .vel) (s .mask))
-  ∷ []
-)
+    ask 1 (inSize (s .shape .rays) (s .shape .gates))
+    ∷ ask 2 (inLength s l)
+    ∷ ask 3 (inMask (s .mask))
+    ∷ ask 4 (inRoom s l)
+    ∷ ask 5 (sized (s .nyquist))
+    ∷ ask 6 (inOptions s)
+    ∷ ask 7 (inSpeed (s .vel) (s .mask))
+    ∷ []
+    )
 
 -- an answer as a number: 0 where every question gets a yes
 abbrev pub answerOf : Option ℕ → ℕ

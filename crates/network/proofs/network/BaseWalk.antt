@@ -1,27 +1,26 @@
 -- The walk along the base's edges: it turns and marks them. Assumes nothing.
 use mathlib.Core.Path.{_≡_, refl, sym, ap, _∙_, subst}
 use mathlib.Core.Logic.{_⊎_, inl, inr, ⊎-elim}
-use mathlib.Core.Bool.{Bool, true, false, not, _&&_, cond, true≢false}
-use mathlib.Core.List.{List, [], _∷_}
-use Prim.Native.Nat.{ℕ, zero, suc, _+_, _*_, _-_, _/_, _≤_, _<_}
+use mathlib.Core.Bool.{Bool, true, false, cond, true≢false}
+use Prim.Native.Nat.{ℕ, _≤_, _<_}
 use native.Mathlib.Omega.{arith}
-use lib.Ieee.{nan, Float, neg}
-use borrow.Author.Tests.{le-ltb, eqb-true, eqb-false}
+use lib.Ieee.{Float, neg}
+use borrow.Author.Tests.{le-ltb}
 use Rattle.network.proofs.network.Bias.{lt-or-le}
-use lib.ListN.{length, getD, set}
+use lib.ListN.{getD}
 use Rattle.network.specs.Network.{Edge, turn, turnIf}
 use Rattle.network.proofs.SimpleLaws.{joined-turn}
-use Rattle.network.specs.Mem.{Mem, Sound, mark-set}
-use Rattle.network.specs.Steps.{turnAt, baseEdge, walkBase}
+use Rattle.network.specs.Mem.{Mem, Sound, enext-set, mark-set, elen-set}
+use Rattle.network.specs.Steps.{dropAt, through, turnAt, baseEdge, walkBase}
 use Rattle.network.specs.Net.{edgeOf, Like}
-use Rattle.network.specs.Chain.{cur}
+use Rattle.network.specs.Rep.{Circled}
 use Rattle.network.proofs.network.SoundSet.{eq-or-ne}
 use Rattle.network.proofs.network.SoundSteps.{sound-base, sound-turn}
 use Rattle.network.proofs.network.Frames.{frame-base}
-use Rattle.network.proofs.network.TableEdges.{like-of, like-dead, like-then, like-at, dead-word, Words, words, base-none, base-two, base-one, base-else, mark-kept, mark-new, turn-kept, turn-new, mark-edges}
+use Rattle.network.proofs.network.Chained.{At, at-end}
+use Rattle.network.proofs.network.Dropping.{went}
+use Rattle.network.proofs.network.TableEdges.{like-of, like-dead, like-then, like-at, live-word, dead-word, Words, words, base-none, base-two, base-one, base-else, mark-kept, mark-new, turn-kept, turn-new, mark-edges}
 use Rattle.network.proofs.network.Moved.{same-no, same-yes, also, also-old, also-new, also-else}
-use lib.Dec.{eqb}
-use Rattle.arithmetic.proofs.SeqLaws.{eqb-refl}
 use Rattle.network.specs.Simple.{Joined}
 
 pub record Plain (m : ℕ) (K : ℕ → Edge) : Type 0 where
@@ -177,12 +176,6 @@ module _ (m b : ℕ) (K : ℕ → Edge) (S : Plain m K) where
     base-step = ⊎-elim two (λ far. ⊎-elim (one far) (none far) (eq-or-ne (getD (s .first) f 0) b)) (eq-or-ne (getD (s .second) f 0) b)
 
   -- ---- the walk
-  pub record Based (s : Mem) (done : ℕ → Bool) (N : List ℕ) (y k : ℕ) : Type 0 where
-    pub done' : ℕ → Bool
-    pub basing : Basing m b K done' s
-    pub more : (j : ℕ) → done j ≡ true → done' j ≡ true
-    pub seen : (i : ℕ) → i < k → cur N y i / 2 < m → K (cur N y i / 2) .live ≡ true → done' (cur N y i / 2) ≡ true
-
   abbrev One : Mem → (ℕ → Bool) → ℕ → Type 0
   One s done f = (done' : ℕ → Bool) × Basing m b K done' s × ((j : ℕ) → done j ≡ true → done' j ≡ true) × (f < m → K f .live ≡ true → done' f ≡ true)
 
@@ -196,27 +189,12 @@ module _ (m b : ℕ) (K : ℕ → Edge) (S : Plain m K) where
       go lt true ue = (also done f, base-step n s sound done I f lt ue, λ j r. also-old done f j r, λ q r. also-new done f)
       go lt false ue = (done, subst (Basing m b K done) (sym (base-none m b s f lt (dead-word s f (I .like f lt .live ∙ part-live done f ∙ ue)))) I, λ j r. r, λ q r. absurd (true≢false (sym r ∙ ue)))
 
-  pub walk : (n k : ℕ) (s : Mem) → Sound m n s → (done : ℕ → Bool) → Basing m b K done s → (N : List ℕ) → s .enext ≡ N → (y : ℕ) → Based (walkBase k m b s y) done N y k
-  unfolding walkBase cur
-  walk n zero s h done I N e y = record { done' = done; basing = I; more = λ j r. r; seen = λ i p. absurd (omega arith) }
-  walk n (suc k) s h done I N e y =
-      let one : One (baseEdge m b s (y / 2)) done (y / 2) = any-step n s h done I (y / 2) in
-      let s' : Mem = baseEdge m b s (y / 2) in
-      let nx : getD (s .enext) y 0 ≡ getD N y 0 = ap (λ (l : List ℕ). getD l y 0) e in
-      let rest : Based (walkBase k m b s' (getD N y 0)) (one .0) N (getD N y 0) k
-      = walk n k s' (sound-base m n b s (y / 2) h) (one .0) (one .1) N (frame-base m b s (y / 2) .enext ∙ e) (getD N y 0) in
-      record {
-        done' = rest .done';
-        basing = subst (λ (z : ℕ). Basing m b K (rest .done') (walkBase k m b s' z)) (sym nx) (rest .basing);
-        more = λ j r. rest .more j (one .2 j r);
-        seen = elim-seen (rest .done') (λ q l. rest .more (y / 2) (one .3 q l)) (rest .seen);
-      }
-    where
-      elim-seen : (d : ℕ → Bool) → (y / 2 < m → K (y / 2) .live ≡ true → d (y / 2) ≡ true)
-          → ((i : ℕ) → i < k → cur N (getD N y 0) i / 2 < m → K (cur N (getD N y 0) i / 2) .live ≡ true → d (cur N (getD N y 0) i / 2) ≡ true)
-          → (i : ℕ) → i < suc k → cur N y i / 2 < m → K (cur N y i / 2) .live ≡ true → d (cur N y i / 2) ≡ true
-      elim-seen d a c zero p = a
-      elim-seen d a c (suc i) p = c i (omega arith)
+  basing-drop : (s : Mem) (done : ℕ → Bool) (p x : ℕ) → Basing m b K done s → Basing m b K done (dropAt b s p x)
+  unfolding dropAt enext-set elen-set edgeOf
+  basing-drop s done p x I = record { like = I .like; marks = I .marks }
+
+  basing-lives : (s : Mem) (done : ℕ → Bool) → Basing m b K done s → (j : ℕ) → j < m → K j .live ≡ true → getD (s .weight) j 0 ≡ 0 → ⊥
+  basing-lives s done I j hj l = live-word s j (I .like j hj .live ∙ part-live done j ∙ l)
 
   -- ---- from start to end
   abbrev nothing : ℕ → Bool
@@ -242,13 +220,30 @@ module _ (m b : ℕ) (K : ℕ → Edge) (S : Plain m K) where
       go j hj false ue false de h = like-dead _ _ (h .live ∙ ue) (turn-live b (K j) ∙ ue)
       go j hj true ue false de h = like-then _ _ _ h (sym (turn-no b (K j) (λ e. true≢false (sym (all j hj ue (inr e)) ∙ de))))
 
-  pub ready-walk : (n k : ℕ) (s : Mem) → Sound m n s → ((j : ℕ) → j < m → Like (edgeOf s j) (K j)) → (y : ℕ)
-      → ((j : ℕ) → j < m → K j .live ≡ true → (K j .first ≡ b) ⊎ (K j .second ≡ b) → (i : ℕ) × (i < k) × (cur (s .enext) y i / 2 ≡ j)) → Ready (walkBase k m b s y)
-  ready-walk n k s h like y all =
-      let r : Based (walkBase k m b s y) nothing (s .enext) y k = walk n k s h nothing (begin s like) (s .enext) refl y in
-      finish (walkBase k m b s y) (r .done') (r .basing)
-      (λ j hj l e. let t : (i : ℕ) × (i < k) × (cur (s .enext) y i / 2 ≡ j) = all j hj l e in
-      ap (r .done') (sym (t .2)) ∙ r .seen (t .0) (t .1) (subst (λ (i : ℕ). i < m) (sym (t .2)) hj) (ap (λ (i : ℕ). K i .live) (t .2) ∙ l))
+  -- the walk's end: all is ready, and the chains stay
+  pub record Walked (n : ℕ) (node : ℕ → ℕ) (s : Mem) : Type 0 where
+    pub ready : Ready s
+    pub o : ℕ → ℕ
+    pub q : ℕ → ℕ
+    pub l : ℕ → ℕ
+    pub circled : Circled m n node K s o q l
+    pub sound : Sound m n s
+
+  pub ready-walk : (n : ℕ) (node : ℕ → ℕ) → b < n → node b ≡ b → (s : Mem) (o q l : ℕ → ℕ) → Circled m n node K s o q l → Sound m n s → ((j : ℕ) → j < m → Like (edgeOf s j) (K j)) → Walked n node (walkBase m b s)
+  unfolding walkBase
+  ready-walk n node hb lb s o q l C h like =
+      let r = went m n node K b hb lb (baseEdge m b) (Basing m b K) (λ u j. (frame-base m b u j .enext, frame-base m b u j .elen)) (λ u j k. sound-base m n b u j k)
+      (λ u done k I j. any-step n u k done I j) basing-drop basing-lives s nothing o q l C (begin s like) h in
+      record {
+        ready = finish (through (baseEdge m b) m b s) (r .done) (r .inv) (λ j hj k e.
+            let a : At m (r .o) j b = at-end m (r .o) j (K j) b hj (r .circled .ends j hj k) e in
+            ap (r .done) (sym (a .slot-of)) ∙ r .all (a .slot) (a .slot-in) (a .owner) (ap (λ (i : ℕ). K i .live) (a .slot-of) ∙ k));
+        o = r .o;
+        q = r .q;
+        l = r .l;
+        circled = r .circled;
+        sound = r .sound;
+      }
 
   -- no walk is needed where the base's edges are turned and marked already
   pub ready-still : (s : Mem) → ((j : ℕ) → j < m → Like (edgeOf s j) (K j)) → ((j : ℕ) → j < m → K j .live ≡ true → (K j .first ≡ b) ⊎ (K j .second ≡ b) → (K j .first ≡ b) × (getD (s .mark) (K j .second) 0 ≡ j)) → Ready s

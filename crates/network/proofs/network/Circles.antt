@@ -27,7 +27,7 @@ cur-add N x (suc i) j = let z : suc i + j ≡ suc (i + j) = omega arith in ap (c
 
 module _ (N : List ℕ) (size : ℕ) (own pos len : ℕ → ℕ) (C : Chains N size own pos len) where
   -- a leader's place is 0
-  lead : (h : ℕ) → h < size → own h ≡ h → pos h ≡ 0
+  pub lead : (h : ℕ) → h < size → own h ≡ h → pos h ≡ 0
   unfolding cur
   lead h lt e = C .placed h 0 lt e (omega (arith, C .here h lt, ap len e))
 

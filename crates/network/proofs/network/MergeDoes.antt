@@ -1,80 +1,98 @@
 -- `ready`, `hand` and `merge` over plain values. Assumes nothing.
 use mathlib.Core.Path.{_≡_, refl, sym, ap, _∙_, subst}
 use mathlib.Core.Bool.{Bool, true, false, cond, true≢false}
-use mathlib.Core.List.{List, [], _∷_}
+use mathlib.Core.List.{List}
 use mathlib.Core.Option.{Option, none, some, Option·none-ne-some, Option·some-injective}
-use Prim.Native.Nat.{ℕ, zero, suc, _+_, _*_, _-_, _≤_, _<_, _^_}
+use Prim.Native.Nat.{ℕ, zero, suc, _+_, _-_, _≤_, _<_, _^_}
 use native.Mathlib.Omega.{arith}
 use lib.Dec.{eqb}
 use lib.ListN.{length, getD, set, length-set}
 use borrow.Author.Tests.{eq-eqb, ne-eqb}
 use Rattle.memory.specs.Tree.{Tree, Weighed}
 use Rattle.network.specs.Mem.{Mem, view, Room, Sound, weight-set, enext-set, rnext-set, count-set}
-use Rattle.network.specs.Steps.{accepts, walkBase, walkMoved, walkRaise, splice, grow, readied, handed, then, merged}
+use Rattle.network.specs.Steps.{accepts, walkBase, pruned, movedAll, walkRaise, splice, grow, readied, handed, then, merged}
 use Rattle.network.specs.Does.{Does, Raised, Gains, Fit}
 use Rattle.network.proofs.network.View.{weight-put, view-weighed}
 use Rattle.network.proofs.network.Leaf.{room-of, total-less}
 use Rattle.network.proofs.network.SoundSet.{sound-weight, sound-count}
-use Rattle.network.proofs.network.Frames.{Frame, frame-refl, frame-walk-base, frame-walk-moved}
+use Rattle.network.proofs.network.Frames.{Frame, frame-moved-all, Beside, beside-refl, beside-walk-base, same-pruned}
 use Rattle.network.proofs.network.Counts.{Counted, accepted-most}
-use Rattle.network.proofs.network.StepEdges.{sound-walk-base, sound-walk-moved}
+use Rattle.network.proofs.network.Passing.{sound-walk-base, sound-pruned, less-walk-base, less-pruned}
 use lib.Ieee.{Float}
 
 pub ready-same : (m n b last : ℕ) (w : List ℕ) (d : List Float) → Tree m w → b ≡ last → Does m n w d (readied m b last (view m n w d))
 unfolding readied
 ready-same m n b last w d r e = record { tables = rw (eq-eqb b last e) refl; tree = r }
 
-pub ready-walked : (m n b last : ℕ) (s : Mem) (w : List ℕ) (d : List Float) → (b ≡ last → ⊥) → Does m n w d (walkBase (getD (s .elen) b 0 - 1) m b s (getD (s .enext) (2 * m + b) 0)) → Does m n w d (readied m b last s)
+pub ready-walked : (m n b last : ℕ) (s : Mem) (w : List ℕ) (d : List Float) → (b ≡ last → ⊥) → Does m n w d (walkBase m b s) → Does m n w d (readied m b last s)
 unfolding readied
 ready-walked m n b last s w d h e = rw (ne-eqb b last h) e
 
-sound-readied : (m n b last : ℕ) (s : Mem) → Sound m n s → Sound m n (readied m b last s)
+sound-readied : (m n b last : ℕ) (s : Mem) → b < n → Sound m n s → Sound m n (readied m b last s)
 unfolding readied
-sound-readied m n b last s h = go (eqb b last)
+sound-readied m n b last s hb h = go (eqb b last)
   where
-    go : (x : Bool) → Sound m n (cond x s (walkBase (getD (s .elen) b 0 - 1) m b s (getD (s .enext) (2 * m + b) 0)))
+    go : (x : Bool) → Sound m n (cond x s (walkBase m b s))
     go true = h
-    go false = sound-walk-base m n b (getD (s .elen) b 0 - 1) s (getD (s .enext) (2 * m + b) 0) h
+    go false = sound-walk-base m n b hb s h
 
-frame-readied : (m b last : ℕ) (s : Mem) → Frame (readied m b last s) s
+beside-readied : (m b last : ℕ) (s : Mem) → Beside (readied m b last s) s
 unfolding readied
-frame-readied m b last s = go (eqb b last)
+beside-readied m b last s = go (eqb b last)
   where
-    go : (x : Bool) → Frame (cond x s (walkBase (getD (s .elen) b 0 - 1) m b s (getD (s .enext) (2 * m + b) 0))) s
-    go true = frame-refl s
-    go false = frame-walk-base (getD (s .elen) b 0 - 1) m b s (getD (s .enext) (2 * m + b) 0)
+    go : (x : Bool) → Beside (cond x s (walkBase m b s)) s
+    go true = beside-refl s
+    go false = beside-walk-base m b s
 
-fit-frame : (n b v : ℕ) (s t : Mem) → s .size ≡ t .size → s .elen ≡ t .elen → s .rlen ≡ t .rlen → Fit n b v t → Fit n b v s
+less-readied : (m n b last : ℕ) (s : Mem) → b < n → (y : ℕ) → getD (readied m b last s .elen) y 0 ≤ getD (s .elen) y 0
+unfolding readied
+less-readied m n b last s hb y = go (eqb b last)
+  where
+    go : (x : Bool) → getD (cond x s (walkBase m b s) .elen) y 0 ≤ getD (s .elen) y 0
+    go true = omega arith
+    go false = less-walk-base m n b hb s y
+
+-- sums still fit where sizes stay and chains are no longer than before
+fit-frame : (n b v : ℕ) (s t : Mem) → s .size ≡ t .size → ((y : ℕ) → getD (s .elen) y 0 ≤ getD (t .elen) y 0) → s .rlen ≡ t .rlen → Fit n b v t → Fit n b v s
 fit-frame n b v s t a c d f = record {
   b-in = f .b-in;
   v-in = f .v-in;
   sizes = subst (λ (l : List ℕ). getD l b 0 + getD l v 0 < 2 ^ 32) (sym a) (f .sizes);
-  elens = subst (λ (l : List ℕ). getD l b 0 + getD l v 0 < 2 ^ 32) (sym c) (f .elens);
+  elens = omega (arith, c b, c v, f .elens);
   rlens = subst (λ (l : List ℕ). getD l b 0 + getD l v 0 < 2 ^ 32) (sym d) (f .rlens);
 }
 
 -- ---- hand
 module _ (m n b v g : ℕ) (w : List ℕ) (d : List Float) (r : Room m n w d) (h : Sound m n (view m n w d)) (ok : Gains n b v g) (fit : Fit n b v (view m n w d))
-    (w₁ : List ℕ) (d₁ : List Float) (lw₁ : length w₁ ≡ length w) (ld₁ : length d₁ ≡ length d)
-    (D₁ : Does m n w₁ d₁ (walkMoved (getD (view m n w d .elen) v 0 - 1) m b v g (view m n w d) (getD (view m n w d .enext) (2 * m + v) 0))) where
-  pub hand-splice : Room m n w₁ d₁ × ((b < n) × (v < n))
-  hand-splice = (room-of m n w w₁ d d₁ r lw₁ ld₁ (D₁ .tree), (ok .b-in, ok .v-in))
+    (w₁ : List ℕ) (d₁ : List Float) (lw₁ : length w₁ ≡ length w) (ld₁ : length d₁ ≡ length d) (D₁ : Does m n w₁ d₁ (pruned m v (view m n w d))) where
+  pub hand-walk : Room m n w₁ d₁ × (Sound m n (view m n w₁ d₁) × Gains n b v g)
+  hand-walk = (room-of m n w w₁ d d₁ r lw₁ ld₁ (D₁ .tree), (subst (Sound m n) (sym (D₁ .tables)) (sound-pruned m n v (ok .v-in) (view m n w d) h), ok))
 
-  module _ (w₂ : List ℕ) (d₂ : List Float) (lw₂ : length w₂ ≡ length w₁) (ld₂ : length d₂ ≡ length d₁) (D₂ : Does m n w₂ d₂ (splice m b v (view m n w₁ d₁))) where
-    pub hand-grow : Room m n w₂ d₂ × Fit n b v (view m n w₂ d₂)
-    unfolding splice enext-set rnext-set
-    hand-grow =
-        let f : Frame (walkMoved (getD (view m n w d .elen) v 0 - 1) m b v g (view m n w d) (getD (view m n w d .enext) (2 * m + v) 0)) (view m n w d) = frame-walk-moved (getD (view m n w d .elen) v 0 - 1) m b v g (view m n w d) (getD (view m n w d .enext) (2 * m + v) 0) in (
-          room-of m n w w₂ d d₂ r (lw₂ ∙ lw₁) (ld₂ ∙ ld₁) (D₂ .tree),
-          fit-frame n b v (view m n w₂ d₂) (view m n w d)
-              (ap (λ (s : Mem). s .size) (D₂ .tables) ∙ ap (λ (s : Mem). s .size) (D₁ .tables) ∙ f .size)
-              (ap (λ (s : Mem). s .elen) (D₂ .tables) ∙ ap (λ (s : Mem). s .elen) (D₁ .tables) ∙ f .elen)
-              (ap (λ (s : Mem). s .rlen) (D₂ .tables) ∙ ap (λ (s : Mem). s .rlen) (D₁ .tables) ∙ f .rlen) fit,
-        )
+  module _ (w₂ : List ℕ) (d₂ : List Float) (lw₂ : length w₂ ≡ length w₁) (ld₂ : length d₂ ≡ length d₁) (D₂ : Does m n w₂ d₂ (movedAll m b v g (view m n w₁ d₁))) where
+    went₂ : view m n w₂ d₂ ≡ movedAll m b v g (pruned m v (view m n w d))
+    went₂ = D₂ .tables ∙ ap (movedAll m b v g) (D₁ .tables)
 
-    pub hand-does : (w₃ : List ℕ) (d₃ : List Float) → Does m n w₃ d₃ (grow b v (view m n w₂ d₂)) → Does m n w₃ d₃ (handed m b v g (view m n w d))
-    unfolding handed
-    hand-does w₃ d₃ D₃ = record { tables = D₃ .tables ∙ ap (grow b v) (D₂ .tables ∙ ap (splice m b v) (D₁ .tables)); tree = D₃ .tree }
+    pub hand-splice : Room m n w₂ d₂ × ((b < n) × (v < n))
+    hand-splice = (room-of m n w w₂ d d₂ r (lw₂ ∙ lw₁) (ld₂ ∙ ld₁) (D₂ .tree), (ok .b-in, ok .v-in))
+
+    module _ (w₃ : List ℕ) (d₃ : List Float) (lw₃ : length w₃ ≡ length w₂) (ld₃ : length d₃ ≡ length d₂) (D₃ : Does m n w₃ d₃ (splice m b v (view m n w₂ d₂))) where
+      pub hand-grow : Room m n w₃ d₃ × Fit n b v (view m n w₃ d₃)
+      unfolding splice enext-set rnext-set
+      hand-grow =
+          let s : Mem = view m n w d in
+          let f : Frame (movedAll m b v g (pruned m v s)) (pruned m v s) = frame-moved-all m b v g (pruned m v s) in
+          let k : Beside (pruned m v s) s = same-pruned m v s .beside in
+          let el : view m n w₃ d₃ .elen ≡ pruned m v s .elen = ap (λ (u : Mem). u .elen) (D₃ .tables) ∙ ap (λ (u : Mem). u .elen) went₂ ∙ f .elen in (
+            room-of m n w w₃ d d₃ r (lw₃ ∙ lw₂ ∙ lw₁) (ld₃ ∙ ld₂ ∙ ld₁) (D₃ .tree),
+            fit-frame n b v (view m n w₃ d₃) s
+                (ap (λ (u : Mem). u .size) (D₃ .tables) ∙ ap (λ (u : Mem). u .size) went₂ ∙ f .size ∙ k .size)
+                (λ y. subst (λ (l : List ℕ). getD l y 0 ≤ getD (s .elen) y 0) (sym el) (less-pruned m n v (ok .v-in) s y))
+                (ap (λ (u : Mem). u .rlen) (D₃ .tables) ∙ ap (λ (u : Mem). u .rlen) went₂ ∙ f .rlen ∙ k .rlen) fit,
+          )
+
+      pub hand-does : (w₄ : List ℕ) (d₄ : List Float) → Does m n w₄ d₄ (grow b v (view m n w₃ d₃)) → Does m n w₄ d₄ (handed m b v g (view m n w d))
+      unfolding handed
+      hand-does w₄ d₄ D₄ = record { tables = D₄ .tables ∙ ap (grow b v) (D₃ .tables ∙ ap (splice m b v) went₂); tree = D₄ .tree }
 
 -- ---- merge
 pub raise-keeps : (m n g k : ℕ) (s : Mem) (x : ℕ) (t : Mem) → walkRaise k g s x ≡ some t → x < n → Sound m n s → Sound m n t × Counted t s
@@ -129,17 +147,21 @@ module _ (m n b v g last e : ℕ) (w : List ℕ) (d : List Float) (r : Room m n 
     room₂ = room-of m n w w₂ d d₂ r (lw₂ ∙ len₁) ld₂ (D₂ .tree)
 
     sound₂ : Sound m n (view m n w₂ d₂)
-    sound₂ = subst (Sound m n) (sym tables₂) (sound-readied m n b last (weight-set s e 0) sound₁)
+    sound₂ = subst (Sound m n) (sym tables₂) (sound-readied m n b last (weight-set s e 0) (ok .b-in) sound₁)
 
     pub merge-raise : Room m n w₂ d₂ × (Sound m n (view m n w₂ d₂) × ((v < n) × (g ≤ 2000)))
     merge-raise = (room₂, (sound₂, (ok .v-in, ok .g-in)))
 
-    frame₂ : Frame (view m n w₂ d₂) (weight-set s e 0)
-    frame₂ = subst (λ (u : Mem). Frame u (weight-set s e 0)) (sym tables₂) (frame-readied m b last (weight-set s e 0))
+    beside₂ : Beside (view m n w₂ d₂) (weight-set s e 0)
+    beside₂ = subst (λ (u : Mem). Beside u (weight-set s e 0)) (sym tables₂) (beside-readied m b last (weight-set s e 0))
+
+    less₂ : (y : ℕ) → getD (view m n w₂ d₂ .elen) y 0 ≤ getD (s .elen) y 0
+    unfolding weight-set
+    less₂ y = subst (λ (u : Mem). getD (u .elen) y 0 ≤ getD (s .elen) y 0) (sym tables₂) (less-readied m n b last (weight-set s e 0) (ok .b-in) y)
 
     rlen₂ : getD (view m n w₂ d₂ .rlen) v 0 ≡ getD (s .rlen) v 0
     unfolding weight-set
-    rlen₂ = ap (λ (l : List ℕ). getD l v 0) (frame₂ .rlen)
+    rlen₂ = ap (λ (l : List ℕ). getD l v 0) (beside₂ .rlen)
 
     raise-is : walkRaise (getD (view m n w₂ d₂ .rlen) v 0) g (view m n w₂ d₂) v ≡ walkRaise (getD (s .rlen) v 0) g (readied m b last (weight-set s e 0)) v
     raise-is = ap (λ (k : ℕ). walkRaise k g (view m n w₂ d₂) v) rlen₂ ∙ ap (λ (u : Mem). walkRaise (getD (s .rlen) v 0) g u v) tables₂
@@ -169,7 +191,7 @@ module _ (m n b v g last e : ℕ) (w : List ℕ) (d : List Float) (r : Room m n 
             subst (Sound m n) (sym (took .2 .tables)) (kept .0),
             (
               ok,
-              fit-frame n b v (view m n w₃ d₃) s (counted .size ∙ frame₂ .size) (counted .elen ∙ frame₂ .elen) (counted .rlen ∙ frame₂ .rlen) fit,
+              fit-frame n b v (view m n w₃ d₃) s (counted .size ∙ beside₂ .size) (λ y. subst (λ (l : List ℕ). getD l y 0 ≤ getD (s .elen) y 0) (sym (counted .elen)) (less₂ y)) (counted .rlen ∙ beside₂ .rlen) fit,
             ),
           ),
         )

@@ -2,48 +2,49 @@
 use mathlib.Core.Path.{_≡_, refl, sym, ap, _∙_, subst}
 use mathlib.Core.Logic.{_⊎_, inl, inr, ⊎-elim}
 use mathlib.Core.Bool.{Bool, true, false, not, _&&_, cond, true≢false}
-use mathlib.Core.List.{List, [], _∷_, map}
-use mathlib.Core.Option.{Option, none, some}
-use Prim.Native.Nat.{ℕ, zero, suc, _+_, _*_, _-_, _/_, _≤_, _<_, _^_}
+use mathlib.Core.List.{List}
+use Prim.Native.Nat.{ℕ, zero, suc, _+_, _*_, _-_, _/_, _≤_, _<_}
 use native.Mathlib.Omega.{arith}
 use lib.Dec.{eqb, ltb}
-use lib.ListN.{length, getD, set, length-set}
+use lib.ListN.{getD}
 use lib.Seq.{getD-set-same, getD-set-other}
-use borrow.Author.Tests.{eqb-true, eqb-false}
+use borrow.Author.Tests.{eqb-true}
 use Rattle.network.specs.Network.{Edge, Region, State, Plan, sizeOf, plan, planFor, kill, turn, turnIf, adjust, prepare, combine}
-use Rattle.network.specs.Mem.{Mem, Sound, total, weight-set}
-use Rattle.network.specs.Steps.{unbias, baseEdge, walkBase, movedEdge, walkMoved, readied}
+use Rattle.network.specs.Mem.{Mem, Sound, weight-set}
+use Rattle.network.specs.Steps.{unbias, walkBase, pruned, movedEdge, walkMoved, movedAll, readied}
 use Rattle.network.specs.Does.{Gains}
 use Rattle.network.specs.Net.{rows, edgeOf, regionOf, Like}
-use Rattle.network.specs.Chain.{cur, Chains}
-use Rattle.network.specs.Rep.{Rep, Ends}
+use Rattle.network.specs.Chain.{cur}
+use Rattle.network.specs.Rep.{Rep, Circled}
 use Rattle.network.proofs.network.SoundSet.{eq-or-ne, sound-weight}
-use Rattle.network.proofs.network.SoundSteps.{sound-base, sound-moved}
+use Rattle.network.proofs.network.SoundSteps.{sound-moved}
 use Rattle.network.proofs.network.Leaf.{total-less}
-use Rattle.network.proofs.network.Frames.{Frame, frame-refl, frame-walk-base}
-use Rattle.network.proofs.network.TableEdges.{like-of, like-dead, like-then, like-at, word-dead, Words, words}
-use Rattle.network.proofs.network.Circles.{later}
+use Rattle.network.proofs.network.Frames.{Frame, frame-moved-all, Beside, beside-refl, beside-walk-base, Same}
+use Rattle.network.proofs.network.TableEdges.{like-dead, like-then, like-at, live-word, word-dead, Words, words}
+use Rattle.network.proofs.network.Chained.{circled-by, circled-less, at-end, met}
+use Rattle.network.proofs.network.Dropping.{Pruned, prune-is}
 use Rattle.network.proofs.network.Moved.{same-no, same-yes, Setting, Middle}
 use Rattle.network.proofs.network.MovedWalk.{begin, Walked, walk, finish, finish-marks}
-use Rattle.network.proofs.network.BaseWalk.{Plain, Ready, ready-walk, ready-still}
+use Rattle.network.proofs.network.BaseWalk.{Plain, Ready, Walked as WalkedBase, ready-walk, ready-still}
 use Rattle.network.proofs.network.Counts.{Counted}
 use Rattle.network.proofs.network.Prepared.{plain, nodes-apart, setting}
-use Rattle.arithmetic.proofs.SeqLaws.{eqb-refl}
-use Rattle.network.specs.Simple.{Simple}
-
-pub sound-walk-base : (m n b k : ℕ) (s : Mem) (x : ℕ) → Sound m n s → Sound m n (walkBase k m b s x)
-unfolding walkBase
-sound-walk-base m n b zero s x h = h
-sound-walk-base m n b (suc k) s x h = sound-walk-base m n b k (baseEdge m b s (x / 2)) (getD (s .enext) x 0) (sound-base m n b s (x / 2) h)
 
 pub sound-walk-moved : (m n b v g k : ℕ) (s : Mem) (x : ℕ) → Gains n b v g → Sound m n s → Sound m n (walkMoved k m b v g s x)
 unfolding walkMoved
 sound-walk-moved m n b v g zero s x ok h = h
 sound-walk-moved m n b v g (suc k) s x ok h = sound-walk-moved m n b v g k (movedEdge m b v g s (x / 2)) (getD (s .enext) x 0) ok (sound-moved m n b v g s (x / 2) h ok)
 
+pub sound-moved-all : (m n b v g : ℕ) (s : Mem) → Gains n b v g → Sound m n s → Sound m n (movedAll m b v g s)
+unfolding movedAll
+sound-moved-all m n b v g s ok h = sound-walk-moved m n b v g (getD (s .elen) v 0 - 1) s (getD (s .enext) (2 * m + v) 0) ok h
+
 pub counted-edges : (s t : Mem) → Counted s t → (j : ℕ) → edgeOf s j ≡ edgeOf t j
 unfolding edgeOf
 counted-edges s t c j = rw (c .weight, c .first, c .second, c .diff) refl
+
+same-edges : (s t : Mem) → Same s t → (j : ℕ) → edgeOf s j ≡ edgeOf t j
+unfolding edgeOf
+same-edges s t c j = rw (c .weight, c .first, c .second, c .diff) refl
 
 -- preparing turns an edge or leaves its ends
 pub prep-ends : (pl : Plan) (e : Edge) → ((prepare pl e .first ≡ e .first) × (prepare pl e .second ≡ e .second)) ⊎ ((prepare pl e .second ≡ e .first) × (prepare pl e .first ≡ e .second))
@@ -76,48 +77,6 @@ module _ (m n : ℕ) (gates : ℕ → ℕ) (last : ℕ) (s : Mem) (t : State) (R
       let w : Words s j (R .E j) = words s j (R .E j) (R .like j h .whole l) l in
       (omega (arith, w .first-is, R .sound .first-in j h), omega (arith, w .second-is, R .sound .second-in j h))
 
-  pub record At (j x : ℕ) : Type 0 where
-    pub slot : ℕ
-    pub slot-in : slot < 2 * m
-    pub slot-of : slot / 2 ≡ j
-    pub owner : R .eown slot ≡ 2 * m + x
-
-  pub at-end : (j x : ℕ) → j < m → R .E j .live ≡ true → (R .E j .first ≡ x) ⊎ (R .E j .second ≡ x) → At j x
-  at-end j x h l = go (R .ends j h l)
-    where
-      even : R .eown (2 * j) ≡ 2 * m + x → At j x
-      even e = record { slot = 2 * j; slot-in = omega arith; slot-of = omega arith; owner = e }
-
-      odd : R .eown (2 * j + 1) ≡ 2 * m + x → At j x
-      odd e = record { slot = 2 * j + 1; slot-in = omega arith; slot-of = omega arith; owner = e }
-
-      go : Ends m (R .eown) j (R .E j) → (R .E j .first ≡ x) ⊎ (R .E j .second ≡ x) → At j x
-      go (inl p) (inl q) = even (p .0 ∙ ap (λ (y : ℕ). 2 * m + y) q)
-      go (inl p) (inr q) = odd (p .1 ∙ ap (λ (y : ℕ). 2 * m + y) q)
-      go (inr p) (inl q) = odd (p .1 ∙ ap (λ (y : ℕ). 2 * m + y) q)
-      go (inr p) (inr q) = even (p .0 ∙ ap (λ (y : ℕ). 2 * m + y) q)
-
-  pub leads : (j x : ℕ) → x < n → At j x → R .node x ≡ x
-  leads j x h a =
-      let top : R .eown (R .eown (a .slot)) ≡ R .eown (a .slot) = R .echains .top (a .slot) (omega (arith, a .slot-in)) in
-      let e : R .eown (2 * m + x) ≡ 2 * m + x = ap (R .eown) (sym (a .owner)) ∙ top ∙ a .owner in
-      omega (arith, R .header x h)
-
-  -- a slot of node x's chain is met on the walk along it
-  met : (j x : ℕ) → x < n → At j x → (N : List ℕ) → N ≡ s .enext → (i : ℕ) × (i < getD (s .elen) x 0 - 1) × (cur N (getD N (2 * m + x) 0) i / 2 ≡ j)
-  unfolding cur
-  met j x h a N e =
-      let sl : ℕ = a .slot in
-      let inside : sl < 2 * m + n = omega (arith, a .slot-in) in
-      let p : 1 ≤ R .epos sl = later (s .enext) (2 * m + n) (R .eown) (R .epos) (λ y. getD (s .elen) (y - 2 * m) 0) (R .echains) sl inside (λ w. omega (arith, R .high sl inside, a .slot-in)) in
-      let z : R .eown sl - 2 * m ≡ x = omega (arith, a .owner) in
-      let len : getD (s .elen) (R .eown sl - 2 * m) 0 ≡ getD (s .elen) x 0 = ap (λ (y : ℕ). getD (s .elen) y 0) z in
-      let k : suc (R .epos sl - 1) ≡ R .epos sl = omega arith in (
-        R .epos sl - 1,
-        omega (arith, R .echains .here sl inside),
-        ap (λ (M : List ℕ). cur M (2 * m + x) (suc (R .epos sl - 1)) / 2) e ∙ ap (λ (y : ℕ). cur (s .enext) (2 * m + x) y / 2) k ∙ ap (λ (y : ℕ). cur (s .enext) y (R .epos sl) / 2) (sym (a .owner)) ∙ ap (λ (y : ℕ). y / 2) (R .echains .at sl inside) ∙ a .slot-of,
-      )
-
   module _ (e : ℕ) (lt : e < m) (l : R .E e .live ≡ true) where
     abbrev pub rs : List Region
     rs = rows (regionOf gates (R .node) s) 0 n
@@ -147,10 +106,10 @@ module _ (m n : ℕ) (gates : ℕ → ℕ) (last : ℕ) (s : Mem) (t : State) (R
     moved-in = ⊎-elim (λ p. subst (λ (x : ℕ). x < n) (p .1) (ends-in e lt l .1)) (λ p. subst (λ (x : ℕ). x < n) (p .1) (ends-in e lt l .0)) plan-ends
 
     pub base-leads : R .node (pl .base) ≡ pl .base
-    base-leads = leads e (pl .base) base-in (at-end e (pl .base) lt l (⊎-elim (λ p. inl (p .0)) (λ p. inr (p .0)) plan-ends))
+    base-leads = ⊎-elim (λ p. subst (λ (x : ℕ). R .node x ≡ x) (p .0) (R .leading e lt l .0)) (λ p. subst (λ (x : ℕ). R .node x ≡ x) (p .0) (R .leading e lt l .1)) plan-ends
 
     pub moved-leads : R .node (pl .moved) ≡ pl .moved
-    moved-leads = leads e (pl .moved) moved-in (at-end e (pl .moved) lt l (⊎-elim (λ p. inr (p .1)) (λ p. inl (p .1)) plan-ends))
+    moved-leads = ⊎-elim (λ p. subst (λ (x : ℕ). R .node x ≡ x) (p .1) (R .leading e lt l .1)) (λ p. subst (λ (x : ℕ). R .node x ≡ x) (p .1) (R .leading e lt l .0)) plan-ends
 
     pub apart : pl .base ≡ pl .moved → ⊥
     apart = nodes-apart m (R .E) (R .number) (R .simple) e lt l rs
@@ -218,41 +177,45 @@ module _ (m n : ℕ) (gates : ℕ → ℕ) (last : ℕ) (s : Mem) (t : State) (R
     abbrev pub s₂ : Mem
     s₂ = readied m (pl .base) last s₁
 
-    pub frame₂ : Frame s₂ s₁
+    pub beside₂ : Beside s₂ s₁
     unfolding readied
-    frame₂ = go (eqb (pl .base) last)
+    beside₂ = go (eqb (pl .base) last)
       where
-        go : (x : Bool) → Frame (cond x s₁ (walkBase (getD (s₁ .elen) (pl .base) 0 - 1) m (pl .base) s₁ (getD (s₁ .enext) (2 * m + pl .base) 0))) s₁
-        go true = frame-refl s₁
-        go false = frame-walk-base (getD (s₁ .elen) (pl .base) 0 - 1) m (pl .base) s₁ (getD (s₁ .enext) (2 * m + pl .base) 0)
-
-    pub sound₂ : Sound m n s₂
-    unfolding readied
-    sound₂ = go (eqb (pl .base) last)
-      where
-        go : (x : Bool) → Sound m n (cond x s₁ (walkBase (getD (s₁ .elen) (pl .base) 0 - 1) m (pl .base) s₁ (getD (s₁ .enext) (2 * m + pl .base) 0)))
-        go true = sound₁
-        go false = sound-walk-base m n (pl .base) (getD (s₁ .elen) (pl .base) 0 - 1) s₁ (getD (s₁ .enext) (2 * m + pl .base) 0) sound₁
+        go : (x : Bool) → Beside (cond x s₁ (walkBase m (pl .base) s₁)) s₁
+        go true = beside-refl s₁
+        go false = beside-walk-base m (pl .base) s₁
 
     plain₁ : Plain m killed
     plain₁ = plain m (R .E) (R .number) (R .simple) e lt l rs
 
-    ready₂ : Ready m (pl .base) killed plain₁ s₂
+    circled₁ : Circled m n (R .node) killed s₁ (R .eown) (R .epos) (R .elens)
+    circled₁ = circled-by m n (R .node) killed s s₁ (R .eown) (R .epos) (R .elens) (same₁ .1) (same₁ .2) (circled-less m n (R .node) (R .E) killed s (R .eown) (R .epos) (R .elens) lived (R .circled))
+
+    walked₂ : WalkedBase m (pl .base) killed plain₁ n (R .node) s₂
     unfolding readied
-    ready₂ = go (eqb (pl .base) last) refl
+    walked₂ = go (eqb (pl .base) last) refl
       where
-        go : (x : Bool) → eqb (pl .base) last ≡ x → Ready m (pl .base) killed plain₁ (cond x s₁ (walkBase (getD (s₁ .elen) (pl .base) 0 - 1) m (pl .base) s₁ (getD (s₁ .enext) (2 * m + pl .base) 0)))
-        go true w = ready-still m (pl .base) killed plain₁ s₁ like₁ (λ j h k d.
-            let bl : pl .base ≡ last = eqb-true (pl .base) last w in
-            let q : (R .E j .live ≡ true) × (killed j ≡ R .E j) = lived j k in
-            let r : (R .E j .live ≡ true) × ((R .E j .first ≡ last) ⊎ (R .E j .second ≡ last)) = lived-end j last k (⊎-elim (λ y. inl (y ∙ bl)) (λ y. inr (y ∙ bl)) d) in
-            let u : (R .E j .first ≡ last) × (getD (s .mark) (R .E j .second) 0 ≡ j) = R .marks j h (r .0) (r .1) in
-            (ap (λ (y : Edge). y .first) (q .1) ∙ u .0 ∙ sym bl, ap (λ (y : List ℕ). getD y (killed j .second) 0) (same₁ .0) ∙ ap (λ (y : Edge). getD (s .mark) (y .second) 0) (q .1) ∙ u .1))
-        go false w = ready-walk m (pl .base) killed plain₁ n (getD (s₁ .elen) (pl .base) 0 - 1) s₁ sound₁ like₁ (getD (s₁ .enext) (2 * m + pl .base) 0)
-            (λ j h k d.
-            let r : (R .E j .live ≡ true) × ((R .E j .first ≡ pl .base) ⊎ (R .E j .second ≡ pl .base)) = lived-end j (pl .base) k d in
-            let u : (i : ℕ) × (i < getD (s .elen) (pl .base) 0 - 1) × (cur (s₁ .enext) (getD (s₁ .enext) (2 * m + pl .base) 0) i / 2 ≡ j) = met j (pl .base) base-in (at-end j (pl .base) h (r .0) (r .1)) (s₁ .enext) (same₁ .1) in
-            (u .0, subst (λ (y : List ℕ). u .0 < getD y (pl .base) 0 - 1) (sym (same₁ .2)) (u .1), u .2))
+        go : (x : Bool) → eqb (pl .base) last ≡ x → WalkedBase m (pl .base) killed plain₁ n (R .node) (cond x s₁ (walkBase m (pl .base) s₁))
+        go true w = record {
+          ready = ready-still m (pl .base) killed plain₁ s₁ like₁ (λ j h k d.
+              let bl : pl .base ≡ last = eqb-true (pl .base) last w in
+              let q : (R .E j .live ≡ true) × (killed j ≡ R .E j) = lived j k in
+              let r : (R .E j .live ≡ true) × ((R .E j .first ≡ last) ⊎ (R .E j .second ≡ last)) = lived-end j last k (⊎-elim (λ y. inl (y ∙ bl)) (λ y. inr (y ∙ bl)) d) in
+              let u : (R .E j .first ≡ last) × (getD (s .mark) (R .E j .second) 0 ≡ j) = R .marks j h (r .0) (r .1) in
+              (ap (λ (y : Edge). y .first) (q .1) ∙ u .0 ∙ sym bl, ap (λ (y : List ℕ). getD y (killed j .second) 0) (same₁ .0) ∙ ap (λ (y : Edge). getD (s .mark) (y .second) 0) (q .1) ∙ u .1));
+          o = R .eown;
+          q = R .epos;
+          l = R .elens;
+          circled = circled₁;
+          sound = sound₁;
+        }
+        go false w = ready-walk m (pl .base) killed plain₁ n (R .node) base-in base-leads s₁ (R .eown) (R .epos) (R .elens) circled₁ sound₁ like₁
+
+    pub sound₂ : Sound m n s₂
+    sound₂ = walked₂ .sound
+
+    ready₂ : Ready m (pl .base) killed plain₁ s₂
+    ready₂ = walked₂ .ready
 
     -- ---- the moved node's edges go to the base
     module _ (g : ℕ) (gain : unbias g ≡ pl .gain) (g-in : g ≤ 2000) (s₃ : Mem) (counted : Counted s₃ s₂) (sound₃ : Sound m n s₃) where
@@ -265,36 +228,65 @@ module _ (m n : ℕ) (gates : ℕ → ℕ) (last : ℕ) (s : Mem) (t : State) (R
       S : Setting m (pl .base) (pl .moved) g prep ready
       S = setting m (R .E) (R .number) (R .simple) e lt l rs g gain
 
-      middle₃ : Middle m (pl .base) (pl .moved) prep ready (λ j. false) s₃
-      middle₃ = begin m (pl .base) (pl .moved) g prep ready S s₃
-          (λ j h. like-at _ _ _ (counted-edges s₃ s₂ counted j) (ready₂ .like j h))
-          (λ j h k w. ap (λ (y : List ℕ). getD y (ready j .second) 0) (counted .mark) ∙ ready₂ .marks j h k w)
+      -- the moved node's chain is pruned
+      like₃ : (j : ℕ) → j < m → Like (edgeOf s₃ j) (ready j)
+      like₃ j h = like-at _ _ _ (counted-edges s₃ s₂ counted j) (ready₂ .like j h)
+
+      abbrev pub sₚ : Mem
+      sₚ = pruned m (pl .moved) s₃
+
+      pub prunedₚ : Pruned m n (R .node) killed s₃ sₚ
+      prunedₚ = prune-is m n (R .node) killed (pl .moved) moved-in moved-leads s₃ (walked₂ .o) (walked₂ .q) (walked₂ .l)
+          (circled-by m n (R .node) killed s₂ s₃ (walked₂ .o) (walked₂ .q) (walked₂ .l) (counted .enext) (counted .elen) (walked₂ .circled)) sound₃
+          (λ j h k. live-word s₃ j (like₃ j h .live ∙ (unfold turn turnIf in k)))
+
+      middleₚ : Middle m (pl .base) (pl .moved) prep ready (λ j. false) sₚ
+      middleₚ = begin m (pl .base) (pl .moved) g prep ready S sₚ
+          (λ j h. like-at _ _ _ (same-edges sₚ s₃ (prunedₚ .same) j) (like₃ j h))
+          (λ j h k w. ap (λ (y : List ℕ). getD y (ready j .second) 0) (prunedₚ .same .mark ∙ counted .mark) ∙ ready₂ .marks j h k w)
 
       abbrev pub s₄ : Mem
-      s₄ = walkMoved (getD (s₃ .elen) (pl .moved) 0 - 1) m (pl .base) (pl .moved) g s₃ (getD (s₃ .enext) (2 * m + pl .moved) 0)
+      s₄ = movedAll m (pl .base) (pl .moved) g sₚ
 
       pub sound₄ : Sound m n s₄
-      sound₄ = sound-walk-moved m n (pl .base) (pl .moved) g (getD (s₃ .elen) (pl .moved) 0 - 1) s₃ (getD (s₃ .enext) (2 * m + pl .moved) 0) ok sound₃
+      sound₄ = sound-moved-all m n (pl .base) (pl .moved) g sₚ ok (prunedₚ .sound)
 
-      walked : Walked m (pl .base) (pl .moved) g prep ready S s₄ (λ j. false) (s₃ .enext) (getD (s₃ .enext) (2 * m + pl .moved) 0) (getD (s₃ .elen) (pl .moved) 0 - 1)
-      walked = walk m (pl .base) (pl .moved) g prep ready S n ok (getD (s₃ .elen) (pl .moved) 0 - 1) s₃ sound₃ (λ j. false) middle₃ (s₃ .enext) refl (getD (s₃ .enext) (2 * m + pl .moved) 0)
+      frame₄ : Frame s₄ sₚ
+      frame₄ = frame-moved-all m (pl .base) (pl .moved) g sₚ
 
-      same-enext : s₃ .enext ≡ s .enext
-      same-enext = counted .enext ∙ frame₂ .enext ∙ same₁ .1
+      pub beside₄ : Beside s₄ s₃
+      beside₄ = record {
+        rnext = frame₄ .rnext ∙ prunedₚ .same .beside .rnext;
+        size = frame₄ .size ∙ prunedₚ .same .beside .size;
+        rlen = frame₄ .rlen ∙ prunedₚ .same .beside .rlen;
+        count = frame₄ .count ∙ prunedₚ .same .beside .count;
+      }
 
-      same-elen : s₃ .elen ≡ s .elen
-      same-elen = counted .elen ∙ frame₂ .elen ∙ same₁ .2
+      -- owners, places and lengths in the chains of slots
+      abbrev pub o₄ : ℕ → ℕ
+      o₄ = prunedₚ .o
+
+      abbrev pub q₄ : ℕ → ℕ
+      q₄ = prunedₚ .q
+
+      abbrev pub l₄ : ℕ → ℕ
+      l₄ = prunedₚ .l
+
+      pub circled₄ : Circled m n (R .node) killed s₄ o₄ q₄ l₄
+      circled₄ = circled-by m n (R .node) killed sₚ s₄ o₄ q₄ l₄ (frame₄ .enext) (frame₄ .elen) (prunedₚ .circled)
+
+      walked : Walked m (pl .base) (pl .moved) g prep ready S s₄ (λ j. false) (sₚ .enext) (getD (sₚ .enext) (2 * m + pl .moved) 0) (getD (sₚ .elen) (pl .moved) 0 - 1)
+      unfolding movedAll
+      walked = walk m (pl .base) (pl .moved) g prep ready S n ok (getD (sₚ .elen) (pl .moved) 0 - 1) sₚ (prunedₚ .sound) (λ j. false) middleₚ (sₚ .enext) refl (getD (sₚ .enext) (2 * m + pl .moved) 0)
 
       all-done : (j : ℕ) → j < m → prep j .live ≡ true → prep j .first ≡ pl .moved → walked .done' j ≡ true
       all-done j h k w =
           let kl : killed j .live ≡ true = sym (prep-live pl (R .E j)) ∙ k in
           let d : (killed j .first ≡ pl .moved) ⊎ (killed j .second ≡ pl .moved) = ⊎-elim (λ y. inl (kill-ends pl (R .E j) .0 ∙ sym (y .0) ∙ w)) (λ y. inr (kill-ends pl (R .E j) .1 ∙ sym (y .1) ∙ w)) (prep-ends pl (R .E j)) in
-          let r : (R .E j .live ≡ true) × ((R .E j .first ≡ pl .moved) ⊎ (R .E j .second ≡ pl .moved)) = lived-end j (pl .moved) kl d in
-          let u : (i : ℕ) × (i < getD (s .elen) (pl .moved) 0 - 1) × (cur (s₃ .enext) (getD (s₃ .enext) (2 * m + pl .moved) 0) i / 2 ≡ j) = met j (pl .moved) moved-in (at-end j (pl .moved) h (r .0) (r .1)) (s₃ .enext) same-enext in
-          let i : ℕ = u .0 in
-          let at-j : cur (s₃ .enext) (getD (s₃ .enext) (2 * m + pl .moved) 0) i / 2 ≡ j = u .2 in
-          ap (walked .done') (sym at-j) ∙ walked .seen i (subst (λ (y : List ℕ). i < getD y (pl .moved) 0 - 1) (sym same-elen) (u .1)) (subst (λ (y : ℕ). y < m) (sym at-j) h)
-          (ap (λ (y : ℕ). prep y .live) at-j ∙ k) (ap (λ (y : ℕ). prep y .first) at-j ∙ w)
+          let u : (i : ℕ) × (i < getD (sₚ .elen) (pl .moved) 0 - 1) × (cur (sₚ .enext) (getD (sₚ .enext) (2 * m + pl .moved) 0) i / 2 ≡ j)
+          = met m n (R .node) killed sₚ o₄ q₄ l₄ (prunedₚ .circled) j (pl .moved) moved-in moved-leads (at-end m o₄ j (killed j) (pl .moved) h (prunedₚ .circled .ends j h kl) d) in
+          ap (walked .done') (sym (u .2)) ∙ walked .seen (u .0) (u .1) (subst (λ (y : ℕ). y < m) (sym (u .2)) h)
+          (ap (λ (y : ℕ). prep y .live) (u .2) ∙ k) (ap (λ (y : ℕ). prep y .first) (u .2) ∙ w)
 
       pub like₄ : (j : ℕ) → j < m → Like (edgeOf s₄ j) (combine (rows prep 0 m) (pl .base) (pl .moved) (prep j))
       like₄ = finish m (pl .base) (pl .moved) g prep ready S s₄ (walked .done') (walked .middle) all-done

@@ -1,36 +1,35 @@
 -- A merge of the code keeps the invariant and is the network's step. Assumes nothing.
 use mathlib.Core.Path.{_≡_, refl, sym, ap, _∙_, subst}
 use mathlib.Core.Logic.{_⊎_, inl, inr, ⊎-elim}
-use mathlib.Core.Bool.{Bool, true, false, not, _&&_, cond, true≢false}
-use mathlib.Core.List.{List, [], _∷_, map}
+use mathlib.Core.Bool.{Bool, true, false, _&&_, cond}
+use mathlib.Core.List.{List, map}
 use mathlib.Core.Option.{Option, none, some}
-use Prim.Native.Nat.{ℕ, zero, suc, _+_, _*_, _-_, _/_, _≤_, _<_, _^_}
+use Prim.Native.Nat.{ℕ, _+_, _*_, _-_, _≤_, _<_, _^_}
 use native.Mathlib.Omega.{arith}
 use lib.IntN.{ℤ, _+ℤ_}
-use lib.ListN.{length, getD, set, length-set}
-use Rattle.network.specs.Network.{Edge, Region, State, Plan, Link, sizeOf, at, plan, planFor, kill, prepare, find, absorb, absent, hand, combine, joinAll, mergeEdges, move, merge, stepTo, step, raised, bounded}
+use lib.ListN.{length, getD, set}
+use Rattle.network.specs.Network.{Edge, Region, State, Plan, Link, sizeOf, at, plan, kill, prepare, find, absorb, hand, combine, joinAll, mergeEdges, move, merge, stepTo, step, raised, bounded}
 use Rattle.network.proofs.Restrict.{prepare-num, combine-num}
 use Rattle.network.proofs.Ends.{combine-live}
 use Rattle.network.proofs.Choice.{size-base}
 use Rattle.network.proofs.SimpleLaws.{Turned, step-simple}
 use Rattle.network.specs.Mem.{Mem, Sound, weight-set}
-use Rattle.network.specs.Steps.{unbias, accepts, walkRaise, walkMoved, splice, grow, readied, handed, then, merged}
-use Rattle.network.specs.Net.{rows, edgeOf, regionOf, Like}
+use Rattle.network.specs.Steps.{unbias, accepts, walkRaise, pruned, movedAll, readied, handed, then, merged}
+use Rattle.network.specs.Net.{rows, regionOf}
 use Rattle.network.specs.Chain.{cur, Chains, own-joined, pos-joined, len-joined}
-use Rattle.network.specs.Rep.{Rep, Ends, gatesOf}
+use Rattle.network.specs.Rep.{Rep, Circled, Ends, gatesOf}
 use Rattle.network.proofs.network.SoundSet.{eq-or-ne}
 use Rattle.network.proofs.network.Rows.{map-rows, rows-ext}
 use Rattle.network.proofs.network.TableEdges.{like-at}
-use Rattle.network.proofs.network.Frames.{Frame, frame-walk-moved}
-use Rattle.network.proofs.network.Moved.{same-no, same-yes, Setting}
-use Rattle.network.proofs.network.Counts.{Counted, Gained, Gives, raise}
+use Rattle.network.proofs.network.Frames.{Beside}
+use Rattle.network.proofs.network.Moved.{same-no, same-yes}
+use Rattle.network.proofs.network.Counts.{Gained, Gives, raise}
 use Rattle.network.proofs.network.Sums.{accepts-is, accepted-sum, size-else, gates-move}
 use Rattle.network.proofs.network.After.{swap, swapped, chains-len, after, after-edges, after-mark, after-count, after-rnext, after-enext, after-size, after-elen, after-rlen, sound-after, sum-there, all-yes, all-no}
 use Rattle.network.proofs.network.Prepared.{at-rows, setting}
-use Rattle.network.proofs.network.StepEdges.{prep-ends, prep-live, ends-in, base-in, moved-in, base-leads, moved-leads, apart, frame₂, sound₂, same₁, sound₄, like₄, marks₄}
+use Rattle.network.proofs.network.StepEdges.{prep-ends, prep-live, base-in, moved-in, base-leads, moved-leads, apart, beside₂, sound₂, same₁, beside₄, o₄, q₄, l₄, circled₄, sound₄, like₄, marks₄}
 use lib.Dec.{eqb}
-use borrow.Author.Tests.{eqb-true, eqb-false}
-use Rattle.arithmetic.proofs.SeqLaws.{eqb-refl}
+use borrow.Author.Tests.{eqb-true}
 use Rattle.arithmetic.specs.Seq.{all}
 use Rattle.network.specs.Simple.{Simple}
 
@@ -103,10 +102,10 @@ module _ (m n : ℕ) (gates : ℕ → ℕ) (last : ℕ) (s : Mem) (t : State) (R
   ne = apart m n gates last s t R e lt l
 
   rnext₂ : s₂ .rnext ≡ s .rnext
-  rnext₂ = frame₂ m n gates last s t R e lt l .rnext ∙ same₁ m n gates last s t R e lt l .3
+  rnext₂ = beside₂ m n gates last s t R e lt l .rnext ∙ same₁ m n gates last s t R e lt l .3
 
   count₂ : s₂ .count ≡ s .count
-  count₂ = frame₂ m n gates last s t R e lt l .count ∙ same₁ m n gates last s t R e lt l .6
+  count₂ = beside₂ m n gates last s t R e lt l .count ∙ same₁ m n gates last s t R e lt l .6
 
   node-moved : (x : ℕ) → R .node x ≡ v → node' x ≡ b
   unfolding own-joined
@@ -132,7 +131,7 @@ module _ (m n : ℕ) (gates : ℕ → ℕ) (last : ℕ) (s : Mem) (t : State) (R
   -- ---- the counts
   module _ (g : ℕ) (gain : unbias g ≡ pl .gain) (g-in : g ≤ 2000) (s₃ : Mem) (G : Gained g (s .rnext) v (getD (s .rlen) v 0) n s₂ s₃) where
     abbrev s₄ : Mem
-    s₄ = walkMoved (getD (s₃ .elen) v 0 - 1) m b v g s₃ (getD (s₃ .enext) (2 * m + v) 0)
+    s₄ = movedAll m b v g (pruned m v s₃)
 
     abbrev s₆ : Mem
     s₆ = after m b v s₄
@@ -140,26 +139,20 @@ module _ (m n : ℕ) (gates : ℕ → ℕ) (last : ℕ) (s : Mem) (t : State) (R
     sound₃ : Sound m n s₃
     sound₃ = G .sound m (sound₂ m n gates last s t R e lt l)
 
-    frame₄ : Frame s₄ s₃
-    frame₄ = frame-walk-moved (getD (s₃ .elen) v 0 - 1) m b v g s₃ (getD (s₃ .enext) (2 * m + v) 0)
+    still₄ : Beside s₄ s₃
+    still₄ = beside₄ m n gates last s t R e lt l g gain g-in s₃ (G .else) sound₃
 
     rnext₄ : s₄ .rnext ≡ s .rnext
-    rnext₄ = frame₄ .rnext ∙ G .else .rnext ∙ rnext₂
-
-    enext₄ : s₄ .enext ≡ s .enext
-    enext₄ = frame₄ .enext ∙ G .else .enext ∙ frame₂ m n gates last s t R e lt l .enext ∙ same₁ m n gates last s t R e lt l .1
+    rnext₄ = still₄ .rnext ∙ G .else .rnext ∙ rnext₂
 
     size₄ : s₄ .size ≡ s .size
-    size₄ = frame₄ .size ∙ G .else .size ∙ frame₂ m n gates last s t R e lt l .size ∙ same₁ m n gates last s t R e lt l .5
-
-    elen₄ : s₄ .elen ≡ s .elen
-    elen₄ = frame₄ .elen ∙ G .else .elen ∙ frame₂ m n gates last s t R e lt l .elen ∙ same₁ m n gates last s t R e lt l .2
+    size₄ = still₄ .size ∙ G .else .size ∙ beside₂ m n gates last s t R e lt l .size ∙ same₁ m n gates last s t R e lt l .5
 
     rlen₄ : s₄ .rlen ≡ s .rlen
-    rlen₄ = frame₄ .rlen ∙ G .else .rlen ∙ frame₂ m n gates last s t R e lt l .rlen ∙ same₁ m n gates last s t R e lt l .4
+    rlen₄ = still₄ .rlen ∙ G .else .rlen ∙ beside₂ m n gates last s t R e lt l .rlen ∙ same₁ m n gates last s t R e lt l .4
 
     count₆ : s₆ .count ≡ s₃ .count
-    count₆ = after-count m b v s₄ ∙ frame₄ .count
+    count₆ = after-count m b v s₄ ∙ still₄ .count
 
     -- a region of the moved node stands in its chain
     moved-count : (r : ℕ) → r < n → R .node r ≡ v → (accepts (getD (s .count) r 0 + g) ≡ true) × (getD (s₃ .count) r 0 ≡ getD (s .count) r 0 + g - 1000)
@@ -212,53 +205,58 @@ module _ (m n : ℕ) (gates : ℕ → ℕ) (last : ℕ) (s : Mem) (t : State) (R
         (swapped (s .rnext) n (R .node) (R .rpos) (λ x. getD (s .rlen) x 0) (R .rchains) (R .sound .l-rnext) b v hb hv lb lv ne)
         (λ h p o. sym (ap (λ (y : List ℕ). getD y h 0) (after-rlen m b v s₄ ∙ ap (λ (y : List ℕ). set y b (getD y b 0 + getD y v 0)) rlen₄) ∙ sum-there (s .rlen) n b v h (R .sound .l-rlen) hb)))
 
+    -- owners, places and lengths in the chains of slots, before they are joined
+    abbrev o : ℕ → ℕ
+    o = o₄ m n gates last s t R e lt l g gain g-in s₃ (G .else) sound₃
+
+    abbrev q : ℕ → ℕ
+    q = q₄ m n gates last s t R e lt l g gain g-in s₃ (G .else) sound₃
+
+    abbrev len : ℕ → ℕ
+    len = l₄ m n gates last s t R e lt l g gain g-in s₃ (G .else) sound₃
+
+    abbrev killed : ℕ → Edge
+    killed j = kill (pl .edge) (R .E j)
+
+    C : Circled m n (R .node) killed s₄ o q len
+    C = circled₄ m n gates last s t R e lt l g gain g-in s₃ (G .else) sound₃
+
     abbrev eown' : ℕ → ℕ
-    eown' = own-joined (R .eown) (2 * m + b) (2 * m + v)
-
-    lead-b : R .eown (2 * m + b) ≡ 2 * m + b
-    lead-b = R .header b hb ∙ ap (λ (x : ℕ). 2 * m + x) lb
-
-    lead-v : R .eown (2 * m + v) ≡ 2 * m + v
-    lead-v = R .header v hv ∙ ap (λ (x : ℕ). 2 * m + x) lv
+    eown' = own-joined o (2 * m + b) (2 * m + v)
 
     -- owners by node
-    eown-to : (i x : ℕ) → R .eown i ≡ 2 * m + x → eown' i ≡ 2 * m + to b v x
+    eown-to : (i x : ℕ) → o i ≡ 2 * m + x → eown' i ≡ 2 * m + to b v x
     unfolding own-joined
     eown-to i x w = ⊎-elim
-        (λ q. let y : eqb (2 * m + v) (R .eown i) ≡ true = same-yes (2 * m + v) (R .eown i) (sym (w ∙ ap (λ (z : ℕ). 2 * m + z) q)) in
-        ap (λ (z : Bool). cond z (2 * m + b) (R .eown i)) y ∙ ap (λ (z : ℕ). 2 * m + z) (sym (to-moved b v x q)))
-        (λ q. let y : eqb (2 * m + v) (R .eown i) ≡ false = same-no (2 * m + v) (R .eown i) (λ z. q (omega arith)) in
-        ap (λ (z : Bool). cond z (2 * m + b) (R .eown i)) y ∙ w ∙ ap (λ (z : ℕ). 2 * m + z) (sym (to-else b v x q)))
+        (λ q. let y : eqb (2 * m + v) (o i) ≡ true = same-yes (2 * m + v) (o i) (sym (w ∙ ap (λ (z : ℕ). 2 * m + z) q)) in
+        ap (λ (z : Bool). cond z (2 * m + b) (o i)) y ∙ ap (λ (z : ℕ). 2 * m + z) (sym (to-moved b v x q)))
+        (λ q. let y : eqb (2 * m + v) (o i) ≡ false = same-no (2 * m + v) (o i) (λ z. q (omega arith)) in
+        ap (λ (z : Bool). cond z (2 * m + b) (o i)) y ∙ w ∙ ap (λ (z : ℕ). 2 * m + z) (sym (to-else b v x q)))
         (eq-or-ne x v)
 
-    high' : (i : ℕ) → i < 2 * m + n → 2 * m ≤ eown' i
-    unfolding own-joined
-    high' i h = go (eqb (2 * m + v) (R .eown i))
-      where
-        go : (x : Bool) → 2 * m ≤ cond x (2 * m + b) (R .eown i)
-        go true = omega arith
-        go false = R .high i h
+    echains' : Chains (s₆ .enext) (2 * m + n) eown' (pos-joined o q len (2 * m + b) (2 * m + v)) (len-joined len (2 * m + b) (2 * m + v))
+    echains' = subst (λ (N : List ℕ). Chains N (2 * m + n) eown' (pos-joined o q len (2 * m + b) (2 * m + v)) (len-joined len (2 * m + b) (2 * m + v))) (sym (after-enext m b v s₄))
+        (swapped (s₄ .enext) (2 * m + n) o q len (C .echains) (sound₄ m n gates last s t R e lt l g gain g-in s₃ (G .else) sound₃ .l-enext) (2 * m + b) (2 * m + v) (omega (arith, hb)) (omega (arith, hv)) (C .header b hb lb) (C .header v hv lv) (λ w. ne (omega arith)))
 
-    echains' : Chains (s₆ .enext) (2 * m + n) eown' (pos-joined (R .eown) (R .epos) (λ h. getD (s .elen) (h - 2 * m) 0) (2 * m + b) (2 * m + v)) (λ h. getD (s₆ .elen) (h - 2 * m) 0)
+    -- a node that leads afterwards led before, and is not the moved node
+    was-leader : (x : ℕ) → node' x ≡ x → (R .node x ≡ x) × (x ≡ v → ⊥)
+    was-leader x w = ⊎-elim
+        (λ r. let z : x ≡ b = sym w ∙ node-moved x r in absurd (ne (sym lb ∙ ap (R .node) (sym z) ∙ r)))
+        (λ r. let z : R .node x ≡ x = sym (node-else x r) ∙ w in (z, λ y. r (z ∙ y)))
+        (eq-or-ne (R .node x) v)
+
+    header' : (x : ℕ) → x < n → node' x ≡ x → eown' (2 * m + x) ≡ 2 * m + x
+    header' x h w = eown-to (2 * m + x) x (C .header x h (was-leader x w .0)) ∙ ap (λ (y : ℕ). 2 * m + y) (to-else b v x (was-leader x w .1))
+
+    lengths' : (x : ℕ) → x < n → node' x ≡ x → len-joined len (2 * m + b) (2 * m + v) (2 * m + x) ≡ getD (s₆ .elen) x 0
     unfolding len-joined
-    echains' = subst (λ (N : List ℕ). Chains N (2 * m + n) eown' (pos-joined (R .eown) (R .epos) (λ h. getD (s .elen) (h - 2 * m) 0) (2 * m + b) (2 * m + v)) (λ h. getD (s₆ .elen) (h - 2 * m) 0)) (sym (after-enext m b v s₄ ∙ ap (λ (N : List ℕ). swap N (2 * m + b) (2 * m + v)) enext₄))
-        (chains-len (swap (s .enext) (2 * m + b) (2 * m + v)) (2 * m + n) eown' (pos-joined (R .eown) (R .epos) (λ h. getD (s .elen) (h - 2 * m) 0) (2 * m + b) (2 * m + v)) (len-joined (λ h. getD (s .elen) (h - 2 * m) 0) (2 * m + b) (2 * m + v)) (λ h. getD (s₆ .elen) (h - 2 * m) 0)
-        (swapped (s .enext) (2 * m + n) (R .eown) (R .epos) (λ h. getD (s .elen) (h - 2 * m) 0) (R .echains) (R .sound .l-enext) (2 * m + b) (2 * m + v) (omega (arith, hb)) (omega (arith, hv)) lead-b lead-v (λ w. ne (omega arith)))
-        (λ h p o. sym (elen-at h (omega (arith, high' h p)))))
+    lengths' x h w = ⊎-elim here there (eq-or-ne x b) ∙ sym (ap (λ (y : List ℕ). getD y x 0) (after-elen m b v s₄) ∙ sum-there (s₄ .elen) n b v x (sound₄ m n gates last s t R e lt l g gain g-in s₃ (G .else) sound₃ .l-elen) hb)
       where
-        elen-at : (h : ℕ) → 2 * m ≤ h → getD (s₆ .elen) (h - 2 * m) 0 ≡ cond (eqb (2 * m + b) h) (getD (s .elen) (2 * m + b - 2 * m) 0 + getD (s .elen) (2 * m + v - 2 * m) 0) (getD (s .elen) (h - 2 * m) 0)
-        elen-at h p =
-            let zb : 2 * m + b - 2 * m ≡ b = omega arith in
-            let zv : 2 * m + v - 2 * m ≡ v = omega arith in
-            ap (λ (y : List ℕ). getD y (h - 2 * m) 0) (after-elen m b v s₄ ∙ ap (λ (y : List ℕ). set y b (getD y b 0 + getD y v 0)) elen₄) ∙ sum-there (s .elen) n b v (h - 2 * m) (R .sound .l-elen) hb
-            ∙ ap (λ (x : Bool). cond x (getD (s .elen) b 0 + getD (s .elen) v 0) (getD (s .elen) (h - 2 * m) 0)) same-h
-            ∙ ap (λ (x : ℕ). cond (eqb (2 * m + b) h) x (getD (s .elen) (h - 2 * m) 0)) (ap (λ (x : ℕ). getD (s .elen) x 0 + getD (s .elen) v 0) (sym zb) ∙ ap (λ (x : ℕ). getD (s .elen) (2 * m + b - 2 * m) 0 + getD (s .elen) x 0) (sym zv))
-          where
-            same-h : eqb b (h - 2 * m) ≡ eqb (2 * m + b) h
-            same-h = ⊎-elim (λ w. same-yes b (h - 2 * m) (omega arith) ∙ sym (same-yes (2 * m + b) h w)) (λ w. same-no b (h - 2 * m) (λ q. w (omega arith)) ∙ sym (same-no (2 * m + b) h w)) (eq-or-ne (2 * m + b) h)
+        here : x ≡ b → cond (eqb (2 * m + b) (2 * m + x)) (len (2 * m + b) + len (2 * m + v)) (len (2 * m + x)) ≡ cond (eqb b x) (getD (s₄ .elen) b 0 + getD (s₄ .elen) v 0) (getD (s₄ .elen) x 0)
+        here z = rw (same-yes (2 * m + b) (2 * m + x) (omega arith), same-yes b x (sym z)) (ap (λ (y : ℕ). y + len (2 * m + v)) (C .lengths b hb lb) ∙ ap (λ (y : ℕ). getD (s₄ .elen) b 0 + y) (C .lengths v hv lv))
 
-    header' : (x : ℕ) → x < n → eown' (2 * m + x) ≡ 2 * m + node' x
-    header' x h = eown-to (2 * m + x) (R .node x) (R .header x h) ∙ (unfold own-joined in refl)
+        there : (x ≡ b → ⊥) → cond (eqb (2 * m + b) (2 * m + x)) (len (2 * m + b) + len (2 * m + v)) (len (2 * m + x)) ≡ cond (eqb b x) (getD (s₄ .elen) b 0 + getD (s₄ .elen) v 0) (getD (s₄ .elen) x 0)
+        there z = rw (same-no (2 * m + b) (2 * m + x) (λ y. z (omega arith)), same-no b x (λ y. z (sym y))) (C .lengths x h (was-leader x w .0))
 
     -- ---- the edges
     prepared-second : (j : ℕ) → j < m → prep j .live ≡ true → Turned b v (prep j)
@@ -275,19 +273,41 @@ module _ (m n : ℕ) (gates : ℕ → ℕ) (last : ℕ) (s : Mem) (t : State) (R
         left false y h = h
 
     ends' : (j : ℕ) → j < m → E' j .live ≡ true → Ends m eown' j (E' j)
-    ends' j h k = go (prep-ends pl (R .E j)) (R .ends j h (was-live j (lived j k)))
+    unfolding kill
+    ends' j h k = go (prep-ends pl (R .E j)) (C .ends j h (sym (prep-live pl (R .E j)) ∙ lived j k))
       where
         c : (E' j .first ≡ to b v (prep j .first)) × (E' j .second ≡ to b v (prep j .second))
         c = combine-ends (rows prep 0 m) b v (prep j) (prepared-second j h (lived j k) .1)
 
-        slot-to : (i x y : ℕ) → R .eown i ≡ 2 * m + x → y ≡ to b v x → eown' i ≡ 2 * m + y
+        slot-to : (i x y : ℕ) → o i ≡ 2 * m + x → y ≡ to b v x → eown' i ≡ 2 * m + y
         slot-to i x y p q = eown-to i x p ∙ ap (λ (z : ℕ). 2 * m + z) (sym q)
 
-        go : ((prep j .first ≡ R .E j .first) × (prep j .second ≡ R .E j .second)) ⊎ ((prep j .second ≡ R .E j .first) × (prep j .first ≡ R .E j .second)) → Ends m (R .eown) j (R .E j) → Ends m eown' j (E' j)
+        go : ((prep j .first ≡ R .E j .first) × (prep j .second ≡ R .E j .second)) ⊎ ((prep j .second ≡ R .E j .first) × (prep j .first ≡ R .E j .second)) → Ends m o j (R .E j) → Ends m eown' j (E' j)
         go (inl p) (inl q) = inl (slot-to _ _ _ (q .0) (c .0 ∙ ap (to b v) (p .0)), slot-to _ _ _ (q .1) (c .1 ∙ ap (to b v) (p .1)))
         go (inl p) (inr q) = inr (slot-to _ _ _ (q .0) (c .1 ∙ ap (to b v) (p .1)), slot-to _ _ _ (q .1) (c .0 ∙ ap (to b v) (p .0)))
         go (inr p) (inl q) = inr (slot-to _ _ _ (q .0) (c .1 ∙ ap (to b v) (p .0)), slot-to _ _ _ (q .1) (c .0 ∙ ap (to b v) (p .1)))
         go (inr p) (inr q) = inl (slot-to _ _ _ (q .0) (c .0 ∙ ap (to b v) (p .1)), slot-to _ _ _ (q .1) (c .1 ∙ ap (to b v) (p .0)))
+
+    -- a leader's new name leads
+    leads-to : (x : ℕ) → R .node x ≡ x → node' (to b v x) ≡ to b v x
+    leads-to x w = ⊎-elim
+        (λ z. subst (λ (y : ℕ). node' y ≡ y) (sym (to-moved b v x z)) (node-else b (λ y. ne (sym lb ∙ y)) ∙ lb))
+        (λ z. subst (λ (y : ℕ). node' y ≡ y) (sym (to-else b v x z)) (node-else x (λ y. z (sym w ∙ y)) ∙ w))
+        (eq-or-ne x v)
+
+    leading' : (j : ℕ) → j < m → E' j .live ≡ true → (node' (E' j .first) ≡ E' j .first) × (node' (E' j .second) ≡ E' j .second)
+    leading' j h k = go (prep-ends pl (R .E j)) (R .leading j h (was-live j (lived j k)))
+      where
+        c : (E' j .first ≡ to b v (prep j .first)) × (E' j .second ≡ to b v (prep j .second))
+        c = combine-ends (rows prep 0 m) b v (prep j) (prepared-second j h (lived j k) .1)
+
+        end-to : (x y z : ℕ) → z ≡ to b v x → x ≡ y → R .node y ≡ y → node' z ≡ z
+        end-to x y z p q w = subst (λ (i : ℕ). node' i ≡ i) (sym (p ∙ ap (to b v) q)) (leads-to y w)
+
+        go : ((prep j .first ≡ R .E j .first) × (prep j .second ≡ R .E j .second)) ⊎ ((prep j .second ≡ R .E j .first) × (prep j .first ≡ R .E j .second)) → (R .node (R .E j .first) ≡ R .E j .first) × (R .node (R .E j .second) ≡ R .E j .second)
+            → (node' (E' j .first) ≡ E' j .first) × (node' (E' j .second) ≡ E' j .second)
+        go (inl p) w = (end-to _ _ _ (c .0) (p .0) (w .0), end-to _ _ _ (c .1) (p .1) (w .1))
+        go (inr p) w = (end-to _ _ _ (c .0) (p .1) (w .1), end-to _ _ _ (c .1) (p .0) (w .0))
 
     second-far : (j : ℕ) → j < m → E' j .live ≡ true → E' j .second ≡ b → ⊥
     second-far j h k w =
@@ -323,7 +343,8 @@ module _ (m n : ℕ) (gates : ℕ → ℕ) (last : ℕ) (s : Mem) (t : State) (R
       node = node';
       rpos = pos-joined (R .node) (R .rpos) (λ x. getD (s .rlen) x 0) b v;
       eown = eown';
-      epos = pos-joined (R .eown) (R .epos) (λ h. getD (s .elen) (h - 2 * m) 0) (2 * m + b) (2 * m + v);
+      epos = pos-joined o q len (2 * m + b) (2 * m + v);
+      elens = len-joined len (2 * m + b) (2 * m + v);
       edges = edges';
       regions = regions';
       number = λ j. combine-num (rows prep 0 m) b v (prep j) ∙ prepare-num pl (R .E j) ∙ R .number j;
@@ -334,10 +355,8 @@ module _ (m n : ℕ) (gates : ℕ → ℕ) (last : ℕ) (s : Mem) (t : State) (R
       like = λ j h. like-at _ _ _ (after-edges m b v s₄ j) (like₄ m n gates last s t R e lt l g gain g-in s₃ (G .else) sound₃ j h);
       sizes = sizes';
       rchains = rchains';
-      echains = echains';
-      high = high';
-      header = header';
-      ends = ends';
+      circled = record { echains = echains'; header = header'; lengths = lengths'; ends = ends' };
+      leading = leading';
       marks = marks';
     }
 

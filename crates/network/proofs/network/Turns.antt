@@ -1,43 +1,43 @@
 -- `choose_base`, `turn` and `run` over plain values. Assumes nothing.
 use mathlib.Core.Path.{_≡_, refl, sym, ap, _∙_, subst}
-use mathlib.Core.Logic.{_⊎_, inl, inr, ⊎-elim}
-use mathlib.Core.Bool.{Bool, true, false, not, _&&_, cond, true≢false}
-use mathlib.Core.List.{List, [], _∷_, map}
+use mathlib.Core.Bool.{Bool, true, false, _&&_, cond}
+use mathlib.Core.List.{List}
 use mathlib.Core.Option.{Option, none, some}
-use Prim.Native.Nat.{ℕ, zero, suc, _+_, _*_, _-_, _≤_, _<_, _^_}
+use Prim.Native.Nat.{ℕ, zero, suc, _+_, _*_, _-_, _≤_, _<_}
 use native.Mathlib.Omega.{arith}
-use lib.Dec.{ltb, eqb}
-use lib.IntN.{ℤ, negℤ}
-use lib.Ieee.{nan, Float}
+use lib.IntN.{pos, negℤ}
+use lib.Ieee.{nan, Float, binary64, div}
 use lib.ListN.{length, getD}
 use borrow.Author.Tests.{lt-ltb, le-ltb}
-use Rattle.network.specs.Network.{Edge, Region, State, Plan, Event, sizeOf, at, plan, planFor, eventOf, event, step, raised, better, choose, quot, bounded, inRange}
+use Rattle.network.specs.Network.{Edge, Region, State, Plan, sizeOf, at, plan, planFor, eventOf, event, step, raised, better, choose, quot, bounded, inRange, whole}
 use Rattle.network.proofs.Choice.{Best as Heaviest, best-chosen}
-use Rattle.memory.specs.Tree.{Tree, Best, Beats}
+use Rattle.memory.specs.Tree.{Tree, Best}
 use Rattle.network.specs.Mem.{Mem, view, Room, Sound}
 use Rattle.network.specs.Steps.{unbias, merged, numberOf}
 use Rattle.network.specs.Does.{Does, Raised, Gains, Fit}
-use Rattle.network.specs.Net.{rows, edgeOf, regionOf, Like, stateOf}
-use Rattle.network.specs.Rep.{Rep, gatesOf}
+use Rattle.network.specs.Net.{rows, regionOf}
+use Rattle.network.specs.Rep.{Rep}
 use Rattle.network.specs.Settle.{Done, onward, settle}
 use Rattle.network.specs.TurnIs.{TurnIs, Chosen, PickIs, gatesIn, firstOf, RanIs}
 use Rattle.network.specs.declared.network.Turned.{Turned}
 use Rattle.network.specs.declared.network.Turned.the-variants.{Merged, Ended, Refused}
-use Rattle.network.specs.declared.network.Ran.{Ran}
 use Rattle.network.specs.declared.network.Ran.the-variants.{Settled, Denied}
-use Rattle.network.proofs.network.SoundSet.{eq-or-ne}
 use Rattle.network.proofs.network.View.{weight-at, first-at, second-at, size-at}
 use Rattle.network.proofs.network.Rows.{length-rows, getD-rows, has-rows}
-use Rattle.network.proofs.network.TableEdges.{word-live, live-word, Words, words}
+use Rattle.network.proofs.network.TableEdges.{word-live, Words, words}
 use Rattle.network.proofs.network.Pigeon.{two-circles}
 use Rattle.network.proofs.network.Sums.{size-two}
 use Rattle.network.proofs.network.Prepared.{at-rows}
-use Rattle.network.proofs.network.StepEdges.{ends-in, at-end, leads}
+use Rattle.network.proofs.network.StepEdges.{ends-in}
 use Rattle.network.proofs.network.StepRep.{MergeIs, merge-is}
 use Rattle.network.proofs.network.MergeDoes.{raised-true, raised-false}
 use Rattle.network.proofs.network.NumberIs.{Numbered, number-in, number-out, opposite}
 use Rattle.arithmetic.specs.Seq.{all}
-use Rattle.network.specs.Simple.{Simple}
+use Rattle.arithmetic.specs.Rounding.{real, roundEven}
+use Rattle.network.specs.Popped.{popped, Pops}
+use Rattle.network.specs.declared.network.Popped.{Popped}
+use Rattle.network.specs.declared.network.PoppedEdge.{PoppedEdge}
+use Rattle.network.specs.declared.network.Popped.the-variants.{Edge as Taken, Nothing}
 
 diff-same : (m n : ℕ) (w : List ℕ) (d : List Float) (e : ℕ) → getD (view m n w d .diff) e nan ≡ getD d e nan
 unfolding view
@@ -118,22 +118,18 @@ module _ (m n : ℕ) (gates : ℕ → ℕ) (last : ℕ) (w : List ℕ) (d : List
     proper = R .simple .proper (R .E e) (has-rows (R .E) 0 m e (omega arith) (omega arith)) l
 
     leads-first : R .node (R .E e .first) ≡ R .E e .first
-    leads-first = leads m n gates last s t R e (R .E e .first) (ends-words .2) (at-end m n gates last s t R e (R .E e .first) lt l (inl refl))
+    leads-first = R .leading e lt l .0
 
     leads-second : R .node (R .E e .second) ≡ R .E e .second
-    leads-second = leads m n gates last s t R e (R .E e .second) (ends-words .3) (at-end m n gates last s t R e (R .E e .second) lt l (inr refl))
+    leads-second = R .leading e lt l .1
 
     fit-of : (b v : ℕ) → b < n → v < n → R .node b ≡ b → R .node v ≡ v → (b ≡ v → ⊥) → Fit n b v s
     fit-of b v hb hv lb lv ne =
-        let zb : 2 * m + b - 2 * m ≡ b = omega arith in
-        let zv : 2 * m + v - 2 * m ≡ v = omega arith in
-        let eb : getD (s .elen) (2 * m + b - 2 * m) 0 ≡ getD (s .elen) b 0 = ap (λ (x : ℕ). getD (s .elen) x 0) zb in
-        let ev : getD (s .elen) (2 * m + v - 2 * m) 0 ≡ getD (s .elen) v 0 = ap (λ (x : ℕ). getD (s .elen) x 0) zv in
         record {
           b-in = hb;
           v-in = hv;
           sizes = omega (arith, R .sizes b hb lb, R .sizes v hv lv, size-two b v ne rs, R .light);
-          elens = omega (arith, R .small, two-circles (s .enext) (2 * m + n) (R .eown) (R .epos) (λ h. getD (s .elen) (h - 2 * m) 0) (R .echains) (2 * m + b) (2 * m + v) (omega arith) (omega arith) (R .header b hb ∙ ap (λ (x : ℕ). 2 * m + x) lb) (R .header v hv ∙ ap (λ (x : ℕ). 2 * m + x) lv) (λ q. ne (omega arith)));
+          elens = omega (arith, R .small, R .circled .lengths b hb lb, R .circled .lengths v hv lv, two-circles (s .enext) (2 * m + n) (R .eown) (R .epos) (R .elens) (R .circled .echains) (2 * m + b) (2 * m + v) (omega arith) (omega arith) (R .circled .header b hb lb) (R .circled .header v hv lv) (λ q. ne (omega arith)));
           rlens = omega (arith, R .small, two-circles (s .rnext) n (R .node) (R .rpos) (λ x. getD (s .rlen) x 0) (R .rchains) b v hb hv lb lv ne);
         }
 
@@ -228,6 +224,24 @@ module _ (m n : ℕ) (gates : ℕ → ℕ) (last : ℕ) (w : List ℕ) (d : List
       let ws : Words s e (R .E e) = words s e (R .E e) (R .like e (c .e-in) .whole (chosen-live e g c)) (chosen-live e g c) in
       number-in (quot (R .E e .diff) (R .E e .weight)) g (c .number ∙ ap (λ (x : Float). numberOf (quot x (getD (s .weight) e 0))) (ws .diff-is) ∙ ap (λ (x : ℕ). numberOf (quot (R .E e .diff) x)) (ws .weight-is)) (c .most)
 
+  -- ---- the answer of choosing
+  pub pop-none : (e : ℕ) → Best m w e → getD w e 0 ≡ 0 → Nothing ≡ popped (choose (t .edges))
+  unfolding popped
+  pop-none e B z = sym (ap popped (choose-none e B z))
+
+  pub pop-some : (e : ℕ) (B : Best m w e) → (getD w e 0 ≡ 0 → ⊥)
+      → Taken (record { node1 = getD w (3 * m + e) 0; node2 = getD w (4 * m + e) 0; diff = div binary64 (getD d e nan) (real (pos (getD w e 0))); «edge_number» = e }) ≡ popped (choose (t .edges))
+  unfolding popped
+  pop-some e B live =
+      let l : R .E e .live ≡ true = best-live e B live in
+      let ws : Words s e (R .E e) = words s e (R .E e) (R .like e (B .within) .whole l) l in
+      let a : getD w (3 * m + e) 0 ≡ R .E e .first = sym (first-at m n w d e (B .within)) ∙ ws .first-is in
+      let b : getD w (4 * m + e) 0 ≡ R .E e .second = sym (second-at m n w d e (B .within)) ∙ ws .second-is in
+      let x : getD d e nan ≡ R .E e .diff = sym (diff-same m n w d e) ∙ ws .diff-is in
+      let y : getD w e 0 ≡ R .E e .weight = weighs e B live e (B .within) l in
+      (λ i. Taken (record { node1 = a i; node2 = b i; diff = div binary64 (x i) (real (pos (y i))); «edge_number» = ws .num-is i }))
+      ∙ sym (ap popped (choose-some e B live))
+
   -- ---- a turn
   module _ (e g : ℕ) (B : Best m w e) where
     pub turn-ended : getD w e 0 ≡ 0 → TurnIs m n gates t w d Ended
@@ -264,6 +278,22 @@ turn-chosen m n w d e g B live is most = record {
   number = is ∙ ap (λ (x : ℕ). numberOf (quot (getD d e nan) x)) (sym (weight-at m n w d e (B .within))) ∙ ap (λ (x : Float). numberOf (quot x (getD (view m n w d .weight) e 0))) (sym (diff-same m n w d e));
   most = most;
 }
+
+-- what is known of the answer of choosing, by its case
+pub pops-none : (m : ℕ) (w : List ℕ) (d : List Float) (r : Popped) → r ≡ Nothing → Pops m w d r → (e : ℕ) × Best m w e × (getD w e 0 ≡ 0)
+unfolding Pops
+pops-none m w d r e h = subst (Pops m w d) e h
+
+pub record Winner (m : ℕ) (w : List ℕ) (d : List Float) (p : PoppedEdge) (g : ℕ) : Type 0 where
+  pub best : Best m w (p .«edge_number»)
+  pub live : getD w (p .«edge_number») 0 ≡ 0 → ⊥
+  pub number : g ≡ numberOf (quot (getD d (p .«edge_number») nan) (getD w (p .«edge_number») 0))
+
+pub pops-some : (m : ℕ) (w : List ℕ) (d : List Float) (r : Popped) (p : PoppedEdge) (g : ℕ) → r ≡ Taken p → Pops m w d r → g ≡ numberOf (whole (roundEven (p .diff))) → Winner m w d p g
+unfolding Pops quot
+pops-some m w d r p g e h i =
+    let k : Best m w (p .«edge_number») × (getD w (p .«edge_number») 0 ≡ 0 → ⊥) × (p .diff ≡ div binary64 (getD d (p .«edge_number») nan) (real (pos (getD w (p .«edge_number») 0)))) = subst (Pops m w d) e h in
+    record { best = k .0; live = k .1; number = i ∙ ap (λ (x : Float). numberOf (whole (roundEven x))) (k .2) }
 
 -- ---- the run
 pub record Running (m n : ℕ) (w₀ : List ℕ) (d₀ : List Float) (w : List ℕ) (d : List Float) (last k : ℕ) : Type 0 where

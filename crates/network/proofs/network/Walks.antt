@@ -1,21 +1,20 @@
 -- One turn of each walk along a chain, over plain values. Assumes nothing.
 use mathlib.Core.Path.{_≡_, refl, sym, ap, _∙_, subst}
-use mathlib.Core.Bool.{Bool, true, false, cond, _&&_}
-use mathlib.Core.List.{List, [], _∷_}
-use mathlib.Core.Option.{Option, none, some}
-use Prim.Native.Nat.{ℕ, zero, suc, _+_, _*_, _-_, _/_, _≤_, _<_, _^_}
+use mathlib.Core.Bool.{true, false, cond}
+use mathlib.Core.List.{List}
+use mathlib.Core.Option.{Option, none}
+use Prim.Native.Nat.{ℕ, zero, suc, _+_, _*_, _-_, _/_, _≤_, _<_}
 use native.Mathlib.Omega.{arith}
-use lib.Dec.{leb}
 use lib.ListN.{length, getD, set, length-set}
 use borrow.Author.Tests.{le-leb, lt-leb}
 use Rattle.memory.proofs.tree.TreeLaws.{tree-set}
 use Rattle.network.specs.Mem.{Mem, view, Room, Sound, count-set}
-use Rattle.network.specs.Steps.{baseEdge, walkBase, movedEdge, walkMoved, accepts, walkRaise}
+use Rattle.network.specs.Steps.{movedEdge, walkMoved, movedAll, accepts, walkRaise}
 use Rattle.network.specs.Does.{Does, Raised, Gains}
 use Rattle.network.proofs.network.View.{enext-at, rnext-at, count-at, elen-at, rlen-at, count-put}
 use Rattle.network.proofs.network.Leaf.{room-of}
 use Rattle.network.proofs.network.SoundSet.{sound-count}
-use Rattle.network.proofs.network.SoundSteps.{sound-base, sound-moved}
+use Rattle.network.proofs.network.SoundSteps.{sound-moved}
 use lib.Ieee.{Float}
 
 -- ---- along a chain of edges
@@ -65,30 +64,6 @@ module _ (m n : ℕ) (edge : Mem → ℕ → Mem) (walk : ℕ → Mem → ℕ �
       let z : l - i ≡ 0 = omega arith in
       record { tables = sym (stop (view m n w d) x) ∙ ap (λ (y : ℕ). walk y (view m n w d) x) (sym z) ∙ k .left; tree = k .room .tree }
 
--- the base's
-module _ (m n b : ℕ) where
-  abbrev pub alongBase : ℕ → Mem → ℕ → Mem
-  alongBase k s x = walkBase k m b s x
-
-  base-law : (k : ℕ) (s : Mem) (x : ℕ) → alongBase (suc k) s x ≡ alongBase k (baseEdge m b s (x / 2)) (getD (s .enext) x 0)
-  unfolding walkBase
-  base-law k s x = refl
-
-  base-stop : (s : Mem) (x : ℕ) → alongBase zero s x ≡ s
-  unfolding walkBase
-  base-stop s x = refl
-
-  pub base-start : (w : List ℕ) (d : List Float) → Room m n w d → Sound m n (view m n w d) → b < n
-      → Walk m n alongBase w d w d (getD w (7 * m + 4 * n + b) 0) (getD w (5 * m + (2 * m + b)) 0) 1 (walkBase (getD (view m n w d .elen) b 0 - 1) m b (view m n w d) (getD (view m n w d .enext) (2 * m + b) 0))
-  base-start w d r h lt = start-of m n (baseEdge m b) alongBase base-law base-stop (λ s f. sound-base m n b s f) w d b r h lt
-
-  pub base-turned : (w₀ : List ℕ) (d₀ : List Float) (w : List ℕ) (d : List Float) (w' : List ℕ) (d' : List Float) (l x i : ℕ) (goal : Mem) → Walk m n alongBase w₀ d₀ w d l x i goal → i < l
-      → Does m n w' d' (baseEdge m b (view m n w d) (x / 2)) → length w' ≡ length w → length d' ≡ length d → Walk m n alongBase w₀ d₀ w' d' l (getD w (5 * m + x) 0) (i + 1) goal
-  base-turned = turn-of m n (baseEdge m b) alongBase base-law base-stop (λ s f. sound-base m n b s f)
-
-  pub base-end : (w₀ : List ℕ) (d₀ : List Float) (w : List ℕ) (d : List Float) (l x i : ℕ) (goal : Mem) → Walk m n alongBase w₀ d₀ w d l x i goal → l ≤ i → Does m n w d goal
-  base-end = end-of m n (baseEdge m b) alongBase base-law base-stop (λ s f. sound-base m n b s f)
-
 -- the moved node's
 abbrev pub alongMoved : ℕ → ℕ → ℕ → ℕ → ℕ → Mem → ℕ → Mem
 alongMoved m b v g k s x = walkMoved k m b v g s x
@@ -103,7 +78,8 @@ module _ (m n b v g : ℕ) (ok : Gains n b v g) where
   moved-stop s x = refl
 
   pub moved-start : (w : List ℕ) (d : List Float) → Room m n w d → Sound m n (view m n w d)
-      → Walk m n (alongMoved m b v g) w d w d (getD w (7 * m + 4 * n + v) 0) (getD w (5 * m + (2 * m + v)) 0) 1 (walkMoved (getD (view m n w d .elen) v 0 - 1) m b v g (view m n w d) (getD (view m n w d .enext) (2 * m + v) 0))
+      → Walk m n (alongMoved m b v g) w d w d (getD w (7 * m + 4 * n + v) 0) (getD w (5 * m + (2 * m + v)) 0) 1 (movedAll m b v g (view m n w d))
+  unfolding movedAll
   moved-start w d r h = start-of m n (movedEdge m b v g) (alongMoved m b v g) moved-law moved-stop (λ s f h. sound-moved m n b v g s f h ok) w d v r h (ok .v-in)
 
   pub moved-turned : (w₀ : List ℕ) (d₀ : List Float) (w : List ℕ) (d : List Float) (w' : List ℕ) (d' : List Float) (l x i : ℕ) (goal : Mem) → Walk m n (alongMoved m b v g) w₀ d₀ w d l x i goal → i < l

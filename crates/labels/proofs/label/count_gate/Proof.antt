@@ -16,13 +16,13 @@ place : (c : tie.Start) → (getD (c .args .u .now) (c .args .n + c .args .g) 0 
 place c = count-in (c .args .u .now) (c .args .n) (c .pre .1 .0 .1) (c .args .g) (c .pre .1 .0 .0) (c .pre .0) (c .pre .1 .0 .2)
 
 add-v : tie.Need-add-v
-add-v c = search needs
+add-v c = omega arith
 
 mul-v : tie.Need-mul-v
-mul-v c = search needs
+mul-v c = omega arith
 
 slice-read-v : tie.Need-slice-read-v
-slice-read-v c = search needs
+slice-read-v c = omega arith
 
 returns : tie.Need-returns
 returns c = let s = c .before .before in
@@ -30,7 +30,7 @@ returns c = let s = c .before .before in
     (none-counted (a .u .now) (a .n) (s .pre .1 .0 .1) (a .g) (s .pre .1 .0 .0) (s .pre .0) (s .pre .1 .0 .2) (c .if1 .taken), counts-none (a .u .now) (a .n))
 
 sub-p : tie.Need-sub-p
-sub-p c = search needs
+sub-p c = omega arith
 
 cast-p : tie.Need-cast-p
 cast-p c = omega (arith, c .before .slice-known .given (c .before .before .args .n + c .before .before .args .g))
@@ -41,10 +41,10 @@ returns-2 c = let s = c .before .before .before in
     (later-counted (a .u .now) (a .n) (s .pre .1 .0 .1) (a .g) (s .pre .1 .0 .0) (s .pre .0) (s .pre .1 .0 .2) (c .before .if1 .left) (c .if2 .taken), counts-none (a .u .now) (a .n))
 
 mul-b : tie.Need-mul-b
-mul-b c = search needs
+mul-b c = omega arith
 
 slice-read-b : tie.Need-slice-read-b
-slice-read-b c = search needs
+slice-read-b c = omega arith
 
 sub-b : tie.Need-sub-b
 sub-b c = some (c .before .before .before .before) (c .before .before .if1 .left)
@@ -53,7 +53,7 @@ cast-b : tie.Need-cast-b
 cast-b c = omega (arith, place (c .before .before .before .before) (c .before .before .if1 .left))
 
 add-at : tie.Need-add-at
-add-at c = search needs
+add-at c = omega arith
 
 add-at-2 : tie.Need-add-at-2
 add-at-2 c = omega (arith, place (c .before .before .before .before) (c .before .before .if1 .left))

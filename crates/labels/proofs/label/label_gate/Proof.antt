@@ -22,10 +22,10 @@ less : (c : tie.Start) → (getD (c .args .u .now) (c .args .n + c .args .g) 0 �
 less c = next-less (c .args .u .now) (c .args .n) (c .pre .0) (c .args .g) (c .pre .1)
 
 add-v : tie.Need-add-v
-add-v c = search needs
+add-v c = omega arith
 
 mul-v : tie.Need-mul-v
-mul-v c = search needs
+mul-v c = omega arith
 
 slice-read-v : tie.Need-slice-read-v
 slice-read-v c = omega (arith, gate (c .before))
@@ -36,13 +36,13 @@ returns c = let s = c .before .before in
     (λ iv rs c₀ F N. none-labelled (a .u .now) (a .n) (s .pre .0) (a .g) (s .pre .1) iv rs c₀ F N (c .if1 .taken), refl)
 
 sub-p : tie.Need-sub-p
-sub-p c = search needs
+sub-p c = omega arith
 
 cast-p : tie.Need-cast-p
 cast-p c = omega (arith, c .before .slice-known .given (c .before .before .args .n + c .before .before .args .g))
 
 mul-b : tie.Need-mul-b
-mul-b c = search needs
+mul-b c = omega arith
 
 slice-read-b : tie.Need-slice-read-b
 slice-read-b c = omega (arith, gate (c .before .before .before .before), c .before .before .before .before .pre .0)
@@ -54,7 +54,7 @@ cast-b : tie.Need-cast-b
 cast-b c = omega (arith, place (c .before .before .before .before) (c .before .before .if1 .left))
 
 add-at : tie.Need-add-at
-add-at c = search needs
+add-at c = omega arith
 
 add-at-2 : tie.Need-add-at-2
 add-at-2 c = omega (arith, place (c .before .before .before .before) (c .before .before .if1 .left))
@@ -77,7 +77,7 @@ slice-write-u : tie.Need-slice-write-u
 slice-write-u c = place (c .before .before .before .before .before) (c .before .before .before .if1 .left)
 
 mul-u-2 : tie.Need-mul-u-2
-mul-u-2 c = search needs
+mul-u-2 c = omega arith
 
 slice-write-u-2 : tie.Need-slice-write-u-2
 slice-write-u-2 c = let a = c .before .before .before .before .before .args in
@@ -98,7 +98,7 @@ slice-read-u : tie.Need-slice-read-u
 slice-read-u c = omega (arith, gate (c .before .before .before .before), c .before .before .before .before .pre .0, less (c .before .before .before .before) (c .before .before .if1 .left) (c .before .if2 .left))
 
 mul-u-4 : tie.Need-mul-u-4
-mul-u-4 c = search needs
+mul-u-4 c = omega arith
 
 slice-write-u-3 : tie.Need-slice-write-u-3
 slice-write-u-3 c = omega (arith, gate (c .before .before .before .before), c .before .before .before .before .pre .0)

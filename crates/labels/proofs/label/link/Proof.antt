@@ -9,7 +9,6 @@ use native.Mathlib.Omega.{arith}
 use mathlib.Core.Path.{_≡_, _∙_}
 use Prim.Native.Nat.{ℕ, _<_}
 use lib.ListN.{getD}
-use borrow.Author.Needs.{needs}
 use Rattle.labels.proofs.label.link.Statement.{statement}
 use Rattle.labels.proofs.label.link.Tie as tie
 
@@ -18,7 +17,7 @@ some : (c : tie.Start) → (getD (c .args .u .now) (c .args .g) 0 ≡ 0 → ⊥)
 some c n = omega (arith, band-at (c .args .u .now) (c .args .n) (c .pre .1 .0 .0) (c .args .g) (omega arith))
 
 mul-if1 : tie.Need-mul-if1
-mul-if1 c = search needs
+mul-if1 c = omega arith
 
 slice-read-if1 : tie.Need-slice-read-if1
 slice-read-if1 c = omega arith
@@ -39,7 +38,7 @@ link-before-requires c κs = let s = c .before .before .before .before .before .
     (still-treed (a .u .now) (f .last .0) (a .n) (f .ensures .1) t (foldl join (t .rs) (aboveIn (a .gates) (seg (a .u .now) 0 (a .n)) (a .g))) (f .ensures .0 (t .rs) (t .forest)), ((omega (arith, f .kept .0), s .pre .1 .0 .1), still-banded (a .u .now) (f .last .0) (a .n) (f .ensures .1) (a .g) (some s (c .before .before .before .before .before .if1 .left))))
 
 same-length : tie.Need-same-length
-same-length c = search needs
+same-length c = omega arith
 
 returns-2 : tie.Need-returns-2
 returns-2 c = let a = c .before .before .before .before .before .before .before .before .before .before .before .args in

@@ -8,7 +8,6 @@ use mathlib.Core.Path.{_≡_, sym, _∙_}
 use mathlib.Core.List.{List}
 use Prim.Native.Nat.{ℕ, _-_, _<_}
 use lib.ListN.{getD}
-use borrow.Author.Needs.{needs}
 use Rattle.labels.proofs.label.link_above.Statement.{statement}
 use Rattle.labels.proofs.label.link_above.Tie as tie
 
@@ -22,16 +21,16 @@ returns c = let a = c .before .before .args in
     (λ rs F. by-none iv (seg (a .u .now) (a .n) (a .n)) rs (aboveIn (a .gates) iv (a .g)) (above-edge (a .gates) iv (a .g) (c .if1 .taken)) F, joins-none (a .u .now) (a .n))
 
 mul-b : tie.Need-mul-b
-mul-b c = search needs
+mul-b c = omega arith
 
 slice-read-b : tie.Need-slice-read-b
 slice-read-b c = omega (arith, here (c .before .before .before))
 
 cast-if2 : tie.Need-cast-if2
-cast-if2 c = search needs
+cast-if2 c = omega arith
 
 mul-if2 : tie.Need-mul-if2
-mul-if2 c = search needs
+mul-if2 c = omega arith
 
 slice-read-if2 : tie.Need-slice-read-if2
 slice-read-if2 c = omega (arith, here (c .before .before .before .before))
@@ -45,19 +44,19 @@ returns-2 c = let s = c .before .before .before .before .before in
     (λ rs F. by-none iv (seg (a .u .now) (a .n) (a .n)) rs (aboveIn (a .gates) iv (a .g)) (above-none (a .gates) iv (a .g) d) F, joins-none (a .u .now) (a .n))
 
 add-e : tie.Need-add-e
-add-e c = search needs
+add-e c = omega arith
 
 mul-unite : tie.Need-mul-unite
-mul-unite c = search needs
+mul-unite c = omega arith
 
 sub-unite : tie.Need-sub-unite
-sub-unite c = search needs
+sub-unite c = omega arith
 
 part-unite-start : tie.Need-part-unite-start
-part-unite-start c = search needs
+part-unite-start c = omega arith
 
 part-unite-end : tie.Need-part-unite-end
-part-unite-end c = search needs
+part-unite-end c = omega arith
 
 unite-requires : tie.Need-unite-requires
 unite-requires c κs = let s = c .before .before .before .before .before .before in
@@ -66,7 +65,7 @@ unite-requires c κs = let s = c .before .before .before .before .before .before
     unite-asks (a .u .now) (a .n) (s .pre .1 .0) (s .pre .0) (a .g) (s .pre .1 .1) (a .g - a .gates) (omega arith) (c .before .if2 .left)
 
 same-length : tie.Need-same-length
-same-length c = search needs
+same-length c = omega arith
 
 returns-3 : tie.Need-returns-3
 returns-3 c = let s = c .before .before .before .before .before .before .before .before .before in

@@ -28,7 +28,7 @@ number-requires c κs = let s = c .before .before .before .before .before .befor
     number-asks (a .gates) (a .velocity .now) (a .valid .now) (a .limits .now) (f .last .1 .1 .1 .1 .0) (a .n) (s .pre .0) (same-fitting (c .before .before .before .before .before .before .before)) (f .ensures .0) (f .ensures .1) (k .last .0) (k .kept .0) (k .ensures .1) (k .result) (k .ensures .0)
 
 same-length : tie.Need-same-length
-same-length c = search needs
+same-length c = omega arith
 
 returns : tie.Need-returns
 returns c = let s = c .before .before .before .before .before .before .before .before .before .before .before .before .before .before .before .before in

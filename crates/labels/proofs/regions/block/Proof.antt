@@ -1,33 +1,32 @@
 -- `labels::regions::block` meets its contract. Assumes nothing.
 use Rattle.labels.proofs.PartLaws.{part-asks, over-asks, last-fits, block-found}
 use native.Mathlib.Omega.{arith}
-use borrow.Author.Needs.{needs}
 use Rattle.labels.proofs.regions.block.Statement.{statement}
 use Rattle.labels.proofs.regions.block.Tie as tie
 
 add-e : tie.Need-add-e
-add-e c = search needs
+add-e c = omega arith
 
 add-e-2 : tie.Need-add-e-2
-add-e-2 c = search needs
+add-e-2 c = omega arith
 
 sub-e : tie.Need-sub-e
-sub-e c = search needs
+sub-e c = omega arith
 
 add-e-3 : tie.Need-add-e-3
-add-e-3 c = search needs
+add-e-3 c = omega arith
 
 mul-at-once : tie.Need-mul-at-once
-mul-at-once c = search needs
+mul-at-once c = omega arith
 
 sub-at-once : tie.Need-sub-at-once
-sub-at-once c = search needs
+sub-at-once c = omega arith
 
 part-at-once-start : tie.Need-part-at-once-start
-part-at-once-start c = search needs
+part-at-once-start c = omega arith
 
 part-at-once-end : tie.Need-part-at-once-end
-part-at-once-end c = search needs
+part-at-once-end c = omega arith
 
 at-once-requires : tie.Need-at-once-requires
 at-once-requires c κs = let s = c .before .before .before .before .before in
@@ -47,7 +46,7 @@ add-result c = let s = c .before .before .before .before .before .before .before
     omega (arith, last-fits (a .gates) (a .velocity .now) (a .valid .now) (a .limits .now) (a .u .now) (a .n) (s .pre .0) (s .pre .1 .0) (f .last .1 .1 .1 .1 .0) (f .result) (f .kept .1 .1 .1 .1 .0) (f .ensures) (a .from) (s .pre .1 .1))
 
 same-length : tie.Need-same-length
-same-length c = search needs
+same-length c = omega arith
 
 returns : tie.Need-returns
 returns c = let s = c .before .before .before .before .before .before .before .before .before .before .before .before in

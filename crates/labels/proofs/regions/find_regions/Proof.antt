@@ -14,22 +14,22 @@ label-gates-requires c κs = let A = c .before .before .before .before .before .
     (record { velocities = refl; masks = A .masks; small = A .small }, record { some-gates = A .some-gates; rising = A .rising; few-limits = A .few-limits; long = omega (arith, A .long) })
 
 mul-clear : tie.Need-mul-clear
-mul-clear c = search needs
+mul-clear c = omega arith
 
 sub-clear : tie.Need-sub-clear
-sub-clear c = search needs
+sub-clear c = omega arith
 
 part-clear-start : tie.Need-part-clear-start
-part-clear-start c = search needs
+part-clear-start c = omega arith
 
 part-clear-end : tie.Need-part-clear-end
-part-clear-end c = search needs
+part-clear-end c = omega arith
 
 clear-requires : tie.Need-clear-requires
 clear-requires c κs = search needs
 
 same-length : tie.Need-same-length
-same-length c = search needs
+same-length c = omega arith
 
 returns : tie.Need-returns
 returns c = let s = c .before .before .before .before .before .before .before .before .before .before .before .before in

@@ -1,4 +1,5 @@
 -- `labels::regions::label_gates` meets its contract. Assumes nothing.
+use native.Mathlib.Omega.{arith}
 use Rattle.labels.proofs.PartLaws.{whole-asks, whole-found}
 use Rattle.labels.specs.Regions.{regions}
 use borrow.Author.Needs.{needs}
@@ -9,34 +10,34 @@ spans-requires : tie.Need-spans-requires
 spans-requires c κs = search needs
 
 add-if1 : tie.Need-add-if1
-add-if1 c = search needs
+add-if1 c = omega arith
 
 blocks-requires : tie.Need-blocks-requires
 blocks-requires c κs = search needs
 
 same-length : tie.Need-same-length
-same-length c = search needs
+same-length c = omega arith
 
 returns : tie.Need-returns
 returns c = search needs
 
 add-e : tie.Need-add-e
-add-e c = search needs
+add-e c = omega arith
 
 add-e-2 : tie.Need-add-e-2
-add-e-2 c = search needs
+add-e-2 c = omega arith
 
 mul-at-once : tie.Need-mul-at-once
-mul-at-once c = search needs
+mul-at-once c = omega arith
 
 sub-at-once : tie.Need-sub-at-once
-sub-at-once c = search needs
+sub-at-once c = omega arith
 
 part-at-once-start : tie.Need-part-at-once-start
-part-at-once-start c = search needs
+part-at-once-start c = omega arith
 
 part-at-once-end : tie.Need-part-at-once-end
-part-at-once-end c = search needs
+part-at-once-end c = omega arith
 
 at-once-requires : tie.Need-at-once-requires
 at-once-requires c κs = let s = c .before .before .before .before .before .before .before in
@@ -45,7 +46,7 @@ at-once-requires c κs = let s = c .before .before .before .before .before .befo
     (s .pre .0, whole-asks (a .gates) (a .limits .now) (a .u .now) (a .n) (k .result) (s .pre .1) (k .ensures) (c .before .if1 .left))
 
 same-length-2 : tie.Need-same-length-2
-same-length-2 c = search needs
+same-length-2 c = omega arith
 
 returns-2 : tie.Need-returns-2
 returns-2 c = let s = c .before .before .before .before .before .before .before .before .before .before in

@@ -3,7 +3,6 @@ use Rattle.labels.proofs.WholeLaws.{link-asks, all-joined}
 use native.Mathlib.Omega.{arith}
 use Prim.Native.Nat.{_+_, _≤_}
 use lib.ListN.{length}
-use borrow.Author.Needs.{needs}
 use Rattle.labels.proofs.regions.prepare.Statement.{statement}
 use Rattle.labels.proofs.regions.prepare.Tie as tie
 
@@ -18,7 +17,7 @@ link-all-requires c κs = let s = c .before .before .before .before .before .bef
     (link-asks (s .args .gates) (f .last .1 .1 .1 .0) (s .args .n) fits (s .pre .0 .small) (f .ensures .1), (fits, s .pre .1 .some-gates))
 
 same-length : tie.Need-same-length
-same-length c = search needs
+same-length c = omega arith
 
 returns : tie.Need-returns
 returns c = let s = c .before .before .before .before .before .before .before .before .before .before .before .before in

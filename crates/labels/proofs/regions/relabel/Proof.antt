@@ -2,7 +2,6 @@
 use Rattle.labels.proofs.OverLaws.{over-old, over-new}
 use native.Mathlib.Omega.{arith}
 use mathlib.Core.Path.{sym}
-use borrow.Author.Needs.{needs}
 use Rattle.labels.proofs.regions.relabel.Statement.{statement}
 use Rattle.labels.proofs.regions.relabel.Tie as tie
 
@@ -11,7 +10,7 @@ returns c = let a = c .before .args in
     sym (over-old (a .from) (a .old) (a .new) (c .if1 .taken))
 
 add-result : tie.Need-add-result
-add-result c = search needs
+add-result c = omega arith
 
 returns-2 : tie.Need-returns-2
 returns-2 c = let a = c .before .args in

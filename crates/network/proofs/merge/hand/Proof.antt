@@ -1,4 +1,4 @@
-use Rattle.network.proofs.network.MergeDoes.{hand-splice, hand-grow, hand-does}
+use Rattle.network.proofs.network.MergeDoes.{hand-walk, hand-splice, hand-grow, hand-does}
 use native.Mathlib.Omega.{arith}
 use mathlib.Core.Path.{_≡_, refl, sym, ap, _∙_}
 use mathlib.Core.List.{List, [], _∷_, _++_}
@@ -10,34 +10,46 @@ use Rattle.network.proofs.merge.hand.Tie as tie
 use Rattle.network.proofs.merge.hand.Reads as reads
 use Rattle.network.proofs.merge.hand.Lts as lts
 use Rattle.network.proofs.merge.grow.Reads as grow-reads
+use Rattle.network.proofs.merge.prune.Reads as prune-reads
 use Rattle.network.proofs.merge.splice.Reads as splice-reads
 use Rattle.network.proofs.merge.walk_moved.Reads as walk-moved-reads
 
--- src/lib.rt:307:5
+-- src/merge.rt:382:5
+prune-requires : tie.Need-prune-requires
+prune-requires c κs = search needs
+
+-- src/merge.rt:383:5
 walk-moved-requires : tie.Need-walk-moved-requires
-walk-moved-requires c κs = search needs
+walk-moved-requires c κs = let a = c .before .before .before .before .before .before .before .before .before .before .before .args in let p = c .before .before .before .before .before .before .before .before .before .before .before .pre in let j = c .before .before .before .before .before .before .prune in hand-walk (a .m) (a .n) (a .b) (a .v) (a .g) (a .w .now) (a .d .now) (p .0) (p .1 .0) (p .1 .1 .0) (p .1 .1 .1) (j .last .0) (j .last .1 .0) (j .kept .0) (j .kept .1 .0) (j .ensures)
 
--- src/lib.rt:308:5
+-- src/merge.rt:384:5
 splice-requires : tie.Need-splice-requires
-splice-requires c κs = let a = c .before .before .before .before .before .before .before .before .before .before .before .args in let p = c .before .before .before .before .before .before .before .before .before .before .before .pre in let k = c .before .before .before .before .before .before .walk-moved in hand-splice (a .m) (a .n) (a .b) (a .v) (a .g) (a .w .now) (a .d .now) (p .0) (p .1 .0) (p .1 .1 .0) (p .1 .1 .1) (k .last .0) (k .last .1 .0) (k .kept .0) (k .kept .1 .0) (k .ensures)
+splice-requires c κs = let a = c .before .before .before .before .before .before .before .before .before .before .before .before .before .before .before .before .before .before .args in let p = c .before .before .before .before .before .before .before .before .before .before .before .before .before .before .before .before .before .before .pre in let j = c .before .before .before .before .before .before .before .before .before .before .before .before .before .prune in let k = c .before .before .before .before .before .before .walk-moved in hand-splice (a .m) (a .n) (a .b) (a .v) (a .g) (a .w .now) (a .d .now) (p .0) (p .1 .0) (p .1 .1 .0) (p .1 .1 .1) (j .last .0) (j .last .1 .0) (j .kept .0) (j .kept .1 .0) (j .ensures) (k .last .0) (k .last .1 .0) (k .kept .0) (k .kept .1 .0) (k .ensures)
 
--- src/lib.rt:309:5
+-- src/merge.rt:385:5
 grow-requires : tie.Need-grow-requires
-grow-requires c κs = let a = c .before .before .before .before .before .before .before .before .before .before .before .before .before .before .before .before .before .before .args in let p = c .before .before .before .before .before .before .before .before .before .before .before .before .before .before .before .before .before .before .pre in let k = c .before .before .before .before .before .before .before .before .before .before .before .before .before .walk-moved in let u = c .before .before .before .before .before .before .splice in hand-grow (a .m) (a .n) (a .b) (a .v) (a .g) (a .w .now) (a .d .now) (p .0) (p .1 .0) (p .1 .1 .0) (p .1 .1 .1) (k .last .0) (k .last .1 .0) (k .kept .0) (k .kept .1 .0) (k .ensures) (u .last .0) (u .last .1 .0) (u .kept .0) (u .kept .1 .0) (u .ensures)
+grow-requires c κs = let a = c .before .before .before .before .before .before .before .before .before .before .before .before .before .before .before .before .before .before .before .before .before .before .before .before .before .args in let p = c .before .before .before .before .before .before .before .before .before .before .before .before .before .before .before .before .before .before .before .before .before .before .before .before .before .pre in let j = c .before .before .before .before .before .before .before .before .before .before .before .before .before .before .before .before .before .before .before .before .prune in let k = c .before .before .before .before .before .before .before .before .before .before .before .before .before .walk-moved in let u = c .before .before .before .before .before .before .splice in hand-grow (a .m) (a .n) (a .b) (a .v) (a .g) (a .w .now) (a .d .now) (p .0) (p .1 .0) (p .1 .1 .0) (p .1 .1 .1) (j .last .0) (j .last .1 .0) (j .kept .0) (j .kept .1 .0) (j .ensures) (k .last .0) (k .last .1 .0) (k .kept .0) (k .kept .1 .0) (k .ensures) (u .last .0) (u .last .1 .0) (u .kept .0) (u .kept .1 .0) (u .ensures)
 
--- src/lib.rt:300:1
+-- src/merge.rt:375:1
 same-length : tie.Need-same-length
 same-length c = search needs
 
--- src/lib.rt:300:1
+-- src/merge.rt:375:1
 same-length-2 : tie.Need-same-length-2
 same-length-2 c = search needs
 
--- src/lib.rt:300:1
+-- src/merge.rt:375:1
 returns : tie.Need-returns
-returns c = let a = c .before .before .before .before .before .before .before .before .before .before .before .before .before .before .before .before .before .before .before .before .before .before .before .args in let p = c .before .before .before .before .before .before .before .before .before .before .before .before .before .before .before .before .before .before .before .before .before .before .before .pre in let k = c .before .before .before .before .before .before .before .before .before .before .before .before .before .before .before .before .before .before .walk-moved in let u = c .before .before .before .before .before .before .before .before .before .before .before .splice in hand-does (a .m) (a .n) (a .b) (a .v) (a .g) (a .w .now) (a .d .now) (p .0) (p .1 .0) (p .1 .1 .0) (p .1 .1 .1) (k .last .0) (k .last .1 .0) (k .kept .0) (k .kept .1 .0) (k .ensures) (u .last .0) (u .last .1 .0) (u .kept .0) (u .kept .1 .0) (u .ensures) _ _ (c .before .before .before .before .grow .ensures)
+returns c = let a = c .before .before .before .before .before .before .before .before .before .before .before .before .before .before .before .before .before .before .before .before .before .before .before .before .before .before .before .before .before .before .args in let p = c .before .before .before .before .before .before .before .before .before .before .before .before .before .before .before .before .before .before .before .before .before .before .before .before .before .before .before .before .before .before .pre in let j = c .before .before .before .before .before .before .before .before .before .before .before .before .before .before .before .before .before .before .before .before .before .before .before .before .before .prune in let k = c .before .before .before .before .before .before .before .before .before .before .before .before .before .before .before .before .before .before .walk-moved in let u = c .before .before .before .before .before .before .before .before .before .before .before .splice in hand-does (a .m) (a .n) (a .b) (a .v) (a .g) (a .w .now) (a .d .now) (p .0) (p .1 .0) (p .1 .1 .0) (p .1 .1 .1) (j .last .0) (j .last .1 .0) (j .kept .0) (j .kept .1 .0) (j .ensures) (k .last .0) (k .last .1 .0) (k .kept .0) (k .kept .1 .0) (k .ensures) (u .last .0) (u .last .1 .0) (u .kept .0) (u .kept .1 .0) (u .ensures) _ _ (c .before .before .before .before .grow .ensures)
 
 pub hand-spec : {M : Type 1} → statement M
 hand-spec =
     tie.close
-    (tie.spec walk-moved-requires splice-requires grow-requires same-length same-length-2 returns)
+    (tie.spec
+    prune-requires
+    walk-moved-requires
+    splice-requires
+    grow-requires
+    same-length
+    same-length-2
+    returns)

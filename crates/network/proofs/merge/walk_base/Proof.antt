@@ -1,5 +1,5 @@
-use Rattle.network.proofs.network.Walks.{Walk, alongBase, base-start, base-turned, base-end}
-use Rattle.network.specs.Steps.{walkBase}
+use Rattle.network.proofs.network.Passing.{Pass, base-start, base-slots, base-turned, base-end}
+use Rattle.network.specs.Steps.{baseEdge, walkBase}
 use Rattle.network.specs.Mem.{view}
 use borrow.Author.Needs.{needs}
 use native.Mathlib.Omega.{arith}
@@ -11,121 +11,129 @@ use Rattle.network.proofs.merge.walk_base.Statement.{statement}
 use Rattle.network.proofs.merge.walk_base.Tie as tie
 use Rattle.network.proofs.merge.walk_base.Reads as reads
 use Rattle.network.proofs.merge.walk_base.Lts as lts
-use Rattle.network.proofs.merge.base_edge.Reads as base-edge-reads
+use Rattle.network.proofs.merge.base_slot.Reads as base-slot-reads
 
 abbrev Inv-loop : tie.InvT-loop
-Inv-loop w₀ d₀ m n b l x₀ i₀ w d x i = Walk m n (alongBase m n b) w₀ d₀ w d l x i (walkBase (getD (view m n w₀ d₀ .elen) b 0 - 1) m b (view m n w₀ d₀) (getD (view m n w₀ d₀ .enext) (2 * m + b) 0))
+Inv-loop w₀ d₀ m n b l p₀ x₀ i₀ w d p x i = Pass (baseEdge m b) m n b w₀ d₀ w d l p x i (walkBase m b (view m n w₀ d₀))
 
 abbrev μ-loop : tie.MeasureT-loop
-μ-loop w₀ d₀ m n b l x₀ i₀ w d x i = l - i
+μ-loop w₀ d₀ m n b l p₀ x₀ i₀ w d p x i = l - i
 
--- src/lib.rt:107:15
+-- src/merge.rt:181:15
 mul-l : tie.Need-mul-l Inv-loop μ-loop
 mul-l c = omega (arith, c .before .before .pre .0 .words, c .before .before .pre .0 .small, c .before .before .pre .1 .1)
 
--- src/lib.rt:107:23
+-- src/merge.rt:181:23
 mul-l-2 : tie.Need-mul-l-2 Inv-loop μ-loop
 mul-l-2 c = omega (arith, c .before .before .pre .0 .words, c .before .before .pre .0 .small, c .before .before .pre .1 .1)
 
--- src/lib.rt:107:15
+-- src/merge.rt:181:15
 add-l : tie.Need-add-l Inv-loop μ-loop
 add-l c = omega (arith, c .before .before .pre .0 .words, c .before .before .pre .0 .small, c .before .before .pre .1 .1)
 
--- src/lib.rt:107:15
+-- src/merge.rt:181:15
 add-l-2 : tie.Need-add-l-2 Inv-loop μ-loop
 add-l-2 c = omega (arith, c .before .before .pre .0 .words, c .before .before .pre .0 .small, c .before .before .pre .1 .1)
 
--- src/lib.rt:107:13
+-- src/merge.rt:181:13
 mul-l-3 : tie.Need-mul-l-3 Inv-loop μ-loop
 mul-l-3 c = omega (arith, c .before .before .pre .0 .words, c .before .before .pre .0 .small, c .before .before .pre .1 .1)
 
--- src/lib.rt:107:13
+-- src/merge.rt:181:13
 slice-read-l : tie.Need-slice-read-l Inv-loop μ-loop
 slice-read-l c = omega (arith, c .before .before .before .pre .0 .words, c .before .before .before .pre .0 .small, c .before .before .before .pre .1 .1)
 
--- src/lib.rt:107:13
+-- src/merge.rt:181:13
 cast-l : tie.Need-cast-l Inv-loop μ-loop
 cast-l c = omega (arith, c .slice-known3 .given (7 * (c .before .before .before .args .m) + 4 * (c .before .before .before .args .n) + c .before .before .before .args .b))
 
--- src/lib.rt:108:19
+-- src/merge.rt:182:18
+mul-p : tie.Need-mul-p Inv-loop μ-loop
+mul-p c = omega (arith, c .before .before .before .pre .0 .words, c .before .before .before .pre .0 .small, c .before .before .before .pre .1 .1)
+
+-- src/merge.rt:182:18
+add-p : tie.Need-add-p Inv-loop μ-loop
+add-p c = omega (arith, c .before .before .before .pre .0 .words, c .before .before .before .pre .0 .small, c .before .before .before .pre .1 .1)
+
+-- src/merge.rt:182:17
+cast-p : tie.Need-cast-p Inv-loop μ-loop
+cast-p c = omega (arith, c .before .before .before .pre .0 .words, c .before .before .before .pre .0 .small, c .before .before .before .pre .1 .1)
+
+-- src/merge.rt:183:19
 mul-x : tie.Need-mul-x Inv-loop μ-loop
 mul-x c = omega (arith, c .before .before .before .pre .0 .words, c .before .before .before .pre .0 .small, c .before .before .before .pre .1 .1)
 
--- src/lib.rt:108:28
+-- src/merge.rt:183:28
 mul-x-2 : tie.Need-mul-x-2 Inv-loop μ-loop
 mul-x-2 c = omega (arith, c .before .before .before .pre .0 .words, c .before .before .before .pre .0 .small, c .before .before .before .pre .1 .1)
 
--- src/lib.rt:108:28
+-- src/merge.rt:183:28
 add-x : tie.Need-add-x Inv-loop μ-loop
 add-x c = omega (arith, c .before .before .before .pre .0 .words, c .before .before .before .pre .0 .small, c .before .before .before .pre .1 .1)
 
--- src/lib.rt:108:19
+-- src/merge.rt:183:19
 add-x-2 : tie.Need-add-x-2 Inv-loop μ-loop
 add-x-2 c = omega (arith, c .before .before .before .pre .0 .words, c .before .before .before .pre .0 .small, c .before .before .before .pre .1 .1)
 
--- src/lib.rt:108:17
+-- src/merge.rt:183:17
 mul-x-3 : tie.Need-mul-x-3 Inv-loop μ-loop
 mul-x-3 c = omega (arith, c .before .before .before .pre .0 .words, c .before .before .before .pre .0 .small, c .before .before .before .pre .1 .1)
 
--- src/lib.rt:108:17
+-- src/merge.rt:183:17
 slice-read-x : tie.Need-slice-read-x Inv-loop μ-loop
 slice-read-x c = omega (arith, c .before .before .before .before .pre .0 .words, c .before .before .before .before .pre .0 .small, c .before .before .before .before .pre .1 .1)
 
--- src/lib.rt:110:5
+-- src/merge.rt:185:5
 loop-holds : tie.Need-loop-holds Inv-loop μ-loop
-loop-holds c = let a = c .before .before .before .before .args in base-start (a .m) (a .n) (a .b) (a .w .now) (a .d .now) (c .before .before .before .before .pre .0) (c .before .before .before .before .pre .1 .0) (c .before .before .before .before .pre .1 .1)
+loop-holds c = let a = c .before .before .before .before .args in base-start (a .m) (a .n) (a .b) (c .before .before .before .before .pre .1 .1) (a .w .now) (a .d .now) (c .before .before .before .before .pre .0) (c .before .before .before .before .pre .1 .0)
 
--- src/lib.rt:111:19
+-- src/merge.rt:186:19
 mul-t : tie.Need-mul-t Inv-loop μ-loop
-mul-t c = omega (arith, c .before .loop .inv .room .words)
+mul-t c = omega (arith, c .before .loop .inv .room .words, c .before .loop .inv .room .small, c .before .loop .inv .x-in)
 
--- src/lib.rt:111:27
+-- src/merge.rt:186:27
 cast-t : tie.Need-cast-t Inv-loop μ-loop
-cast-t c = omega (arith, c .before .loop .inv .room .small, c .before .loop .inv .x-in)
+cast-t c = omega (arith, c .before .loop .inv .room .words, c .before .loop .inv .room .small, c .before .loop .inv .x-in)
 
--- src/lib.rt:111:19
+-- src/merge.rt:186:19
 add-t : tie.Need-add-t Inv-loop μ-loop
-add-t c = omega (arith, c .before .loop .inv .room .words, c .before .loop .inv .x-in)
+add-t c = omega (arith, c .before .loop .inv .room .words, c .before .loop .inv .room .small, c .before .loop .inv .x-in)
 
--- src/lib.rt:111:17
+-- src/merge.rt:186:17
 mul-t-2 : tie.Need-mul-t-2 Inv-loop μ-loop
-mul-t-2 c = omega (arith, c .before .loop .inv .room .words, c .before .loop .inv .x-in)
+mul-t-2 c = omega (arith, c .before .loop .inv .room .words, c .before .loop .inv .room .small, c .before .loop .inv .x-in)
 
--- src/lib.rt:111:17
+-- src/merge.rt:186:17
 slice-read-t : tie.Need-slice-read-t Inv-loop μ-loop
-slice-read-t c = omega (arith, c .before .before .loop .inv .room .words, c .before .before .loop .inv .x-in)
+slice-read-t c = omega (arith, c .before .before .loop .inv .room .words, c .before .before .loop .inv .room .small, c .before .before .loop .inv .x-in)
 
--- src/lib.rt:112:34
-cast-base-edge : tie.Need-cast-base-edge Inv-loop μ-loop
-cast-base-edge c = omega (arith, c .before .before .before .before .loop .inv .room .small, c .before .before .before .before .loop .inv .x-in)
+-- src/merge.rt:187:9
+base-slot-requires : tie.Need-base-slot-requires Inv-loop μ-loop
+base-slot-requires c κs = let a = c .before .before .before .before .before .before .before .before .before .args in let k = c .before .before .before .before .loop in (k .inv .room, (k .inv .sound, base-slots (a .m) (a .n) (a .b) (c .before .before .before .before .before .before .before .before .before .pre .1 .1) (a .w .now) (a .d .now) (k .w) (k .d) _ (k .p) (k .x) (k .i) _ (k .inv) (c .before .before .before .loop-test .taken)))
 
--- src/lib.rt:112:9
-base-edge-requires : tie.Need-base-edge-requires Inv-loop μ-loop
-base-edge-requires c κs = (c .before .before .before .before .loop .inv .room, c .before .before .before .before .loop .inv .sound)
-
--- src/lib.rt:114:9
+-- src/merge.rt:189:9
 add-i : tie.Need-add-i Inv-loop μ-loop
 add-i c = omega (arith, c .before .before .before .before .before .before .before .before .loop-test .taken, c .before .before .before .before .before .before .before .before .before .before .before .slice-known3 .given (7 * (c .before .before .before .before .before .before .before .before .before .before .before .before .before .before .args .m) + 4 * (c .before .before .before .before .before .before .before .before .before .before .before .before .before .before .args .n) + c .before .before .before .before .before .before .before .before .before .before .before .before .before .before .args .b))
 
--- src/lib.rt:110:5
+-- src/merge.rt:185:5
 loop-less : tie.Need-loop-less Inv-loop μ-loop
 loop-less c = omega (arith, c .before .before .before .before .before .before .before .before .loop-test)
 
--- src/lib.rt:110:5
+-- src/merge.rt:185:5
 loop-again : tie.Need-loop-again Inv-loop μ-loop
-loop-again c = let a = c .before .before .before .before .before .before .before .before .before .before .before .before .before .before .args in let k = c .before .before .before .before .before .before .before .before .before .loop in base-turned (a .m) (a .n) (a .b) (a .w .now) (a .d .now) (k .w) (k .d) _ _ _ (k .x) (k .i) _ (k .inv) (c .before .before .before .before .before .before .before .before .loop-test .taken) (c .before .before .before .before .base-edge .ensures) (c .before .before .before .before .base-edge .kept .0) (c .before .before .before .before .base-edge .kept .1 .0)
+loop-again c = let a = c .before .before .before .before .before .before .before .before .before .before .before .before .before .before .args in let k = c .before .before .before .before .before .before .before .before .before .loop in let u = c .before .before .before .before .base-slot in base-turned (a .m) (a .n) (a .b) (c .before .before .before .before .before .before .before .before .before .before .before .before .before .before .pre .1 .1) (a .w .now) (a .d .now) (k .w) (k .d) _ (k .p) (k .x) (k .i) _ (k .inv) (c .before .before .before .before .before .before .before .before .loop-test .taken) _ _ (u .result) (u .ensures) (u .kept .0) (u .kept .1 .0)
 
--- src/lib.rt:101:1
+-- src/merge.rt:175:1
 same-length : tie.Need-same-length Inv-loop μ-loop
 same-length c = c .before .loop .inv .same-w
 
--- src/lib.rt:101:1
+-- src/merge.rt:175:1
 same-length-2 : tie.Need-same-length-2 Inv-loop μ-loop
 same-length-2 c = c .before .loop .inv .same-d
 
--- src/lib.rt:101:1
+-- src/merge.rt:175:1
 returns : tie.Need-returns Inv-loop μ-loop
-returns c = let a = c .before .before .before .before .before .before .args in let k = c .before .loop in base-end (a .m) (a .n) (a .b) (a .w .now) (a .d .now) (k .w) (k .d) _ (k .x) (k .i) _ (k .inv) (c .loop-test .left)
+returns c = let a = c .before .before .before .before .before .before .args in let k = c .before .loop in base-end (a .m) (a .n) (a .b) (c .before .before .before .before .before .before .pre .1 .1) (a .w .now) (a .d .now) (k .w) (k .d) _ (k .p) (k .x) (k .i) _ (k .inv) (c .loop-test .left)
 
 pub walk-base-spec : {M : Type 1} → statement M
 walk-base-spec =
@@ -140,6 +148,9 @@ walk-base-spec =
     mul-l-3
     slice-read-l
     cast-l
+    mul-p
+    add-p
+    cast-p
     mul-x
     mul-x-2
     add-x
@@ -152,8 +163,7 @@ walk-base-spec =
     add-t
     mul-t-2
     slice-read-t
-    cast-base-edge
-    base-edge-requires
+    base-slot-requires
     add-i
     loop-less
     loop-again

@@ -1,5 +1,5 @@
 use Rattle.network.proofs.network.Walks.{Walk, alongMoved, moved-start, moved-turned, moved-end}
-use Rattle.network.specs.Steps.{walkMoved}
+use Rattle.network.specs.Steps.{movedAll}
 use Rattle.network.specs.Mem.{view}
 use borrow.Author.Needs.{needs}
 use native.Mathlib.Omega.{arith}
@@ -14,7 +14,7 @@ use Rattle.network.proofs.merge.walk_moved.Lts as lts
 use Rattle.network.proofs.merge.moved_edge.Reads as moved-edge-reads
 
 abbrev Inv-loop : tie.InvT-loop
-Inv-loop w₀ d₀ m n b v g l x₀ i₀ w d x i = Walk m n (alongMoved m b v g) w₀ d₀ w d l x i (walkMoved (getD (view m n w₀ d₀ .elen) v 0 - 1) m b v g (view m n w₀ d₀) (getD (view m n w₀ d₀ .enext) (2 * m + v) 0))
+Inv-loop w₀ d₀ m n b v g l x₀ i₀ w d x i = Walk m n (alongMoved m b v g) w₀ d₀ w d l x i (movedAll m b v g (view m n w₀ d₀))
 
 abbrev μ-loop : tie.MeasureT-loop
 μ-loop w₀ d₀ m n b v g l x₀ i₀ w d x i = l - i

@@ -1,7 +1,6 @@
 use Rattle.network.proofs.network.NumberIs.{above, below, sum-fits, sum-casts, sum-is, outside}
 use Rattle.arithmetic.specs.declared.rounding.Rounded.{Rounded}
-use Rattle.arithmetic.specs.Rounding.{roundEven, real}
-use lib.Ieee.{binary64, div, ofInt}
+use Rattle.arithmetic.specs.Rounding.{roundEven}
 use lib.IntN.{ℤ, pos}
 use mathlib.Core.Bool.{Bool, true, false}
 use native.Mathlib.Omega.{arith}
@@ -15,57 +14,38 @@ use Rattle.network.proofs.network.number.Tie as tie
 use Rattle.network.proofs.network.number.Reads as reads
 use Rattle.network.proofs.network.number.Lts as lts
 use Rattle.arithmetic.proofs.rounding.round_even.Reads as round-even-reads
-use Rattle.network.specs.Network.{quot}
 
--- src/lib.rt:335:39
-int-to-float-round-even : tie.Need-int-to-float-round-even
-int-to-float-round-even c = search needs
-
--- src/lib.rt:335:11
 round-even-requires : tie.Need-round-even-requires
 round-even-requires c κs = search needs
 
--- src/lib.rt:336:36
 enum-known-k : tie.Need-enum-known-k
 enum-known-k c = search needs
 
--- src/lib.rt:338:17
 returns : tie.Need-returns
-unfolding quot real
-returns c = let a = c .before .before .before .before .before .before .args in let f = c .before .before .before .before .round-even in let k = c .before .before .k .given in above (roundEven (div binary64 (a .x) (ofInt binary64 (pos (a .t))))) (f .result) (k .0 .0) (f .ensures) (k .1) (record { sfits = c .before .known-told .given .0 .1 }) (c .if1 .taken)
+returns c = let a = c .before .before .before .before .before .args in let f = c .before .before .before .before .round-even in let k = c .before .before .k .given in above (roundEven (a .q)) (f .result) (k .0 .0) (f .ensures) (k .1) (record { sfits = c .before .known-told .given .0 .1 }) (c .if1 .taken)
 
--- src/lib.rt:341:17
 returns-2 : tie.Need-returns-2
-unfolding quot real
-returns-2 c = let a = c .before .before .before .before .before .before .before .args in let f = c .before .before .before .before .before .round-even in let k = c .before .before .before .k .given in below (roundEven (div binary64 (a .x) (ofInt binary64 (pos (a .t))))) (f .result) (k .0 .0) (f .ensures) (k .1) (record { sfits = c .before .before .known-told .given .0 .1 }) (c .if2 .taken)
+returns-2 c = let a = c .before .before .before .before .before .before .args in let f = c .before .before .before .before .before .round-even in let k = c .before .before .before .k .given in below (roundEven (a .q)) (f .result) (k .0 .0) (f .ensures) (k .1) (record { sfits = c .before .before .known-told .given .0 .1 }) (c .if2 .taken)
 
--- src/lib.rt:343:14
 add-result : tie.Need-add-result
-add-result c = let a = c .before .before .before .before .before .before .before .args in let f = c .before .before .before .before .before .round-even in let k = c .before .before .before .k .given in sum-fits (roundEven (div binary64 (a .x) (ofInt binary64 (pos (a .t))))) (f .result) (k .0 .0) (f .ensures) (k .1) (record { sfits = c .before .before .known-told .given .0 .1 }) (c .before .if1 .left) (c .if2 .left)
+add-result c = let a = c .before .before .before .before .before .before .args in let f = c .before .before .before .before .before .round-even in let k = c .before .before .before .k .given in sum-fits (roundEven (a .q)) (f .result) (k .0 .0) (f .ensures) (k .1) (record { sfits = c .before .before .known-told .given .0 .1 }) (c .before .if1 .left) (c .if2 .left)
 
--- src/lib.rt:343:13
 cast-result : tie.Need-cast-result
-cast-result c = let a = c .before .before .before .before .before .before .before .args in let f = c .before .before .before .before .before .round-even in let k = c .before .before .before .k .given in sum-casts (roundEven (div binary64 (a .x) (ofInt binary64 (pos (a .t))))) (f .result) (k .0 .0) (f .ensures) (k .1) (record { sfits = c .before .before .known-told .given .0 .1 }) (c .before .if1 .left) (c .if2 .left)
+cast-result c = let a = c .before .before .before .before .before .before .args in let f = c .before .before .before .before .before .round-even in let k = c .before .before .before .k .given in sum-casts (roundEven (a .q)) (f .result) (k .0 .0) (f .ensures) (k .1) (record { sfits = c .before .before .known-told .given .0 .1 }) (c .before .if1 .left) (c .if2 .left)
 
--- src/lib.rt:345:41
 enum-told : tie.Need-enum-told
 enum-told c = search needs
 
--- src/lib.rt:332:1
 returns-3 : tie.Need-returns-3
-unfolding quot real
-returns-3 c = let a = c .before .before .before .before .before .before .before .args in let f = c .before .before .before .before .before .round-even in let k = c .before .before .before .k .given in sum-is (roundEven (div binary64 (a .x) (ofInt binary64 (pos (a .t))))) (f .result) (k .0 .0) (f .ensures) (k .1) (record { sfits = c .before .before .known-told .given .0 .1 }) (c .before .if1 .left) (c .if2 .left)
+returns-3 c = let a = c .before .before .before .before .before .before .args in let f = c .before .before .before .before .before .round-even in let k = c .before .before .before .k .given in sum-is (roundEven (a .q)) (f .result) (k .0 .0) (f .ensures) (k .1) (record { sfits = c .before .before .known-told .given .0 .1 }) (c .before .if1 .left) (c .if2 .left)
 
--- src/lib.rt:332:1
 returns-4 : tie.Need-returns-4
-unfolding quot real
-returns-4 c = let a = c .before .before .before .before .args in let f = c .before .before .round-even in outside (roundEven (div binary64 (a .x) (ofInt binary64 (pos (a .t))))) (f .result) (f .ensures) (c .enum-told .given .1)
+returns-4 c = let a = c .before .before .before .args in let f = c .before .before .round-even in outside (roundEven (a .q)) (f .result) (f .ensures) (c .enum-told .given .1)
 
 pub number-spec : {M : Type 1} → statement M
 number-spec =
     tie.close
     (tie.spec
-    int-to-float-round-even
     round-even-requires
     enum-known-k
     returns

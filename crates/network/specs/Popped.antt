@@ -1,0 +1,29 @@
+-- The answer of choosing the heaviest edge, by cases. Definitions only.
+use mathlib.Core.Path.{_≡_}
+use mathlib.Core.List.{List}
+use mathlib.Core.Option.{Option, none, some}
+use Prim.Native.Nat.{ℕ}
+use lib.IntN.{pos}
+use lib.ListN.{getD}
+use lib.Ieee.{Float, nan, binary64, div}
+use Rattle.arithmetic.specs.Rounding.{real}
+use Rattle.memory.specs.Tree.{Best}
+use Rattle.network.specs.Network.{Edge, State, choose}
+use Rattle.network.specs.Mem.{Mem}
+use Rattle.network.specs.Rep.{Rep}
+use Rattle.network.specs.declared.network.Popped.{Popped}
+use Rattle.network.specs.declared.network.Popped.the-variants.{Edge as Taken, Nothing}
+
+-- document 01's choice: the ends, the difference divided by the weight in f64, and the number of the edge chosen, or none live
+unfoldable pub popped : Option Edge → Popped
+popped none = Nothing
+popped (some e) = Taken (record { node1 = e .first; node2 = e .second; diff = div binary64 (e .diff) (real (pos (e .weight))); «edge_number» = e .num })
+
+-- the answer is the choice of whatever network the tables stand for
+abbrev pub AnyPop : ℕ → ℕ → Mem → Popped → Type 0
+AnyPop m n s r = (gates : ℕ → ℕ) (last : ℕ) (t : State) → Rep m n gates last s t → r ≡ popped (choose (t .edges))
+
+-- what the words say of it: the winner of the tree, of weight 0 or not
+unfoldable pub Pops : ℕ → List ℕ → List Float → Popped → Type 0
+Pops m w d (Taken p) = Best m w (p .«edge_number») × (getD w (p .«edge_number») 0 ≡ 0 → ⊥) × (p .diff ≡ div binary64 (getD d (p .«edge_number») nan) (real (pos (getD w (p .«edge_number») 0))))
+Pops m w d Nothing = (e : ℕ) × Best m w e × (getD w e 0 ≡ 0)
