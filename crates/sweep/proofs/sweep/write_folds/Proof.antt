@@ -90,7 +90,7 @@ loop-less c = omega (arith, c .before .before .before .before .loop-test .taken)
 -- src/sweep.rt:72:5
 loop-again : tie.Need-loop-again Inv-loop μ-loop
 unfolding countsAt
-loop-again c = (omega (arith, c .before .before .before .before .loop-test .taken), (fill-on (λ g. gateCount (toZ w32 (ofZ w32 (c .before .before .before .before .before .before .before .before .args .offset))) (getD (c .before .before .before .before .before .before .before .before .args .valid .now) g 0) (unbias (getD (c .before .before .before .before .before .before .before .before .args .w .now) (countsAt (c .before .before .before .before .before .before .before .before .args .n) (c .before .before .before .before .before .before .before .before .args .k) + getD (c .before .before .before .before .before .before .before .before .args .w .now) g 0) 0))) (c .before .before .before .before .before .before .before .before .args .folds .now) (c .before .before .before .before .before .loop .folds) (c .before .before .before .before .before .loop .g) (toZ w32 (ofZ w32 (c .fold-of .result))) (c .before .before .before .before .before .loop .inv .1 .0) (toZ-ofZ w32 (c .fold-of .result) (c .fold-of .ok) ∙ c .fold-of .ensures), simp length-set (c .before .before .before .before .before .loop .inv .1 .1)))
+loop-again c = (omega (arith, c .before .before .before .before .loop-test .taken), (fill-on (λ g. gateCount (toZ w32 (ofZ w32 (c .before .before .before .before .before .before .before .before .args .offset))) (getD (c .before .before .before .before .before .before .before .before .args .valid .now) g 0) (unbias (getD (c .before .before .before .before .before .before .before .before .args .w .now) (countsAt (c .before .before .before .before .before .before .before .before .args .n) (c .before .before .before .before .before .before .before .before .args .k) + getD (c .before .before .before .before .before .before .before .before .args .w .now) g 0) 0))) (c .before .before .before .before .before .before .before .before .args .folds .now) (c .before .before .before .before .before .loop .folds) (c .before .before .before .before .before .loop .g) (toZ w32 (ofZ w32 (c .fold-of .result))) (c .before .before .before .before .before .loop .inv .1 .0) (toZ-ofZ w32 (c .fold-of .result) (record { sfits = c .fold-of .ok }) ∙ c .fold-of .ensures), simp length-set (c .before .before .before .before .before .loop .inv .1 .1)))
 
 -- src/sweep.rt:67:1
 same-length : tie.Need-same-length Inv-loop μ-loop
