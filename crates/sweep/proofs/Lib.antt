@@ -1,6 +1,9 @@
 pub mod SignedLaws
 pub mod SumLaws
 pub mod FillLaws
+pub mod VelocityLaws
+pub mod CheckLaws
+pub mod QuestionLaws
 pub mod Early
 pub mod Echo
 pub mod GateCounts

@@ -4,7 +4,8 @@ use native.Mathlib.Omega.{arith}
 use mathlib.Core.Path.{_≡_, refl, sym, ap, _∙_, subst}
 use mathlib.Core.Logic.{⊎-elim}
 use mathlib.Core.Bool.{Bool, true, false, cond}
-use lib.Dec.{T, eqb, ltb, leb→le}
+use lib.Dec.{T, eqb, ltb, leb→le, lit<}
+use native.Mathlib.Nat.{le-trans, le-of-eq, mul-one}
 use lib.IntN.{ℤ, pos, negsuc, natAbs, negℤ, subℕ, _+ℤ_, _-ℤ_}
 use lib.Signed.{mag}
 use mir.Syntax.{w32, w64}
@@ -12,11 +13,11 @@ use mir.Val.{SFits, toZ, ofZ}
 use mir.ValLaws.{toZ-pos, toZ-ofZ}
 use borrow.Author.Tests.{le-ltb, eq-eqb, ne-eqb}
 use lib.Ieee.{Float, nan, inf, fin, up, down}
-use lib.Ieee.Nearest.{closest}
+use lib.Ieee.Fits.{down-pos}
+use lib.Ieee.Nearest.{closest, closest-mono}
 use Rattle.arithmetic.specs.Rounding.{within, nearestWhole, ifWithin, roundEven, signed}
 use Rattle.arithmetic.specs.declared.rounding.Rounded.{Rounded}
 use Rattle.arithmetic.specs.declared.rounding.Rounded.the-variants.{Whole, Outside}
-use Rattle.arithmetic.proofs.RoundLaws.{closest-le}
 use Rattle.arithmetic.proofs.Plans.{mag-add}
 use Rattle.network.specs.Steps.{unbias}
 use Rattle.network.proofs.network.Bias.{lt-or-le, unbias-up, unbias-down}
@@ -104,7 +105,7 @@ mean-near x = go (within x) refl
     inside : (y : Float) → T (within y) → natAbs (nearestWhole y) ≤ 2 ^ 30
     inside nan t = unfold nearestWhole in omega arith
     inside (inf s) t = unfold nearestWhole in omega arith
-    inside (fin s m e) t = unfold within nearestWhole in omega (arith, signed-abs s (closest (m * up e) (down e)), closest-le (m * up e) (down e) (2 ^ 30) (leb→le (m * up e) (2 ^ 30 * down e) t))
+    inside (fin s m e) t = unfold within nearestWhole in omega (arith, signed-abs s (closest (m * up e) (down e)), closest-mono (m * up e) (down e) (2 ^ 30) 1 (down-pos e) (lit< tt) (le-trans (le-of-eq (mul-one (m * up e))) (leb→le (m * up e) (2 ^ 30 * down e) t)))
 
     go : (b : Bool) → within x ≡ b → natAbs (orZero (ifWithin b (nearestWhole x))) ≤ 2 ^ 30
     go true e = inside x (subst T (sym e) tt)

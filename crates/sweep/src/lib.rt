@@ -1,2 +1,5 @@
-// A sweep from its velocities to its fold counts.
+// The two exported entries, and what they are built of.
+pub mod checks;
+pub mod exports;
 pub mod sweep;
+pub mod velocity;

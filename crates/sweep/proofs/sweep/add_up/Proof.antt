@@ -20,7 +20,6 @@ abbrev μ-loop : tie.MeasureT-loop
 at : (c : tie.In-loop Inv-loop μ-loop) → Turn (c .before .before .args .w .now) (c .before .before .args .n) (c .before .before .args .k) (c .before .before .pre) (c .before .loop .gates) (c .before .loop .held) (c .before .loop .l)
 at c = let a = c .before .before .args in let i = c .before .loop in turn (a .w .now) (a .n) (a .k) (c .before .before .pre) (i .gates) (i .held) (i .l) (c .loop-test .taken) (i .inv .0) (i .inv .1 .0) (i .inv .1 .1)
 
-
 -- src/sweep.rt:29:5
 loop-holds : tie.Need-loop-holds Inv-loop μ-loop
 loop-holds c = let a = c .args in (omega arith, (sums-begin (a .w .now) (a .n) (a .k) (c .pre) (sizeAt (a .w .now) (a .n)), sums-begin (a .w .now) (a .n) (a .k) (c .pre) (heldAt (a .w .now) (a .n) (a .k))))

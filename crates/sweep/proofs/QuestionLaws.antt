@@ -1,0 +1,71 @@
+-- What the proofs of checks.rs cite: a product that fits, and one turn of the loops over mask bytes and velocities.
+-- Assumes nothing.
+use Prim.Native.Nat.{ℕ, suc, _+_, _*_, _≤_, _<_}
+use native.Mathlib.Omega.{arith}
+use native.Mathlib.Nat.{mul-le-mul}
+use native.Mathlib.Numerals.{add-one}
+use mathlib.Core.Path.{_≡_, refl, ap, _∙_}
+use mathlib.Core.Bool.{Bool, true, false, cond, _&&_}
+use mathlib.Core.List.{List, _∷_}
+use mir.Syntax.{w64}
+use mir.Val.{Fits}
+use lib.Dec.{eqb, leb}
+use lib.ListN.{length, getD, drop, drop-of-length-le}
+use lib.Seq.{drop-cons}
+use lib.Ieee.{Float, nan}
+use borrow.Author.Tests.{le-leb, lt-leb, eq-eqb, ne-eqb}
+use Rattle.arithmetic.specs.Seq.{all}
+use Rattle.arithmetic.specs.Intervals.{valid, fair}
+use Rattle.sweep.specs.Checks.{inMask, inSpeed}
+
+-- ---- the gates of a sweep fit
+
+pub product-fits : (a b : ℕ) → a < 4294967296 → b < 4294967296 → Fits w64 (a * b)
+product-fits a b h k = record { fits = under (a * b) (mul-le-mul (below a h) (below b k)) }
+  where
+    below : (x : ℕ) → x < 4294967296 → x ≤ 4294967295
+    below x h = omega arith
+
+    under : (x : ℕ) → x ≤ 4294967295 * 4294967295 → x < 18446744073709551616
+    under x h = omega arith
+
+-- ---- mask bytes, from byte i on
+
+module _ (l : List ℕ) (i : ℕ) where
+  mask-turn : i < length l → inMask (drop i l) ≡ (leb (getD l i 0) 1 && inMask (drop (i + 1) l))
+  unfolding inMask all
+  mask-turn h = rw (add-one, drop-cons l i 0) refl
+
+  pub mask-yes : i < length l → getD l i 0 ≤ 1 → inMask (drop i l) ≡ inMask (drop (i + 1) l)
+  mask-yes h t = mask-turn h ∙ ap (λ (b : Bool). b && inMask (drop (i + 1) l)) (le-leb (getD l i 0) 1 t)
+
+  pub mask-no : i < length l → 1 < getD l i 0 → inMask (drop i l) ≡ false
+  mask-no h t = mask-turn h ∙ ap (λ (b : Bool). b && inMask (drop (i + 1) l)) (lt-leb (getD l i 0) 1 t)
+
+  pub mask-end : length l ≤ i → inMask (drop i l) ≡ true
+  unfolding inMask all
+  mask-end h = rw (drop-of-length-le l h) refl
+
+-- ---- velocities at valid gates, from gate i on
+
+module _ (vs : List Float) (ms : List ℕ) (i : ℕ) (same : length ms ≡ length vs) where
+  speed-turn : i < length vs → inSpeed (drop i vs) (drop i ms) ≡ cond (eqb (getD ms i 0) 1) (fair (getD vs i nan) && inSpeed (drop (i + 1) vs) (drop (i + 1) ms)) (inSpeed (drop (i + 1) vs) (drop (i + 1) ms))
+  unfolding inSpeed all valid
+  speed-turn h =
+      let k : i < length ms = omega arith in
+      rw (add-one, drop-cons vs i nan, drop-cons ms i 0) (go (eqb (getD ms i 0) 1))
+    where
+      go : (b : Bool) → all fair (cond b (getD vs i nan ∷ valid (drop (suc i) vs) (drop (suc i) ms)) (valid (drop (suc i) vs) (drop (suc i) ms)))
+          ≡ cond b (fair (getD vs i nan) && all fair (valid (drop (suc i) vs) (drop (suc i) ms))) (all fair (valid (drop (suc i) vs) (drop (suc i) ms)))
+      go true = refl
+      go false = refl
+
+  pub speed-masked : i < length vs → (getD ms i 0 ≡ 1 → ⊥) → inSpeed (drop i vs) (drop i ms) ≡ inSpeed (drop (i + 1) vs) (drop (i + 1) ms)
+  speed-masked h t = speed-turn h ∙ rw (ne-eqb (getD ms i 0) 1 t) refl
+
+  pub speed-valid : {b : Bool} → i < length vs → getD ms i 0 ≡ 1 → fair (getD vs i nan) ≡ b → inSpeed (drop i vs) (drop i ms) ≡ (b && inSpeed (drop (i + 1) vs) (drop (i + 1) ms))
+  speed-valid h t f = speed-turn h ∙ rw (eq-eqb (getD ms i 0) 1 t, f) refl
+
+  pub speed-end : length vs ≤ i → inSpeed (drop i vs) (drop i ms) ≡ true
+  unfolding inSpeed all valid
+  speed-end h = rw (drop-of-length-le vs h) refl
