@@ -1,4 +1,5 @@
 pub mod SignedLaws
+pub mod LimitLaws
 pub mod SumLaws
 pub mod FillLaws
 pub mod VelocityLaws

@@ -2,6 +2,7 @@ pub mod Sweep
 pub mod Checks
 pub mod Call
 pub mod Entry
+pub mod Labelled
 pub mod Mean
 pub mod Velocity
 pub mod Evaluating

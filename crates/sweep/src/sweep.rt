@@ -11,6 +11,72 @@ ghost use Rattle.network.specs.Reduce.{countsAt};
 ghost use Rattle.sweep.specs.Sweep.{orZero, gateCount};
 ghost use Rattle.sweep.specs.Mean.{sumFrom, sizeAt, heldAt, Tabled, Writes};
 ghost use Rattle.sweep.specs.Call.{cleared};
+ghost use Rattle.arithmetic.specs.Intervals.{atLeast0, limitsOf};
+ghost use Rattle.labels.specs.Regions.{regions};
+ghost use Rattle.sweep.specs.Labelled.{Limited, Labelled};
+
+// The number of limits as a length.
+fn how_many(number: i64) -> usize
+    ensures { λ r. ⌜ r ≡ atLeast0 number ⌝ }
+{
+    if number > 0 {
+        return number as usize;
+    }
+    0
+}
+
+// The limits of a plan, written into `limits`, and by them the label of each gate, at the front of `work`. The number of regions.
+fn label_in(
+    limits: &mut [f64],
+    nyquist: f32,
+    splits: u32,
+    a: i32,
+    b: i32,
+    number: i64,
+    gates: u32,
+    velocity: &[f32],
+    valid: &[u8],
+    work: &mut [u32],
+) -> u32
+    requires { ⌜ Limited nyquist splits a b number gates (now velocity) (now valid) (length (now work)) ⌝ }
+    requires { ⌜ 10000 ≤ length (now limits) ⌝ }
+    ensures { λ r. ⌜ Labelled (regions gates (now (velocity .entry)) (now (valid .entry)) (limitsOf nyquist splits a b number)) (length (now (velocity .entry))) r (now (work .exit)) ⌝ }
+{
+    arithmetic::intervals::limits(nyquist, splits, a, b, number, limits);
+    let m = how_many(number);
+    let end = 3 * velocity.len() + 64;
+    labels::regions::find_regions(gates, velocity, valid, &limits[0..m], &mut work[0..end])
+}
+
+// The same, with limits of its own: a sweep of few gates may have more limits than words lent.
+fn label_sweep(
+    nyquist: f32,
+    splits: u32,
+    a: i32,
+    b: i32,
+    number: i64,
+    gates: u32,
+    velocity: &[f32],
+    valid: &[u8],
+    work: &mut [u32],
+) -> u32
+    requires { ⌜ Limited nyquist splits a b number gates (now velocity) (now valid) (length (now work)) ⌝ }
+    ensures { λ r. ⌜ Labelled (regions gates (now (velocity .entry)) (now (valid .entry)) (limitsOf nyquist splits a b number)) (length (now (velocity .entry))) r (now (work .exit)) ⌝ }
+{
+    let mut limits = [0.0; 10000];
+    label_in(
+        &mut limits,
+        nyquist,
+        splits,
+        a,
+        b,
+        number,
+        gates,
+        velocity,
+        valid,
+        work,
+    )
+}
 
 // The gates of all regions, and their counts, with 1,000 added to each, summed over them.
 pub struct Sums {
