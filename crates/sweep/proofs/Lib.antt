@@ -1,6 +1,7 @@
 pub mod SignedLaws
 pub mod LimitLaws
 pub mod SumLaws
+pub mod MeanLaws
 pub mod FillLaws
 pub mod VelocityLaws
 pub mod CheckLaws

@@ -60,7 +60,7 @@ module _ (m c : ℕ) (off : ℤ) (few : c ≤ 2000) (near : natAbs off ≤ 2 ^ 3
 
 -- ---- the mean
 
-sub-is : (a b : ℕ) → pos a -ℤ pos b ≡ subℕ a b
+pub sub-is : (a b : ℕ) → pos a -ℤ pos b ≡ subℕ a b
 sub-is a zero = ap pos {x = a + 0} {y = a} (omega arith) ∙ sym (rw (le-ltb a 0 (omega arith)) (ap pos (omega arith)))
 sub-is a (suc b) = refl
 
