@@ -2,6 +2,7 @@ pub mod SignedLaws
 pub mod LimitLaws
 pub mod SumLaws
 pub mod MeanLaws
+pub mod FinishLaws
 pub mod FillLaws
 pub mod VelocityLaws
 pub mod CheckLaws

@@ -4,6 +4,7 @@ pub mod Call
 pub mod Entry
 pub mod Labelled
 pub mod Mean
+pub mod Finish
 pub mod Velocity
 pub mod Evaluating
 pub mod Demand3

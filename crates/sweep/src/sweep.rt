@@ -14,6 +14,8 @@ ghost use Rattle.sweep.specs.Call.{cleared};
 ghost use Rattle.arithmetic.specs.Intervals.{atLeast0, limitsOf};
 ghost use Rattle.labels.specs.Regions.{regions};
 ghost use Rattle.sweep.specs.Labelled.{Limited, Labelled};
+ghost use Rattle.sweep.specs.Finish.{offsetBy, countsBy, Finishes};
+ghost use mathlib.Core.List.{List, [], _∷_};
 
 // The number of limits as a length.
 fn how_many(number: i64) -> usize
@@ -141,6 +143,35 @@ fn write_folds(w: &[u32], n: usize, k: usize, valid: &[u8], offset: i32, folds: 
         folds[g] = fold_of(valid[g], c, offset);
         g += 1;
     }
+}
+
+// What centring takes away.
+fn offset_of(w: &[u32], n: usize, k: usize, centred: u32) -> i32
+    requires { ⌜ Tabled (now w) n k ⌝ }
+    ensures { λ r. ⌜ r ≡ offsetBy (now (w .entry)) n k centred ⌝ }
+{
+    if centred != 1 {
+        return 0;
+    }
+    mean(add_up(w, n, k))
+}
+
+// The numbers of regions and of merges.
+fn write_pair(pair: &mut [u32], regions: usize, merges: usize)
+    requires { ⌜ (length (now pair) ≡ 2) × ((regions < 2 ^ 32) × (merges < 2 ^ 32)) ⌝ }
+    ensures { λ _. ⌜ now (pair .exit) ≡ regions ∷ merges ∷ [] ⌝ }
+{
+    pair[0] = regions as u32;
+    pair[1] = merges as u32;
+}
+
+// The counts of all gates, less the offset where asked.
+fn settle(w: &[u32], n: usize, k: usize, valid: &[u8], centred: u32, folds: &mut [i32])
+    requires { ⌜ Finishes (now w) n k (now valid) (length (now folds)) ⌝ }
+    ensures { λ _. ⌜ now (folds .exit) ≡ countsBy (now (w .entry)) n k (now (valid .entry)) centred ⌝ }
+{
+    let offset = offset_of(w, n, k, centred);
+    write_folds(w, n, k, valid, offset, folds);
 }
 
 // All counts 0.
