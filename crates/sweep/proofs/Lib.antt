@@ -15,3 +15,4 @@ pub mod MergeLists
 pub mod Question9
 pub mod ApartTest
 pub mod Demand3Laws
+pub mod CallLaws
