@@ -3,6 +3,8 @@ pub mod LimitLaws
 pub mod SumLaws
 pub mod MeanLaws
 pub mod FinishLaws
+pub mod MergeNumber
+pub mod MergeLaws
 pub mod FillLaws
 pub mod VelocityLaws
 pub mod CheckLaws

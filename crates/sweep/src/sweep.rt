@@ -14,7 +14,7 @@ ghost use Rattle.sweep.specs.Call.{cleared};
 ghost use Rattle.arithmetic.specs.Intervals.{atLeast0, limitsOf};
 ghost use Rattle.labels.specs.Regions.{regions};
 ghost use Rattle.sweep.specs.Labelled.{Limited, Labelled};
-ghost use Rattle.sweep.specs.Finish.{offsetBy, countsBy, Finishes};
+ghost use Rattle.sweep.specs.Finish.{offsetBy, countsBy, Finishes, Merges, lent, merged, closed};
 ghost use mathlib.Core.List.{List, [], _∷_};
 
 // The number of limits as a length.
@@ -183,6 +183,33 @@ fn no_folds(folds: &mut [i32])
     while g < n {
         folds[g] = 0;
         g += 1;
+    }
+}
+
+// The regions of n labelled gates are merged, and counts and pair written: 0, or the refusal by question 9.
+fn merge_regions(
+    f: network::edges::Frame,
+    n: usize,
+    k: usize,
+    nyquist: f32,
+    centred: u32,
+    velocity: &[f32],
+    valid: &[u8],
+    folds: &mut [i32],
+    pair: &mut [u32],
+    work: &mut [u32],
+    floats: &mut [f64],
+) -> u32
+    requires { ⌜ Merges f (now work) (now floats) (now velocity) (now valid) n k nyquist (length (now folds)) (length (now pair)) ⌝ }
+    ensures { λ r. ⌜ record { number = r; memory = lent (now (folds .exit)) (now (pair .exit)) } ≡ merged f (now (work .entry)) (now (velocity .entry)) (now (valid .entry)) n k nyquist centred (now (folds .entry)) (now (pair .entry)) ⌝ }
+{
+    match network::reduce::reduce(work, floats, velocity, f, n, k, 2.0 * (nyquist as f64)) {
+        network::network::Ran::Settled(j) => {
+            settle(work, n, k, valid, centred, folds);
+            write_pair(pair, k, j);
+            0
+        }
+        network::network::Ran::Denied => 9,
     }
 }
 
