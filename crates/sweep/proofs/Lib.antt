@@ -10,6 +10,7 @@ pub mod VelocityLaws
 pub mod CheckLaws
 pub mod QuestionLaws
 pub mod Early
+pub mod EarlyEnd
 pub mod Echo
 pub mod GateCounts
 pub mod TwoSweeps

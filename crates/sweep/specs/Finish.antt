@@ -62,6 +62,12 @@ pub record Merges (f : Frame) (w : List ℕ) (d vel : List Float) (mask : List �
   pub counts : long ≡ n
   pub pair : two ≡ 2
 
+-- the same, where there may be nothing to merge
+pub record Closes (f : Frame) (w : List ℕ) (d vel : List Float) (mask : List ℕ) (n k : ℕ) (nyquist : Float) (long two : ℕ) : Type 0 where
+  pub merges : 2 ≤ k → Merges f w d vel mask n k nyquist long two
+  pub masks : length mask ≡ long
+  pub pair : two ≡ 2
+
 -- the end after the last merge
 abbrev pub merged : Frame → List ℕ → List Float → List ℕ → ℕ → ℕ → Float → ℕ → List ℤ → List ℕ → Answer
 merged f w vel mask n k nyquist centred cs p =

@@ -14,7 +14,7 @@ ghost use Rattle.sweep.specs.Call.{cleared};
 ghost use Rattle.arithmetic.specs.Intervals.{atLeast0, limitsOf};
 ghost use Rattle.labels.specs.Regions.{regions};
 ghost use Rattle.sweep.specs.Labelled.{Limited, Labelled};
-ghost use Rattle.sweep.specs.Finish.{offsetBy, countsBy, Finishes, Merges, lent, merged, closed};
+ghost use Rattle.sweep.specs.Finish.{offsetBy, countsBy, Finishes, Merges, Closes, lent, merged, closed};
 ghost use mathlib.Core.List.{List, [], _∷_};
 
 // The number of limits as a length.
@@ -211,6 +211,43 @@ fn merge_regions(
         }
         network::network::Ran::Denied => 9,
     }
+}
+
+// The end of a sweep with k regions: below two there is nothing to merge.
+fn finish(
+    f: network::edges::Frame,
+    n: usize,
+    k: usize,
+    nyquist: f32,
+    centred: u32,
+    velocity: &[f32],
+    valid: &[u8],
+    folds: &mut [i32],
+    pair: &mut [u32],
+    work: &mut [u32],
+    floats: &mut [f64],
+) -> u32
+    requires { ⌜ Closes f (now work) (now floats) (now velocity) (now valid) n k nyquist (length (now folds)) (length (now pair)) ⌝ }
+    ensures { λ r. ⌜ record { number = r; memory = lent (now (folds .exit)) (now (pair .exit)) } ≡ closed f (now (work .entry)) (now (velocity .entry)) (now (valid .entry)) n k nyquist centred (now (folds .entry)) (now (pair .entry)) ⌝ }
+{
+    if k < 2 {
+        no_folds(folds);
+        write_pair(pair, k, 0);
+        return 0;
+    }
+    merge_regions(
+        f,
+        n,
+        k,
+        nyquist,
+        centred,
+        velocity,
+        valid,
+        folds,
+        pair,
+        work,
+        floats,
+    )
 }
 
 // The first m words are zero.
