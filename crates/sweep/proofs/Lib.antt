@@ -11,6 +11,7 @@ pub mod CheckLaws
 pub mod QuestionLaws
 pub mod Early
 pub mod EarlyEnd
+pub mod SolveLaws
 pub mod Echo
 pub mod GateCounts
 pub mod TwoSweeps

@@ -5,7 +5,7 @@ use mathlib.Core.Bool.{not, cond}
 use mathlib.Core.List.{List}
 use lib.Dec.{eqb}
 use lib.IntN.{ℤ, pos, subℕ}
-use lib.ListN.{length, getD}
+use lib.ListN.{length, getD, replicate}
 use lib.Dec.{T}
 use lib.Ieee.{Float, binary64, div, isNan}
 use mathlib.Core.List.{[]}
@@ -13,7 +13,8 @@ use Rattle.arithmetic.specs.Seq.{tabulate}
 use Rattle.arithmetic.specs.Rounding.{roundEven, real}
 use Rattle.network.specs.Steps.{unbias}
 use Rattle.arithmetic.specs.Seg.{seg}
-use Rattle.arithmetic.specs.Intervals.{folded}
+use Rattle.arithmetic.specs.Intervals.{folded, limitsOf}
+use Rattle.labels.specs.Regions.{regions}
 use Rattle.labels.specs.Label.{Found}
 use Rattle.network.specs.Reduce.{countsAt, Reduces, networkBy}
 use Rattle.network.specs.Sees.{shape}
@@ -21,6 +22,7 @@ use Rattle.network.specs.declared.edges.Frame.{Frame}
 use Rattle.sweep.specs.Sweep.{Sweep, orZero, gateCount, finished, unfoldedBy}
 use Rattle.sweep.specs.Checks.{asked9}
 use Rattle.sweep.specs.Call.{Memory, Answer, ending}
+use Rattle.sweep.specs.Labelled.{Limited}
 use Rattle.sweep.specs.Mean.{sumFrom, sizeAt, heldAt, Tabled}
 
 -- the mean of sums: gates, and counts with 1,000 added to each
@@ -76,3 +78,22 @@ merged f w vel mask n k nyquist centred cs p =
 -- the end of a sweep with these regions
 abbrev pub closed : Frame → List ℕ → List Float → List ℕ → ℕ → ℕ → Float → ℕ → List ℤ → List ℕ → Answer
 closed f w vel mask n k nyquist centred cs p = ending (asked9 (unfoldedBy (framed f nyquist centred vel mask) (foundIn w n k))) (lent cs p)
+
+-- a sweep in its frame with its limits planned, and work memory of just the asked length
+pub record Solves (f : Frame) (gates : ℕ) (nyquist : Float) (splits : ℕ) (a b number : ℤ) (vel : List Float) (mask : List ℕ) (long two words floats : ℕ) : Type 0 where
+  pub limited : Limited nyquist splits a b number gates vel mask words
+  pub whole : length vel ≡ f .rays * f .gates
+  pub counts : long ≡ length vel
+  pub pair : two ≡ 2
+  pub word-room : words ≡ 96 * length vel + 64
+  pub float-room : floats ≡ 16 * length vel + 16
+
+-- the end of a sweep with these limits, all words 0
+abbrev pub solved : Frame → ℕ → Float → ℕ → ℤ → ℤ → ℤ → ℕ → List Float → List ℕ → List ℤ → List ℕ → ℕ → ℕ → Answer
+solved f gates nyquist splits a b number centred vel mask cs p words floats =
+    ending (asked9 (unfoldedBy (framed f nyquist centred vel mask) (regions gates vel mask (limitsOf nyquist splits a b number)))) (record {
+      counts = cs;
+      pair = p;
+      words = replicate words 0;
+      floats = replicate floats (real (pos 0));
+    })

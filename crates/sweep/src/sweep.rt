@@ -14,7 +14,7 @@ ghost use Rattle.sweep.specs.Call.{cleared};
 ghost use Rattle.arithmetic.specs.Intervals.{atLeast0, limitsOf};
 ghost use Rattle.labels.specs.Regions.{regions};
 ghost use Rattle.sweep.specs.Labelled.{Limited, Labelled};
-ghost use Rattle.sweep.specs.Finish.{offsetBy, countsBy, Finishes, Merges, Closes, lent, merged, closed};
+ghost use Rattle.sweep.specs.Finish.{offsetBy, countsBy, Finishes, Merges, Closes, Solves, lent, merged, closed, solved};
 ghost use mathlib.Core.List.{List, [], _∷_};
 
 // The number of limits as a length.
@@ -272,4 +272,46 @@ fn clear_floats(d: &mut [f64], m: usize)
         d[i] = 0.0;
         i += 1;
     }
+}
+
+// A sweep that passed questions 1 to 8, its limits planned: 0, or the refusal by question 9. All lent words are 0 at the end.
+fn solve(
+    f: network::edges::Frame,
+    gates: u32,
+    nyquist: f32,
+    splits: u32,
+    a: i32,
+    b: i32,
+    number: i64,
+    centred: u32,
+    velocity: &[f32],
+    valid: &[u8],
+    folds: &mut [i32],
+    pair: &mut [u32],
+    work: &mut [u32],
+    floats: &mut [f64],
+) -> u32
+    requires { ⌜ Solves f gates nyquist splits a b number (now velocity) (now valid) (length (now folds)) (length (now pair)) (length (now work)) (length (now floats)) ⌝ }
+    ensures { λ r. ⌜ record { number = r; memory = record { counts = now (folds .exit); pair = now (pair .exit); words = now (work .exit); floats = now (floats .exit) } } ≡ solved f gates nyquist splits a b number centred (now (velocity .entry)) (now (valid .entry)) (now (folds .entry)) (now (pair .entry)) (length (now (work .entry))) (length (now (floats .entry))) ⌝ }
+{
+    let n = velocity.len();
+    let k = label_sweep(nyquist, splits, a, b, number, gates, velocity, valid, work);
+    let r = finish(
+        f,
+        n,
+        k as usize,
+        nyquist,
+        centred,
+        velocity,
+        valid,
+        folds,
+        pair,
+        work,
+        floats,
+    );
+    let words = work.len();
+    clear_words(work, words);
+    let m = floats.len();
+    clear_floats(floats, m);
+    r
 }
