@@ -3,11 +3,15 @@ pub mod LimitLaws
 pub mod SumLaws
 pub mod MeanLaws
 pub mod FinishLaws
+pub mod MergeNumber
+pub mod MergeLaws
 pub mod FillLaws
 pub mod VelocityLaws
 pub mod CheckLaws
 pub mod QuestionLaws
 pub mod Early
+pub mod EarlyEnd
+pub mod SolveLaws
 pub mod Echo
 pub mod GateCounts
 pub mod TwoSweeps

@@ -79,3 +79,11 @@ module _ (nyq : Float) (S : ℕ) (a b n : ℤ) (gates : ℕ) (vel : List Float) 
             ap (λ (x : List ℕ). take (length vel) (x ++ rest)) u-is ∙ ap (take (length vel)) (append-assoc labels z rest)
             ∙ ap (λ (k : ℕ). take k (labels ++ (z ++ rest))) (sym (h .masks) ∙ sym (labels-long gates vel mask L)) ∙ take-append-seam labels (z ++ rest);
       }
+
+-- the regions found by the same plan
+pub labelled-same : (nyq : Float) (S : ℕ) (a b n a' b' n' : ℤ) (gates : ℕ) (vel : List Float) (mask : List ℕ) (m k : ℕ) (w : List ℕ) → a' ≡ a → b' ≡ b → n' ≡ n
+    → Labelled (regions gates vel mask (limitsOf nyq S a' b' n')) m k w → Labelled (regions gates vel mask (limitsOf nyq S a b n)) m k w
+labelled-same nyq S a b n a' b' n' gates vel mask m k w e f g h =
+    subst (λ (z : ℤ). Labelled (regions gates vel mask (limitsOf nyq S z b n)) m k w) e
+    (subst (λ (z : ℤ). Labelled (regions gates vel mask (limitsOf nyq S a' z n)) m k w) f
+    (subst (λ (z : ℤ). Labelled (regions gates vel mask (limitsOf nyq S a' b' z)) m k w) g h))

@@ -14,7 +14,7 @@ ghost use Rattle.sweep.specs.Call.{cleared};
 ghost use Rattle.arithmetic.specs.Intervals.{atLeast0, limitsOf};
 ghost use Rattle.labels.specs.Regions.{regions};
 ghost use Rattle.sweep.specs.Labelled.{Limited, Labelled};
-ghost use Rattle.sweep.specs.Finish.{offsetBy, countsBy, Finishes};
+ghost use Rattle.sweep.specs.Finish.{offsetBy, countsBy, Finishes, Merges, Closes, Solves, lent, merged, closed, solved};
 ghost use mathlib.Core.List.{List, [], _∷_};
 
 // The number of limits as a length.
@@ -186,6 +186,70 @@ fn no_folds(folds: &mut [i32])
     }
 }
 
+// The regions of n labelled gates are merged, and counts and pair written: 0, or the refusal by question 9.
+fn merge_regions(
+    f: network::edges::Frame,
+    n: usize,
+    k: usize,
+    nyquist: f32,
+    centred: u32,
+    velocity: &[f32],
+    valid: &[u8],
+    folds: &mut [i32],
+    pair: &mut [u32],
+    work: &mut [u32],
+    floats: &mut [f64],
+) -> u32
+    requires { ⌜ Merges f (now work) (now floats) (now velocity) (now valid) n k nyquist (length (now folds)) (length (now pair)) ⌝ }
+    ensures { λ r. ⌜ record { number = r; memory = lent (now (folds .exit)) (now (pair .exit)) } ≡ merged f (now (work .entry)) (now (velocity .entry)) (now (valid .entry)) n k nyquist centred (now (folds .entry)) (now (pair .entry)) ⌝ }
+{
+    match network::reduce::reduce(work, floats, velocity, f, n, k, 2.0 * (nyquist as f64)) {
+        network::network::Ran::Settled(j) => {
+            settle(work, n, k, valid, centred, folds);
+            write_pair(pair, k, j);
+            0
+        }
+        network::network::Ran::Denied => 9,
+    }
+}
+
+// The end of a sweep with k regions: below two there is nothing to merge.
+fn finish(
+    f: network::edges::Frame,
+    n: usize,
+    k: usize,
+    nyquist: f32,
+    centred: u32,
+    velocity: &[f32],
+    valid: &[u8],
+    folds: &mut [i32],
+    pair: &mut [u32],
+    work: &mut [u32],
+    floats: &mut [f64],
+) -> u32
+    requires { ⌜ Closes f (now work) (now floats) (now velocity) (now valid) n k nyquist (length (now folds)) (length (now pair)) ⌝ }
+    ensures { λ r. ⌜ record { number = r; memory = lent (now (folds .exit)) (now (pair .exit)) } ≡ closed f (now (work .entry)) (now (velocity .entry)) (now (valid .entry)) n k nyquist centred (now (folds .entry)) (now (pair .entry)) ⌝ }
+{
+    if k < 2 {
+        no_folds(folds);
+        write_pair(pair, k, 0);
+        return 0;
+    }
+    merge_regions(
+        f,
+        n,
+        k,
+        nyquist,
+        centred,
+        velocity,
+        valid,
+        folds,
+        pair,
+        work,
+        floats,
+    )
+}
+
 // The first m words are zero.
 fn clear_words(w: &mut [u32], m: usize)
     requires { ⌜ m ≤ length (now w) ⌝ }
@@ -208,4 +272,46 @@ fn clear_floats(d: &mut [f64], m: usize)
         d[i] = 0.0;
         i += 1;
     }
+}
+
+// A sweep that passed questions 1 to 8, its limits planned: 0, or the refusal by question 9. All lent words are 0 at the end.
+fn solve(
+    f: network::edges::Frame,
+    gates: u32,
+    nyquist: f32,
+    splits: u32,
+    a: i32,
+    b: i32,
+    number: i64,
+    centred: u32,
+    velocity: &[f32],
+    valid: &[u8],
+    folds: &mut [i32],
+    pair: &mut [u32],
+    work: &mut [u32],
+    floats: &mut [f64],
+) -> u32
+    requires { ⌜ Solves f gates nyquist splits a b number (now velocity) (now valid) (length (now folds)) (length (now pair)) (length (now work)) (length (now floats)) ⌝ }
+    ensures { λ r. ⌜ record { number = r; memory = record { counts = now (folds .exit); pair = now (pair .exit); words = now (work .exit); floats = now (floats .exit) } } ≡ solved f gates nyquist splits a b number centred (now (velocity .entry)) (now (valid .entry)) (now (folds .entry)) (now (pair .entry)) (length (now (work .entry))) (length (now (floats .entry))) ⌝ }
+{
+    let n = velocity.len();
+    let k = label_sweep(nyquist, splits, a, b, number, gates, velocity, valid, work);
+    let r = finish(
+        f,
+        n,
+        k as usize,
+        nyquist,
+        centred,
+        velocity,
+        valid,
+        folds,
+        pair,
+        work,
+        floats,
+    );
+    let words = work.len();
+    clear_words(work, words);
+    let m = floats.len();
+    clear_floats(floats, m);
+    r
 }
