@@ -20,3 +20,4 @@ pub mod Question9
 pub mod ApartTest
 pub mod Demand3Laws
 pub mod CallLaws
+pub mod EndLaws

@@ -47,7 +47,19 @@ fn unfold_sweep(
     requires { ⌜ (atLeast0 number ≤ 10000) × Rising (limitsOf nyquist splits a b number) ⌝ }
     ensures { λ r. ⌜ record { number = r; memory = record { counts = now (folds .exit); pair = now (pair .exit); words = now (words .exit); floats = now (floats .exit) } } ≡ ending (asked9 (unfolded (sweepOf rays gates nyquist splits «skip_rays» «skip_gates» centred wrap (now (velocity .entry)) (now (valid .entry))) (limitsOf nyquist splits a b number))) (clearedFor (gatesIn (sweepOf rays gates nyquist splits «skip_rays» «skip_gates» centred wrap (now (velocity .entry)) (now (valid .entry)))) (record { counts = now (folds .entry); pair = now (pair .entry); words = now (words .entry); floats = now (floats .entry) })) ⌝ }
 {
-    0
+    let n = velocity.len();
+    let f = network::edges::Frame {
+        rays: rays as usize,
+        gates: gates as usize,
+        across: skip_rays as usize,
+        along: skip_gates as usize,
+        wrap: wrap,
+    };
+    let w = 96 * n + 64;
+    let d = 16 * n + 16;
+    crate::sweep::solve(
+        f, gates, nyquist, splits, a, b, number, centred, velocity, valid, folds, pair, &mut words[0..w], &mut floats[0..d],
+    )
 }
 
 // A sweep's fold counts, with the numbers of regions and of merges.

@@ -275,7 +275,7 @@ fn clear_floats(d: &mut [f64], m: usize)
 }
 
 // A sweep that passed questions 1 to 8, its limits planned: 0, or the refusal by question 9. All lent words are 0 at the end.
-fn solve(
+pub fn solve(
     f: network::edges::Frame,
     gates: u32,
     nyquist: f32,
