@@ -1,7 +1,17 @@
+pub mod SignedLaws
+pub mod LimitLaws
+pub mod SumLaws
+pub mod MeanLaws
+pub mod FinishLaws
+pub mod MergeNumber
+pub mod MergeLaws
+pub mod FillLaws
 pub mod VelocityLaws
 pub mod CheckLaws
 pub mod QuestionLaws
 pub mod Early
+pub mod EarlyEnd
+pub mod SolveLaws
 pub mod Echo
 pub mod GateCounts
 pub mod TwoSweeps
@@ -9,3 +19,5 @@ pub mod MergeLists
 pub mod Question9
 pub mod ApartTest
 pub mod Demand3Laws
+pub mod CallLaws
+pub mod EndLaws

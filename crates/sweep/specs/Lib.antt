@@ -2,6 +2,9 @@ pub mod Sweep
 pub mod Checks
 pub mod Call
 pub mod Entry
+pub mod Labelled
+pub mod Mean
+pub mod Finish
 pub mod Velocity
 pub mod Evaluating
 pub mod Demand3

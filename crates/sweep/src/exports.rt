@@ -1,6 +1,33 @@
 // exports.rs: the entries that a C host calls.
 ghost use mathlib.Core.Path.{_≡_};
+ghost use Rattle.sweep.specs.Call.{call};
+ghost use Rattle.sweep.specs.Entry.{sweepOf};
 ghost use Rattle.sweep.specs.Velocity.{callVelocity};
+
+// A sweep's fold counts, with the numbers of regions and of merges.
+#[no_mangle]
+pub extern "C" fn jivakkol_dealias_sweep(
+    rays: u32,
+    gates: u32,
+    nyquist: f32,
+    splits: u32,
+    skip_rays: u32,
+    skip_gates: u32,
+    centred: u32,
+    wrap: u32,
+    velocity: &[f32],
+    valid: &[u8],
+    folds: &mut [i32],
+    pair: &mut [u32],
+    words: &mut [u32],
+    floats: &mut [f64],
+) -> u32
+    ensures { λ r. ⌜ record { number = r; memory = record { counts = now (folds .exit); pair = now (pair .exit); words = now (words .exit); floats = now (floats .exit) } } ≡ call (sweepOf rays gates nyquist splits «skip_rays» «skip_gates» centred wrap (now (velocity .entry)) (now (valid .entry))) (record { counts = now (folds .entry); pair = now (pair .entry); words = now (words .entry); floats = now (floats .entry) }) ⌝ }
+{
+    crate::entry::dealias_sweep(
+        rays, gates, nyquist, splits, skip_rays, skip_gates, centred, wrap, velocity, valid, folds, pair, words, floats,
+    )
+}
 
 // Unfolded velocities from fold counts.
 #[no_mangle]

@@ -1,0 +1,163 @@
+-- An early end is what the run with no merges gives: its offset is 0 too. Assumes nothing.
+use Prim.Native.Nat.{ℕ, zero, suc, _+_, _*_, _≤_, _<_}
+use native.Mathlib.Omega.{arith}
+use native.Mathlib.Nat.{zero-mul, mul-pos}
+use mathlib.Core.Path.{_≡_, refl, sym, ap, _∙_, subst}
+use mathlib.Core.Bool.{Bool, true, false, cond, _||_, true≢false}
+use mathlib.Core.List.{List, [], _∷_, map}
+use lib.Dec.{eqb, ltb}
+use lib.IntN.{ℤ, pos, _+ℤ_, _-ℤ_, _*ℤ_, *ℤ-zero}
+use lib.ListN.{length, getD}
+use lib.Ieee.{Float, nan, inf, fin, binary64, div, round, unlike, up, down, ofInt}
+use lib.Ieee.Fits.{up-pos, down-pos}
+use lib.Ieee.Scale.{round-same}
+use borrow.Author.Tests.{eqb-false, lt-ltb}
+use Rattle.arithmetic.specs.Rounding.{roundEven, real, within, nearestWhole}
+use Rattle.arithmetic.specs.Seg.{seg}
+use Rattle.arithmetic.specs.Seq.{upto, tabulate, all}
+use Rattle.arithmetic.specs.Intervals.{folded}
+use Rattle.arithmetic.specs.Evaluating.{evaluating}
+use Rattle.arithmetic.proofs.SeqLaws.{tab-same}
+use Rattle.labels.specs.Label.{Found}
+use Rattle.network.specs.Network.{Region, State, alone, start, merges, replay, trace, countOf, inRange}
+use Rattle.network.specs.Reduce.{networkBy}
+use Rattle.network.specs.Sees.{shape}
+use Rattle.network.specs.declared.edges.Frame.{Frame}
+use Rattle.sweep.specs.Sweep.{Sweep, Unfolded, none as no-pairs, orZero, sizes, networkOf, pairsOf, final, early, weighed, gatesOf, meanOf, offsetOf, gateCount, ended, finished, unfoldedBy}
+use Rattle.sweep.specs.Checks.{Outcome, asked9}
+use Rattle.sweep.specs.Call.{ending}
+use Rattle.sweep.specs.Finish.{lent, framed, foundIn, merged, closed}
+use Rattle.sweep.proofs.Early.{early-merges, early-counts}
+
+-- ---- a zero divided by anything rounds to 0, or is no number
+
+real-zero : real (pos 0) ≡ fin false 0 (pos 0)
+unfolding evaluating
+real-zero = refl
+
+zero-rounds : (s : Bool) → orZero (roundEven (round binary64 s 0 1)) ≡ pos 0
+unfolding evaluating orZero
+zero-rounds true = refl
+zero-rounds false = refl
+
+zero-inf : (s : Bool) → orZero (roundEven (fin s 0 (pos 0))) ≡ pos 0
+unfolding evaluating orZero
+zero-inf true = refl
+zero-inf false = refl
+
+nan-none : orZero (roundEven nan) ≡ pos 0
+unfolding within orZero
+nan-none = refl
+
+zero-over : (y : Float) → orZero (roundEven (div binary64 (fin false 0 (pos 0)) y)) ≡ pos 0
+unfolding div
+zero-over nan = nan-none
+zero-over (inf t) = zero-inf (unlike false t)
+zero-over (fin t n d) = go (eqb n 0) refl
+  where
+    more : (eqb n 0 ≡ false) → 0 < n
+    more e = let h : n ≡ 0 → ⊥ = eqb-false n 0 e in above n h
+      where
+        above : (n : ℕ) → (n ≡ 0 → ⊥) → 0 < n
+        above zero h = absurd (h refl)
+        above (suc n) h = omega arith
+
+    go : (b : Bool) → eqb n 0 ≡ b → orZero (roundEven (cond b (cond (eqb 0 0) nan (inf (unlike false t))) (round binary64 (unlike false t) (0 * up (pos 0) * down d) (n * up d * down (pos 0))))) ≡ pos 0
+    go true e = nan-none
+    go false e =
+        let s = unlike false t in
+        let D : 0 < n * up d * down (pos 0) = mul-pos (mul-pos (more e) (up-pos d)) (down-pos (pos 0)) in
+        let z : 0 * up (pos 0) * down d ≡ 0 = ap (λ (x : ℕ). x * down d) (zero-mul (up (pos 0))) ∙ zero-mul (down d) in
+        ap (λ (x : ℕ). orZero (roundEven (round binary64 s x (n * up d * down (pos 0))))) z
+        ∙ ap (λ (x : Float). orZero (roundEven x)) (round-same binary64 s 0 (n * up d * down (pos 0)) 0 1 D (omega arith) (zero-mul 1 ∙ sym (zero-mul (n * up d * down (pos 0)))))
+        ∙ zero-rounds s
+
+-- ---- the offset of regions that are all alone
+
+alone-weighed : (i : ℕ) (ns : List ℕ) → weighed (alone i ns) ≡ pos 0
+unfolding weighed alone
+alone-weighed i [] = refl
+alone-weighed i (n ∷ ns) = ap (λ (z : ℤ). z +ℤ weighed (alone (suc i) ns)) (*ℤ-zero (pos n)) ∙ ap (λ (z : ℤ). pos 0 +ℤ z) (alone-weighed (suc i) ns)
+
+alone-mean : (i : ℕ) (ns : List ℕ) → meanOf (alone i ns) ≡ pos 0
+unfolding meanOf
+alone-mean i ns =
+    ap (λ (z : ℤ). orZero (roundEven (div binary64 (real z) (real (pos (gatesOf (alone i ns))))))) (alone-weighed i ns)
+    ∙ ap (λ (x : Float). orZero (roundEven (div binary64 x (real (pos (gatesOf (alone i ns))))))) real-zero ∙ zero-over (real (pos (gatesOf (alone i ns))))
+
+no-count : (m : ℕ) → gateCount (pos 0) m (pos 0) ≡ pos 0
+unfolding gateCount
+no-count m = go (eqb m 1)
+  where
+    go : (b : Bool) → cond b (pos 0 -ℤ pos 0) (pos 0) ≡ pos 0
+    go true = refl
+    go false = refl
+
+-- ---- both ends of an early sweep are one
+
+module _ (s : Sweep) (f : Found) (h : early s f ≡ true) where
+  early-offset : offsetOf s (final (networkOf s f)) ≡ pos 0
+  unfolding offsetOf final
+  early-offset = rw (early-merges s f h) (go (eqb (s .centred) 1))
+    where
+      mean : meanOf (replay (networkOf s f) [] .regions) ≡ pos 0
+      mean = unfold replay networkOf start in alone-mean 1 (sizes f)
+
+      go : (b : Bool) → cond b (meanOf (replay (networkOf s f) [] .regions)) (pos 0) ≡ pos 0
+      go true = mean
+      go false = refl
+
+  early-gates : tabulate (length (s .mask)) (λ g. gateCount (offsetOf s (final (networkOf s f))) (getD (s .mask) g 0) (countOf (final (networkOf s f) .regions) (getD (f .labels) g 0))) ≡ tabulate (length (s .mask)) (λ g. pos 0)
+  early-gates = tab-same (λ g. gateCount (offsetOf s (final (networkOf s f))) (getD (s .mask) g 0) (countOf (final (networkOf s f) .regions) (getD (f .labels) g 0))) (λ g. pos 0) (length (s .mask))
+      (λ g l. ap (λ (z : ℤ). gateCount z (getD (s .mask) g 0) (countOf (final (networkOf s f) .regions) (getD (f .labels) g 0))) early-offset
+      ∙ ap (gateCount (pos 0) (getD (s .mask) g 0)) (early-counts s f h (getD (f .labels) g 0)) ∙ no-count (getD (s .mask) g 0))
+
+  early-good : all inRange (trace (networkOf s f) (merges (networkOf s f))) ≡ true
+  early-good = rw (early-merges s f h) (unfold trace all in refl)
+
+  early-same : asked9 (finished s f (networkOf s f)) ≡ asked9 (ended s f)
+  unfolding finished ended asked9
+  early-same = rw (early-good, early-merges s f h, early-gates) refl
+
+pub ends-same : (s : Sweep) (f : Found) → asked9 (finished s f (networkOf s f)) ≡ asked9 (unfoldedBy s f)
+unfolding unfoldedBy
+ends-same s f = go (early s f) refl
+  where
+    go : (b : Bool) → early s f ≡ b → asked9 (finished s f (networkOf s f)) ≡ asked9 (elim b [ true ↦ ended s f | false ↦ finished s f (networkOf s f) ])
+    go true e = early-same s f e
+    go false e = refl
+
+unfolded-early : (s : Sweep) (f : Found) → early s f ≡ true → unfoldedBy s f ≡ ended s f
+unfolding unfoldedBy
+unfolded-early s f e = go (early s f) e
+  where
+    go : (b : Bool) → b ≡ true → elim b [ true ↦ ended s f | false ↦ finished s f (networkOf s f) ] ≡ ended s f
+    go true e = refl
+    go false e = absurd (true≢false (sym e))
+
+few-early : (s : Sweep) (f : Found) → ltb (f .number) 2 ≡ true → early s f ≡ true
+unfolding early
+few-early s f e = ap (λ (b : Bool). b || no-pairs (pairsOf s f)) e
+
+ended-is : (s : Sweep) (f : Found) (cs : List ℤ) (p : List ℕ) → ending (asked9 (ended s f)) (lent cs p) ≡ record { number = 0; memory = lent (tabulate (length (s .mask)) (λ g. pos 0)) (f .number ∷ 0 ∷ []) }
+unfolding ended asked9 ending
+ended-is s f cs p = refl
+
+module _ (f : Frame) (w : List ℕ) (vel : List Float) (mask : List ℕ) (n k : ℕ) (nyq : Float) (centred : ℕ) (cs : List ℤ) (p : List ℕ) where
+  same-network : networkBy (folded nyq) (shape f) k (seg w 0 n) vel ≡ networkOf (framed f nyq centred vel mask) (foundIn w n k)
+  unfolding networkBy networkOf pairsOf sizes
+  same-network = refl
+
+  -- the end after the last merge is the end of the sweep
+  pub closed-late : merged f w vel mask n k nyq centred cs p ≡ closed f w vel mask n k nyq centred cs p
+  closed-late =
+      ap (λ (t : State). ending (asked9 (finished (framed f nyq centred vel mask) (foundIn w n k) t)) (lent cs p)) same-network
+      ∙ ap (λ (o : Outcome). ending o (lent cs p)) (ends-same (framed f nyq centred vel mask) (foundIn w n k))
+
+  -- below two regions all counts are 0
+  pub closed-early : k < 2 → length mask ≡ length cs → record { number = 0; memory = lent (tabulate (length cs) (λ g. pos 0)) (k ∷ 0 ∷ []) } ≡ closed f w vel mask n k nyq centred cs p
+  closed-early h e =
+      let s : Sweep = framed f nyq centred vel mask in
+      let r : Found = foundIn w n k in
+      ap (λ (m : ℕ). record { number = 0; memory = lent (tabulate m (λ g. pos 0)) (k ∷ 0 ∷ []) }) (sym e)
+      ∙ sym (ap (λ (u : Unfolded). ending (asked9 u) (lent cs p)) (unfolded-early s r (few-early s r (lt-ltb k 2 h))) ∙ ended-is s r cs p)

@@ -1,0 +1,58 @@
+-- A slice filled place by place from its front. Assumes nothing.
+use Prim.Native.Nat.{ℕ, zero, suc, _+_, _-_, _≤_, _<_}
+use native.Mathlib.Omega.{arith}
+use mathlib.Core.Path.{_≡_, refl, sym, ap, _∙_}
+use mathlib.Core.Logic.{⊎-elim}
+use mathlib.Core.List.{List, [], _∷_, _++_, append-nil}
+use lib.ListN.{length, getD, set, drop, replicate, length-append, length-drop, length-replicate, getD-replicate, List·getD-append}
+use lib.Seq.{getD-append-add, getD-drop, drop-length}
+use Rattle.arithmetic.specs.Seq.{upto, tabulate}
+use Rattle.arithmetic.proofs.SeqLaws.{tab-at, tab-length, tab-snoc}
+use Rattle.arithmetic.specs.Seg.{put}
+use Rattle.arithmetic.proofs.SegLaws.{lt-or-le, length-put, getD-put-in, getD-put-above, put-snoc, put-nil, ext-any}
+use Rattle.sweep.specs.Call.{cleared}
+
+module _ {A : Type 0} where
+  -- what is put at the front
+  put-front : (w vs : List A) → length vs ≤ length w → put w 0 vs ≡ vs ++ drop (length vs) w
+  put-front w vs h =
+      ext-any (put w 0 vs) (vs ++ drop (length vs) w)
+      (length-put w 0 vs ∙ sym (length-append vs (drop (length vs) w) ∙ ap (λ (x : ℕ). length vs + x) (length-drop (length vs) w) ∙ omega arith))
+      (λ j d p. ⊎-elim
+      (λ l. ap (λ (i : ℕ). getD (put w 0 vs) i d) {x = j} {y = 0 + j} (omega arith) ∙ getD-put-in w 0 vs j d l (omega (arith, length-put w 0 vs)) ∙ sym (List·getD-append vs (drop (length vs) w) d j l))
+      (λ l.
+      getD-put-above w 0 vs j d (omega arith)
+      ∙ ap (λ (i : ℕ). getD w i d) {x = j} {y = length vs + (j - length vs)} (omega arith)
+      ∙ sym (getD-drop (length vs) w (j - length vs) d)
+      ∙ sym (getD-append-add vs (drop (length vs) w) (j - length vs) d)
+      ∙ ap (λ (i : ℕ). getD (vs ++ drop (length vs) w) i d) {x = length vs + (j - length vs)} {y = j} (omega arith))
+      (lt-or-le j (length vs)))
+
+  module _ (f : ℕ → A) (w₀ : List A) where
+    pub fill-begin : w₀ ≡ put w₀ 0 (tabulate 0 f)
+    unfolding tabulate upto
+    fill-begin = sym (put-nil w₀ 0)
+
+    pub fill-on : (w : List A) (i : ℕ) (x : A) → w ≡ put w₀ 0 (tabulate i f) → x ≡ f i → set w i x ≡ put w₀ 0 (tabulate (i + 1) f)
+    fill-on w i x e h =
+        ap (λ (l : List A). set l i x) e
+        ∙ ap (λ (y : A). set (put w₀ 0 (tabulate i f)) i y) h
+        ∙ ap (λ (j : ℕ). set (put w₀ 0 (tabulate i f)) j (f i)) {x = i} {y = 0 + length (tabulate i f)} (omega (arith, tab-length f i))
+        ∙ put-snoc w₀ 0 (tabulate i f) (f i)
+        ∙ ap (put w₀ 0) (sym (tab-snoc f i))
+
+    pub fill-front : (w : List A) (i n : ℕ) → w ≡ put w₀ 0 (tabulate i f) → i ≡ n → n ≤ length w₀ → w ≡ tabulate n f ++ drop n w₀
+    fill-front w i n e h l =
+        e ∙ ap (λ (j : ℕ). put w₀ 0 (tabulate j f)) h
+        ∙ put-front w₀ (tabulate n f) (omega (arith, tab-length f n))
+        ∙ ap (λ (j : ℕ). tabulate n f ++ drop j w₀) (tab-length f n)
+
+    pub fill-all : (w : List A) (i n : ℕ) → w ≡ put w₀ 0 (tabulate i f) → i ≡ n → length w₀ ≡ n → w ≡ tabulate n f
+    fill-all w i n e h l = fill-front w i n e h (omega arith) ∙ ap (λ (x : List A). tabulate n f ++ x) (ap (λ (j : ℕ). drop j w₀) (sym l) ∙ drop-length w₀) ∙ append-nil (tabulate n f)
+
+  zeros : (z : A) (m : ℕ) → tabulate m (λ _. z) ≡ replicate m z
+  zeros z m = ext-any (tabulate m (λ _. z)) (replicate m z) (tab-length (λ _. z) m ∙ sym (length-replicate m z)) (λ j d p. tab-at (λ _. z) m j d (omega (arith, tab-length (λ _. z) m)) ∙ sym (getD-replicate m j z d (omega (arith, tab-length (λ _. z) m))))
+
+  pub clear-end : (z : A) (w₀ w : List A) (i m : ℕ) → w ≡ put w₀ 0 (tabulate i (λ _. z)) → i ≡ m → m ≤ length w₀ → w ≡ cleared z m w₀
+  unfolding cleared
+  clear-end z w₀ w i m e h l = fill-front (λ _. z) w₀ w i m e h l ∙ ap (λ (x : List A). x ++ drop m w₀) (zeros z m)
