@@ -1,28 +1,27 @@
 -- The call of the sweep entry, by the answers to questions 1 to 8. Assumes nothing.
-use Prim.Native.Nat.{ℕ, zero, suc, _≤_, _<_}
+use Prim.Native.Nat.{ℕ, _≤_}
 use native.Mathlib.Omega.{arith}
 use mathlib.Core.Path.{_≡_, refl, sym, ap, _∙_, subst}
-use mathlib.Core.Bool.{Bool, true, false, true≢false, false≢true}
+use mathlib.Core.Bool.{Bool, true, false, false≢true}
 use mathlib.Core.List.{List, [], _∷_}
 use mathlib.Core.Option.{Option, none, some}
-use lib.Dec.{T, leb, ltb}
+use lib.Dec.{T, leb}
 use lib.Signed.{ltZ}
 use lib.IntN.{ℤ, pos, negsuc}
-use lib.ListN.{length, getD}
+use lib.ListN.{getD}
 use lib.Ieee.{Float, nan, binary32, fits}
 use borrow.Author.Tests.{leb-true, leb-false, ltb-true, ltb-false}
-use Rattle.arithmetic.specs.Seq.{all}
 use Rattle.arithmetic.specs.Asked.{Rising}
-use Rattle.arithmetic.specs.Intervals.{valid, range, adds, planOf, atLeast0, limitsOf, limitsFor, numberFor}
+use Rattle.arithmetic.specs.Intervals.{valid, range, adds, planOf, atLeast0, limitsOf, numberFor}
 use Rattle.arithmetic.specs.declared.intervals.Plan.{Plan}
 use Rattle.arithmetic.proofs.Plans.{plan-number, plan-limits-are}
 use Rattle.arithmetic.proofs.Rising.{sweep-limits-rise}
 use Rattle.sweep.specs.Sweep.{Sweep, unfolded}
-use Rattle.sweep.specs.Checks.{Question, Lent, ask, firstNo, gatesIn, inSize, inLength, inMask, inRoom, inOptions, inSpeed, inLimits, atMost, ownLimits, asked, asked9}
+use Rattle.sweep.specs.Checks.{Lent, ask, firstNo, gatesIn, inSize, inLength, inMask, inRoom, inOptions, inSpeed, inLimits, atMost, ownLimits, asked, asked9}
 use Rattle.arithmetic.specs.Intervals.{sized}
 use Rattle.sweep.specs.Call.{Memory, Answer, lengths, clearedFor, ending, call}
 use Rattle.sweep.specs.Entry.{askedFirst, answerOf}
-use Rattle.sweep.proofs.CheckLaws.{Passed, passed, asked-eight}
+use Rattle.sweep.proofs.CheckLaws.{passed, asked-eight}
 
 module _ (s : Sweep) (l : Lent) where
   -- no question has the number 0

@@ -1,25 +1,25 @@
 -- An early end is what the run with no merges gives: its offset is 0 too. Assumes nothing.
-use Prim.Native.Nat.{ℕ, zero, suc, _+_, _*_, _≤_, _<_}
+use Prim.Native.Nat.{ℕ, zero, suc, _+_, _*_, _<_}
 use native.Mathlib.Omega.{arith}
 use native.Mathlib.Nat.{zero-mul, mul-pos}
-use mathlib.Core.Path.{_≡_, refl, sym, ap, _∙_, subst}
+use mathlib.Core.Path.{_≡_, refl, sym, ap, _∙_}
 use mathlib.Core.Bool.{Bool, true, false, cond, _||_, true≢false}
-use mathlib.Core.List.{List, [], _∷_, map}
+use mathlib.Core.List.{List, [], _∷_}
 use lib.Dec.{eqb, ltb}
 use lib.IntN.{ℤ, pos, _+ℤ_, _-ℤ_, _*ℤ_, *ℤ-zero}
 use lib.ListN.{length, getD}
-use lib.Ieee.{Float, nan, inf, fin, binary64, div, round, unlike, up, down, ofInt}
+use lib.Ieee.{Float, nan, inf, fin, binary64, div, round, unlike, up, down}
 use lib.Ieee.Fits.{up-pos, down-pos}
 use lib.Ieee.Scale.{round-same}
 use borrow.Author.Tests.{eqb-false, lt-ltb}
-use Rattle.arithmetic.specs.Rounding.{roundEven, real, within, nearestWhole}
+use Rattle.arithmetic.specs.Rounding.{roundEven, real, within}
 use Rattle.arithmetic.specs.Seg.{seg}
-use Rattle.arithmetic.specs.Seq.{upto, tabulate, all}
+use Rattle.arithmetic.specs.Seq.{tabulate, all}
 use Rattle.arithmetic.specs.Intervals.{folded}
 use Rattle.arithmetic.specs.Evaluating.{evaluating}
 use Rattle.arithmetic.proofs.SeqLaws.{tab-same}
 use Rattle.labels.specs.Label.{Found}
-use Rattle.network.specs.Network.{Region, State, alone, start, merges, replay, trace, countOf, inRange}
+use Rattle.network.specs.Network.{State, alone, start, merges, replay, trace, countOf, inRange}
 use Rattle.network.specs.Reduce.{networkBy}
 use Rattle.network.specs.Sees.{shape}
 use Rattle.network.specs.declared.edges.Frame.{Frame}

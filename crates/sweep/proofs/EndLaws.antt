@@ -2,7 +2,7 @@
 use Prim.Native.Nat.{ℕ, zero, suc, _+_, _*_, _-_, _≤_, _<_}
 use native.Mathlib.Omega.{arith}
 use native.Mathlib.Nat.{mul-le-mul}
-use mathlib.Core.Path.{_≡_, refl, sym, ap, _∙_, subst}
+use mathlib.Core.Path.{_≡_, refl, sym, ap, _∙_}
 use mathlib.Core.List.{List, [], _∷_, _++_}
 use mathlib.Core.Option.{none}
 use lib.IntN.{ℤ, pos}
@@ -20,7 +20,6 @@ use Rattle.sweep.specs.Sweep.{Sweep, regionsOf, pairsOf, networkOf, earl
 use Rattle.sweep.specs.Checks.{Outcome, refused, accepted, gatesIn, wordsFor, floatsFor, asked9}
 use Rattle.sweep.specs.Call.{Memory, Answer, lengths, cleared, clearedFor, ending}
 use Rattle.sweep.specs.Entry.{askedFirst}
-use Rattle.sweep.specs.Labelled.{Limited}
 use Rattle.sweep.specs.Finish.{Solves, framed, solved}
 use Rattle.sweep.proofs.LimitLaws.{limited-same}
 use Rattle.sweep.proofs.CheckLaws.{Passed, passed}

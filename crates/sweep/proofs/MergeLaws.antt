@@ -3,7 +3,7 @@ use Prim.Native.Nat.{ℕ, zero, suc, _+_, _*_, _-_, _≤_, _<_}
 use native.Mathlib.Omega.{arith}
 use mathlib.Core.Path.{_≡_, refl, sym, ap, _∙_, subst}
 use mathlib.Core.Bool.{Bool, true, false, cond, true≢false}
-use mathlib.Core.List.{List, [], _∷_, map}
+use mathlib.Core.List.{List, [], _∷_}
 use lib.Dec.{eqb}
 use lib.IntN.{ℤ, pos, subℕ}
 use lib.ListN.{length, getD}
@@ -11,7 +11,7 @@ use lib.Ieee.{Float, binary64, div}
 use borrow.Author.Tests.{eqb-true, ne-eqb}
 use Rattle.arithmetic.specs.Rounding.{roundEven, real}
 use Rattle.arithmetic.specs.Seg.{seg}
-use Rattle.arithmetic.specs.Seq.{upto, tabulate, keep}
+use Rattle.arithmetic.specs.Seq.{tabulate, keep}
 use Rattle.arithmetic.specs.Intervals.{folded}
 use Rattle.arithmetic.proofs.SeqLaws.{tab-at, tab-same}
 use Rattle.arithmetic.proofs.SegLaws.{getD-seg, length-seg}
@@ -26,8 +26,8 @@ use Rattle.network.specs.declared.network.Ran.the-variants.{Settled, Denied}
 use Rattle.sweep.specs.Sweep.{orZero, weighed, gatesOf, meanOf, offsetOf, final, gateCount, finished}
 use Rattle.sweep.specs.Checks.{asked9}
 use Rattle.sweep.specs.Call.{ending}
-use Rattle.sweep.specs.Mean.{sumFrom, sizeAt, heldAt, Tabled}
-use Rattle.sweep.specs.Finish.{meanBy, offsetBy, countsBy, Finishes, Merges, lent, merged, framed, foundIn}
+use Rattle.sweep.specs.Mean.{sumFrom, sizeAt, heldAt}
+use Rattle.sweep.specs.Finish.{offsetBy, countsBy, Finishes, Merges, lent, merged, framed}
 use Rattle.sweep.proofs.MergeNumber.{merges-most}
 use Rattle.sweep.proofs.MeanLaws.{weighed-is, gates-is, last-labels, last-sizes}
 

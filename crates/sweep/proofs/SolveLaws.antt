@@ -1,15 +1,14 @@
 -- A sweep from its limits to its end: what each call asks, and the end in terms of the definition. Assumes nothing.
-use Prim.Native.Nat.{ℕ, zero, suc, _+_, _*_, _≤_, _<_}
+use Prim.Native.Nat.{ℕ, _+_, _≤_, _<_}
 use native.Mathlib.Omega.{arith}
 use native.Mathlib.Nat.{le-of-eq}
-use mathlib.Core.Path.{_≡_, refl, sym, ap, _∙_, subst}
-use mathlib.Core.List.{List, [], _∷_, _++_, append-nil}
+use mathlib.Core.Path.{_≡_, refl, sym, ap, _∙_}
+use mathlib.Core.List.{List, _++_, append-nil}
 use lib.IntN.{ℤ, pos}
-use lib.ListN.{length, getD, drop, replicate, drop-of-length-le}
+use lib.ListN.{length, getD, replicate, drop-of-length-le}
 use lib.Ieee.{Float}
 use Rattle.arithmetic.specs.Rounding.{real}
 use Rattle.arithmetic.specs.Intervals.{limitsOf}
-use Rattle.arithmetic.specs.Seg.{seg}
 use Rattle.arithmetic.proofs.SegLaws.{getD-seg}
 use Rattle.labels.specs.Label.{Found}
 use Rattle.labels.specs.Regions.{regions}
@@ -17,8 +16,8 @@ use Rattle.labels.proofs.RegionLaws.{label-at-most, number-at-most}
 use Rattle.network.specs.declared.edges.Frame.{Frame}
 use Rattle.sweep.specs.Sweep.{unfoldedBy}
 use Rattle.sweep.specs.Checks.{Outcome, refused, accepted, asked9}
-use Rattle.sweep.specs.Call.{Memory, Answer, ending, cleared}
-use Rattle.sweep.specs.Labelled.{Limited, Labelled}
+use Rattle.sweep.specs.Call.{Answer, ending, cleared}
+use Rattle.sweep.specs.Labelled.{Labelled}
 use Rattle.sweep.specs.Finish.{Closes, Solves, lent, framed, foundIn, closed, solved}
 
 -- all words cleared

@@ -58,7 +58,20 @@ fn unfold_sweep(
     let w = 96 * n + 64;
     let d = 16 * n + 16;
     crate::sweep::solve(
-        f, gates, nyquist, splits, a, b, number, centred, velocity, valid, folds, pair, &mut words[0..w], &mut floats[0..d],
+        f,
+        gates,
+        nyquist,
+        splits,
+        a,
+        b,
+        number,
+        centred,
+        velocity,
+        valid,
+        folds,
+        pair,
+        &mut words[0..w],
+        &mut floats[0..d],
     )
 }
 
@@ -82,7 +95,20 @@ pub fn dealias_sweep(
     ensures { λ r. ⌜ record { number = r; memory = record { counts = now (folds .exit); pair = now (pair .exit); words = now (words .exit); floats = now (floats .exit) } } ≡ call (sweepOf rays gates nyquist splits «skip_rays» «skip_gates» centred wrap (now (velocity .entry)) (now (valid .entry))) (record { counts = now (folds .entry); pair = now (pair .entry); words = now (words .entry); floats = now (floats .entry) }) ⌝ }
 {
     let missed = crate::checks::first_missed(
-        rays, gates, nyquist, splits, skip_rays, skip_gates, centred, wrap, velocity, valid, folds.len(), pair.len(), words.len(), floats.len(),
+        rays,
+        gates,
+        nyquist,
+        splits,
+        skip_rays,
+        skip_gates,
+        centred,
+        wrap,
+        velocity,
+        valid,
+        folds.len(),
+        pair.len(),
+        words.len(),
+        floats.len(),
     );
     if missed != 0 {
         return missed;
@@ -92,6 +118,22 @@ pub fn dealias_sweep(
         return 8;
     }
     unfold_sweep(
-        rays, gates, nyquist, splits, skip_rays, skip_gates, centred, wrap, p.add_start, p.add_end, p.number, velocity, valid, folds, pair, words, floats,
+        rays,
+        gates,
+        nyquist,
+        splits,
+        skip_rays,
+        skip_gates,
+        centred,
+        wrap,
+        p.add_start,
+        p.add_end,
+        p.number,
+        velocity,
+        valid,
+        folds,
+        pair,
+        words,
+        floats,
     )
 }

@@ -25,7 +25,20 @@ pub extern "C" fn jivakkol_dealias_sweep(
     ensures { λ r. ⌜ record { number = r; memory = record { counts = now (folds .exit); pair = now (pair .exit); words = now (words .exit); floats = now (floats .exit) } } ≡ call (sweepOf rays gates nyquist splits «skip_rays» «skip_gates» centred wrap (now (velocity .entry)) (now (valid .entry))) (record { counts = now (folds .entry); pair = now (pair .entry); words = now (words .entry); floats = now (floats .entry) }) ⌝ }
 {
     crate::entry::dealias_sweep(
-        rays, gates, nyquist, splits, skip_rays, skip_gates, centred, wrap, velocity, valid, folds, pair, words, floats,
+        rays,
+        gates,
+        nyquist,
+        splits,
+        skip_rays,
+        skip_gates,
+        centred,
+        wrap,
+        velocity,
+        valid,
+        folds,
+        pair,
+        words,
+        floats,
     )
 }
 

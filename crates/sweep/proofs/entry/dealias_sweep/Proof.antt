@@ -1,10 +1,10 @@
 -- `sweep::entry::dealias_sweep` meets its contract. Assumes nothing.
-use mathlib.Core.Path.{_≡_, sym, ap, _∙_, subst}
+use mathlib.Core.Path.{_≡_, sym, _∙_}
 use native.Mathlib.Omega.{arith}
 use mathlib.Core.Option.{none}
 use Rattle.arithmetic.proofs.Plans.{T-of}
 use mir.ValLaws.{toZ-ofZ}
-use mir.Val.{SFits, toZ, ofZ}
+use mir.Val.{toZ, ofZ}
 use mir.Syntax.{w32, w64}
 use Rattle.sweep.specs.Sweep.{Sweep}
 use Rattle.sweep.specs.Call.{Memory, lengths}
@@ -14,8 +14,6 @@ use Rattle.sweep.proofs.CallLaws.{none-missed, call-missed, call-many, 
 use borrow.Author.Needs.{needs}
 use Rattle.sweep.proofs.entry.dealias_sweep.Statement.{statement}
 use Rattle.sweep.proofs.entry.dealias_sweep.Tie as tie
-use Rattle.sweep.proofs.entry.dealias_sweep.Reads as reads
-use Rattle.sweep.proofs.entry.dealias_sweep.Lts as lts
 
 -- the sweep and the memory that a call's parameters are
 abbrev sweepAt : tie.Start → Sweep

@@ -7,8 +7,6 @@ use Rattle.arithmetic.proofs.Plans.{range-fair}
 use borrow.Author.Needs.{needs}
 use Rattle.sweep.proofs.entry.plan_of.Statement.{statement}
 use Rattle.sweep.proofs.entry.plan_of.Tie as tie
-use Rattle.sweep.proofs.entry.plan_of.Reads as reads
-use Rattle.sweep.proofs.entry.plan_of.Lts as lts
 
 least-and-greatest-requires : tie.Need-least-and-greatest-requires
 least-and-greatest-requires c κs = search needs

@@ -1,11 +1,10 @@
 -- `sweep::entry::unfold_sweep` meets its contract. Assumes nothing.
-use Prim.Native.Nat.{ℕ, _+_, _*_, _-_, _≤_}
+use Prim.Native.Nat.{_+_, _*_, _-_, _≤_}
 use native.Mathlib.Omega.{arith}
-use mathlib.Core.Path.{_≡_, refl, sym, ap, _∙_, subst}
+use mathlib.Core.Path.{refl}
 use lib.ListN.{length}
 use borrow.Rule.Slice.PartMut.{post-is}
 use mir.ValLaws.{toZ-ofZ}
-use mir.Val.{toZ, ofZ}
 use mir.Syntax.{w32, w64}
 use Rattle.sweep.specs.Sweep.{Sweep}
 use Rattle.sweep.specs.Call.{Memory}
@@ -14,8 +13,6 @@ use Rattle.sweep.proofs.EndLaws.{length-taken, small, words-room, float
 use borrow.Author.Needs.{needs}
 use Rattle.sweep.proofs.entry.unfold_sweep.Statement.{statement}
 use Rattle.sweep.proofs.entry.unfold_sweep.Tie as tie
-use Rattle.sweep.proofs.entry.unfold_sweep.Reads as reads
-use Rattle.sweep.proofs.entry.unfold_sweep.Lts as lts
 
 -- the sweep and the memory that a call's parameters are
 abbrev sweepAt : tie.Start → Sweep

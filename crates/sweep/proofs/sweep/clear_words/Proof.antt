@@ -1,16 +1,13 @@
-use borrow.Author.Needs.{needs}
-use Rattle.sweep.proofs.FillLaws.{fill-begin, fill-on, fill-all, clear-end}
+-- `sweep::sweep::clear_words` meets its contract. Assumes nothing.
+use Rattle.sweep.proofs.FillLaws.{fill-begin, fill-on, clear-end}
 use Rattle.arithmetic.specs.Seg.{put}
 use Rattle.arithmetic.specs.Seq.{tabulate}
 use native.Mathlib.Omega.{arith}
-use mathlib.Core.Path.{_≡_, refl, sym, ap, _∙_}
-use mathlib.Core.List.{List, [], _∷_, _++_}
-use Prim.Native.Nat.{ℕ, zero, suc, _+_, _-_, _*_, _≤_, _<_}
-use lib.ListN.{length, getD, set, take, drop, replicate, length-set}
+use mathlib.Core.Path.{_≡_, refl}
+use Prim.Native.Nat.{_-_, _≤_}
+use lib.ListN.{length, length-set}
 use Rattle.sweep.proofs.sweep.clear_words.Statement.{statement}
 use Rattle.sweep.proofs.sweep.clear_words.Tie as tie
-use Rattle.sweep.proofs.sweep.clear_words.Reads as reads
-use Rattle.sweep.proofs.sweep.clear_words.Lts as lts
 
 abbrev Inv-loop : tie.InvT-loop
 Inv-loop w₀ m i₀ w i = (i ≤ m) × ((w ≡ put w₀ 0 (tabulate i (λ _. 0))) × (length w ≡ length w₀))
@@ -18,35 +15,27 @@ Inv-loop w₀ m i₀ w i = (i ≤ m) × ((w ≡ put w₀ 0 (tabulate i (λ _. 0)
 abbrev μ-loop : tie.MeasureT-loop
 μ-loop w₀ m i₀ w i = m - i
 
--- src/sweep.rt:98:5
 loop-holds : tie.Need-loop-holds Inv-loop μ-loop
 loop-holds c = (omega arith, (fill-begin (λ _. 0) (c .args .w .now), refl))
 
--- src/sweep.rt:99:9
 mul-w : tie.Need-mul-w Inv-loop μ-loop
 mul-w c = omega arith
 
--- src/sweep.rt:99:9
 slice-write-w : tie.Need-slice-write-w Inv-loop μ-loop
 slice-write-w c = omega (arith, c .before .loop .inv .1 .1, c .loop-test .taken, c .before .before .pre)
 
--- src/sweep.rt:100:9
 add-i : tie.Need-add-i Inv-loop μ-loop
 add-i c = omega (arith, c .loop-test .taken)
 
--- src/sweep.rt:98:5
 loop-less : tie.Need-loop-less Inv-loop μ-loop
 loop-less c = omega (arith, c .loop-test .taken)
 
--- src/sweep.rt:98:5
 loop-again : tie.Need-loop-again Inv-loop μ-loop
 loop-again c = (omega (arith, c .loop-test .taken), (fill-on (λ _. 0) (c .before .before .args .w .now) (c .before .loop .w) (c .before .loop .i) 0 (c .before .loop .inv .1 .0) refl, simp length-set (c .before .loop .inv .1 .1)))
 
--- src/sweep.rt:93:1
 same-length : tie.Need-same-length Inv-loop μ-loop
 same-length c = c .before .loop .inv .1 .1
 
--- src/sweep.rt:93:1
 returns : tie.Need-returns Inv-loop μ-loop
 returns c = clear-end 0 (c .before .before .args .w .now) (c .before .loop .w) (c .before .loop .i) (c .before .before .args .m) (c .before .loop .inv .1 .0) (omega (arith, c .before .loop .inv .0, c .loop-test .left)) (c .before .before .pre)
 

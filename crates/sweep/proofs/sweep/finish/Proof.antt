@@ -1,67 +1,51 @@
+-- `sweep::sweep::finish` meets its contract. Assumes nothing.
 use Rattle.sweep.proofs.EarlyEnd.{closed-late, closed-early}
 use Rattle.sweep.specs.Finish.{lent}
 use Rattle.sweep.specs.Call.{Answer}
 use Rattle.arithmetic.specs.Seq.{tabulate}
 use lib.IntN.{ℤ, pos}
-use native.Mathlib.Omega.{arith}
-use mathlib.Core.Path.{_≡_, refl, sym, ap, _∙_}
-use mathlib.Core.List.{List, [], _∷_, _++_}
-use Prim.Native.Nat.{ℕ, zero, suc, _+_, _-_, _*_, _≤_, _<_}
-use lib.ListN.{length, getD, set, take, drop, replicate, length-set}
+use mathlib.Core.Path.{_≡_, ap, _∙_}
+use mathlib.Core.List.{List, [], _∷_}
+use Prim.Native.Nat.{ℕ, _-_}
+use lib.ListN.{length}
 use borrow.Author.Needs.{needs}
 use Rattle.sweep.proofs.sweep.finish.Statement.{statement}
 use Rattle.sweep.proofs.sweep.finish.Tie as tie
-use Rattle.sweep.proofs.sweep.finish.Reads as reads
-use Rattle.sweep.proofs.sweep.finish.Lts as lts
-use Rattle.sweep.proofs.sweep.merge_regions.Reads as merge-regions-reads
-use Rattle.sweep.proofs.sweep.no_folds.Reads as no-folds-reads
-use Rattle.sweep.proofs.sweep.write_pair.Reads as write-pair-reads
 
 -- counts and pair are those of the definition
 answer : (x y : List ℤ) (p q : List ℕ) → x ≡ y → p ≡ q → _≡_ {A = Answer} (record { number = 0; memory = lent x p }) (record { number = 0; memory = lent y q })
 answer x y p q a b = ap (λ (z : List ℤ). record { number = 0; memory = lent z p }) a ∙ ap (λ (z : List ℕ). record { number = 0; memory = lent y z }) b
 
--- src/sweep.rt:222:9
 no-folds-requires : tie.Need-no-folds-requires
 no-folds-requires c κs = search needs
 
--- src/sweep.rt:223:9
 write-pair-requires : tie.Need-write-pair-requires
 write-pair-requires c κs = search needs
 
--- src/sweep.rt:224:9
 same-length : tie.Need-same-length
 same-length c = search needs
 
--- src/sweep.rt:224:9
 same-length-2 : tie.Need-same-length-2
 same-length-2 c = search needs
 
--- src/sweep.rt:224:9
 returns : tie.Need-returns
 returns c = answer (c .before .before .before .before .before .no-folds .last .0) (tabulate (length (c .before .before .before .before .before .before .before .before .before .before .before .before .before .args .folds .now)) (λ g. pos 0)) (c .before .before .write-pair .last .0) (c .before .before .before .before .before .before .before .before .before .before .before .before .before .args .k ∷ 0 ∷ []) (c .before .before .before .before .before .no-folds .ensures) (c .before .before .write-pair .ensures) ∙ closed-early (c .before .before .before .before .before .before .before .before .before .before .before .before .before .args .f) (c .before .before .before .before .before .before .before .before .before .before .before .before .before .args .work .now) (c .before .before .before .before .before .before .before .before .before .before .before .before .before .args .velocity .now) (c .before .before .before .before .before .before .before .before .before .before .before .before .before .args .valid .now) (c .before .before .before .before .before .before .before .before .before .before .before .before .before .args .n) (c .before .before .before .before .before .before .before .before .before .before .before .before .before .args .k) (c .before .before .before .before .before .before .before .before .before .before .before .before .before .args .nyquist) (c .before .before .before .before .before .before .before .before .before .before .before .before .before .args .centred) (c .before .before .before .before .before .before .before .before .before .before .before .before .before .args .folds .now) (c .before .before .before .before .before .before .before .before .before .before .before .before .before .args .pair .now) (c .before .before .before .before .before .before .before .if1 .taken) (c .before .before .before .before .before .before .before .before .before .before .before .before .before .pre .masks)
 
--- src/sweep.rt:226:5
 merge-regions-requires : tie.Need-merge-regions-requires
 merge-regions-requires c κs = c .before .before .before .before .before .before .before .before .before .before .pre .merges (c .before .before .before .before .if1 .left)
 
--- src/sweep.rt:217:1
 same-length-3 : tie.Need-same-length-3
 same-length-3 c = search needs
 
--- src/sweep.rt:217:1
 same-length-4 : tie.Need-same-length-4
 same-length-4 c = search needs
 
--- src/sweep.rt:217:1
 same-length-5 : tie.Need-same-length-5
 same-length-5 c = search needs
 
--- src/sweep.rt:217:1
 same-length-6 : tie.Need-same-length-6
 same-length-6 c = search needs
 
--- src/sweep.rt:217:1
 returns-2 : tie.Need-returns-2
 returns-2 c = c .before .before .before .before .before .before .before .merge-regions .ensures ∙ closed-late (c .before .before .before .before .before .before .before .before .before .before .before .before .before .before .before .before .before .before .args .f) (c .before .before .before .before .before .before .before .before .before .before .before .before .before .before .before .before .before .before .args .work .now) (c .before .before .before .before .before .before .before .before .before .before .before .before .before .before .before .before .before .before .args .velocity .now) (c .before .before .before .before .before .before .before .before .before .before .before .before .before .before .before .before .before .before .args .valid .now) (c .before .before .before .before .before .before .before .before .before .before .before .before .before .before .before .before .before .before .args .n) (c .before .before .before .before .before .before .before .before .before .before .before .before .before .before .before .before .before .before .args .k) (c .before .before .before .before .before .before .before .before .before .before .before .before .before .before .before .before .before .before .args .nyquist) (c .before .before .before .before .before .before .before .before .before .before .before .before .before .before .before .before .before .before .args .centred) (c .before .before .before .before .before .before .before .before .before .before .before .before .before .before .before .before .before .before .args .folds .now) (c .before .before .before .before .before .before .before .before .before .before .before .before .before .before .before .before .before .before .args .pair .now)
 

@@ -1,3 +1,4 @@
+-- `sweep::sweep::fold_of` meets its contract. Assumes nothing.
 use Prim.Native.Nat.{_≤_, _^_}
 use mathlib.Core.Path.{_≡_, sym, ap, _∙_, subst}
 use lib.IntN.{ℤ, natAbs}
@@ -20,23 +21,18 @@ same-offset s = toZ-ofZ w32 (s .args .offset) (s .fits .offset)
 near : (s : lts.Start reads.Pre reads.Post) → natAbs (toZ w32 (ofZ w32 (s .args .offset))) ≤ 2 ^ 30
 near s = subst (λ (z : ℤ). natAbs z ≤ 2 ^ 30) (sym (same-offset s)) (s .pre .1)
 
--- src/sweep.rt:61:9
 returns : tie.Need-returns
 returns c = masked-count (c .before .args .m) (c .before .args .c) (c .before .args .offset) (c .before .pre .0) (c .before .pre .1) (c .if1 .taken)
 
--- src/sweep.rt:63:7
 cast-result : tie.Need-cast-result
 cast-result c = search needs
 
--- src/sweep.rt:63:6
 sub-result : tie.Need-sub-result
 sub-result c = first-fits (c .before .args .m) (c .before .args .c) (c .before .args .offset) (c .before .pre .0) (c .before .pre .1)
 
--- src/sweep.rt:63:5
 sub-result-2 : tie.Need-sub-result-2
 sub-result-2 c = second-fits (c .before .args .m) (c .before .args .c) (toZ w32 (ofZ w32 (c .before .args .offset))) (c .before .pre .0) (near (c .before))
 
--- src/sweep.rt:56:1
 returns-2 : tie.Need-returns-2
 returns-2 c = let a = c .before .args in valid-count (a .m) (a .c) (toZ w32 (ofZ w32 (a .offset))) (c .before .pre .0) (near (c .before)) (c .if1 .left) ∙ ap (λ (z : ℤ). gateCount z (a .m) (unbias (a .c))) (same-offset (c .before))
 

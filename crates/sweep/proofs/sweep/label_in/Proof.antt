@@ -1,5 +1,5 @@
-use Rattle.sweep.proofs.LimitLaws.{limited-same, limits-read, limits-room, regions-ask, regions-left}
-use Rattle.sweep.specs.Labelled.{Limited}
+-- `sweep::sweep::label_in` meets its contract. Assumes nothing.
+use Rattle.sweep.proofs.LimitLaws.{limits-room, regions-ask, regions-left}
 use Rattle.arithmetic.specs.Intervals.{atLeast0, limitsOf}
 use Rattle.arithmetic.specs.Asked.{front}
 use lib.Ieee.{Float}
@@ -10,18 +10,13 @@ use mir.Syntax.{w32, w64}
 use mathlib.Core.Path.{subst}
 use Rattle.labels.specs.Sheet as Sheet
 use native.Mathlib.Omega.{arith}
-use mathlib.Core.Path.{_≡_, refl, sym, ap, _∙_}
-use mathlib.Core.List.{List, [], _∷_, _++_}
-use Prim.Native.Nat.{ℕ, zero, suc, _+_, _-_, _*_, _≤_, _<_}
-use lib.ListN.{length, getD, set, take, drop, replicate, length-set}
+use mathlib.Core.Path.{_≡_, sym, ap, _∙_}
+use mathlib.Core.List.{List}
+use Prim.Native.Nat.{ℕ, _+_, _-_, _*_, _≤_}
+use lib.ListN.{length, take}
 use borrow.Author.Needs.{needs}
 use Rattle.sweep.proofs.sweep.label_in.Statement.{statement}
 use Rattle.sweep.proofs.sweep.label_in.Tie as tie
-use Rattle.sweep.proofs.sweep.label_in.Reads as reads
-use Rattle.sweep.proofs.sweep.label_in.Lts as lts
-use Rattle.arithmetic.proofs.intervals.limits.Reads as limits-reads
-use Rattle.labels.proofs.regions.find_regions.Reads as find-regions-reads
-use Rattle.sweep.proofs.sweep.how_many.Reads as how-many-reads
 
 -- the limits written are the plan's
 written : (s : tie.Start) (l : List Float)
@@ -36,59 +31,45 @@ written s l e =
 many : (s : tie.Start) (m : ℕ) → m ≡ atLeast0 (toZ w64 (ofZ w64 (s .args .number))) → m ≡ atLeast0 (s .args .number)
 many s m e = e ∙ ap atLeast0 (toZ-ofZ w64 (s .args .number) (s .fits .number))
 
--- src/sweep.rt:34:5
 limits-requires : tie.Need-limits-requires
 limits-requires c κs = let s = c .before .before .before .before .before in let n = toZ-ofZ w64 (s .args .number) (s .fits .number) in let few : atLeast0 (toZ w64 (ofZ w64 (s .args .number))) ≤ 10000 = subst (λ (z : ℤ). atLeast0 z ≤ 10000) (sym n) (s .pre .0 .few) in (s .pre .0 .sound, (omega (arith, few, s .pre .1), few))
 
--- src/sweep.rt:35:9
 how-many-requires : tie.Need-how-many-requires
 how-many-requires c κs = search needs
 
--- src/sweep.rt:36:15
 mul-end : tie.Need-mul-end
 mul-end c = search needs
 
--- src/sweep.rt:36:15
 add-end : tie.Need-add-end
 add-end c = search needs
 
--- src/sweep.rt:37:59
 sub-find-regions : tie.Need-sub-find-regions
 sub-find-regions c = search needs
 
--- src/sweep.rt:37:59
 part-find-regions-start : tie.Need-part-find-regions-start
 part-find-regions-start c = search needs
 
--- src/sweep.rt:37:59
 part-find-regions-end : tie.Need-part-find-regions-end
 part-find-regions-end c = subst (λ (l : List Float). c .before .how-many .result ≤ length l) (sym (written (c .before .before .before .before .before .before .before .before .before .before) (c .before .before .before .before .limits .last .1 .1 .1 .1 .1 .0) (c .before .before .before .before .limits .ensures))) (limits-room (c .before .before .before .before .before .before .before .before .before .before .args .nyquist) (c .before .before .before .before .before .before .before .before .before .before .args .splits) (c .before .before .before .before .before .before .before .before .before .before .args .a) (c .before .before .before .before .before .before .before .before .before .before .args .b) (c .before .before .before .before .before .before .before .before .before .before .args .number) (c .before .before .before .before .before .before .before .before .before .before .args .gates) (c .before .before .before .before .before .before .before .before .before .before .args .velocity .now) (c .before .before .before .before .before .before .before .before .before .before .args .valid .now) (c .before .before .before .before .before .before .before .before .before .before .args .work .now) (c .before .before .before .before .before .before .before .before .before .before .pre .0) (c .before .before .before .before .before .before .before .before .before .before .args .limits .now) (c .before .how-many .result) (many (c .before .before .before .before .before .before .before .before .before .before) (c .before .how-many .result) (c .before .how-many .ensures)) (c .before .before .before .before .before .before .before .before .before .before .pre .1))
 
--- src/sweep.rt:37:74
 sub-find-regions-2 : tie.Need-sub-find-regions-2
 sub-find-regions-2 c = search needs
 
--- src/sweep.rt:37:74
 part-find-regions-start-2 : tie.Need-part-find-regions-start-2
 part-find-regions-start-2 c = search needs
 
--- src/sweep.rt:37:74
 part-find-regions-end-2 : tie.Need-part-find-regions-end-2
 part-find-regions-end-2 c = search needs
 
--- src/sweep.rt:37:5
 find-regions-requires : tie.Need-find-regions-requires
 find-regions-requires c κs = subst (λ (l : List Float). Sheet.Sweep (c .before .before .before .before .before .before .before .before .before .before .before .before .args .gates) (c .before .before .before .before .before .before .before .before .before .before .before .before .args .velocity .now) (c .before .before .before .before .before .before .before .before .before .before .before .before .args .valid .now) (take (c .before .before .before .how-many .result - 0) l) (take (3 * length (c .before .before .before .before .before .before .before .before .before .before .before .before .args .velocity .now) + 64 - 0) (c .before .before .before .before .before .before .before .before .before .before .before .before .args .work .now))) (sym (written (c .before .before .before .before .before .before .before .before .before .before .before .before) (c .before .before .before .before .before .before .limits .last .1 .1 .1 .1 .1 .0) (c .before .before .before .before .before .before .limits .ensures))) (regions-ask (c .before .before .before .before .before .before .before .before .before .before .before .before .args .nyquist) (c .before .before .before .before .before .before .before .before .before .before .before .before .args .splits) (c .before .before .before .before .before .before .before .before .before .before .before .before .args .a) (c .before .before .before .before .before .before .before .before .before .before .before .before .args .b) (c .before .before .before .before .before .before .before .before .before .before .before .before .args .number) (c .before .before .before .before .before .before .before .before .before .before .before .before .args .gates) (c .before .before .before .before .before .before .before .before .before .before .before .before .args .velocity .now) (c .before .before .before .before .before .before .before .before .before .before .before .before .args .valid .now) (c .before .before .before .before .before .before .before .before .before .before .before .before .args .work .now) (c .before .before .before .before .before .before .before .before .before .before .before .before .pre .0) (c .before .before .before .before .before .before .before .before .before .before .before .before .args .limits .now) (c .before .before .before .how-many .result) (many (c .before .before .before .before .before .before .before .before .before .before .before .before) (c .before .before .before .how-many .result) (c .before .before .before .how-many .ensures)))
 
--- src/sweep.rt:29:1
 same-length : tie.Need-same-length
 same-length c = search needs
 
--- src/sweep.rt:29:1
 same-length-2 : tie.Need-same-length-2
 same-length-2 c = search needs
 
--- src/sweep.rt:29:1
 returns : tie.Need-returns
 returns c = regions-left (c .before .before .before .before .before .before .before .before .before .before .before .before .before .before .before .args .nyquist) (c .before .before .before .before .before .before .before .before .before .before .before .before .before .before .before .args .splits) (c .before .before .before .before .before .before .before .before .before .before .before .before .before .before .before .args .a) (c .before .before .before .before .before .before .before .before .before .before .before .before .before .before .before .args .b) (c .before .before .before .before .before .before .before .before .before .before .before .before .before .before .before .args .number) (c .before .before .before .before .before .before .before .before .before .before .before .before .before .before .before .args .gates) (c .before .before .before .before .before .before .before .before .before .before .before .before .before .before .before .args .velocity .now) (c .before .before .before .before .before .before .before .before .before .before .before .before .before .before .before .args .valid .now) (c .before .before .before .before .before .before .before .before .before .before .before .before .before .before .before .args .work .now) (c .before .before .before .before .before .before .before .before .before .before .before .before .before .before .before .pre .0) (c .before .before .before .before .before .before .before .before .before .before .before .before .before .before .before .args .limits .now) (c .before .before .before .before .before .before .how-many .result) (many (c .before .before .before .before .before .before .before .before .before .before .before .before .before .before .before) (c .before .before .before .before .before .before .how-many .result) (c .before .before .before .before .before .before .how-many .ensures)) (c .before .before .find-regions .result) (c .before .before .find-regions .last .1 .1 .1 .1 .0) (take (c .before .before .before .before .before .before .how-many .result - 0) (c .before .before .before .before .before .before .before .before .before .limits .last .1 .1 .1 .1 .1 .0)) (ap (take (c .before .before .before .before .before .before .how-many .result - 0)) (written (c .before .before .before .before .before .before .before .before .before .before .before .before .before .before .before) (c .before .before .before .before .before .before .before .before .before .limits .last .1 .1 .1 .1 .1 .0) (c .before .before .before .before .before .before .before .before .before .limits .ensures))) (c .before .before .find-regions .ensures .0) (c .before .before .find-regions .ensures .1)
 

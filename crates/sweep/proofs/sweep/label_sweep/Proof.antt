@@ -1,3 +1,4 @@
+-- `sweep::sweep::label_sweep` meets its contract. Assumes nothing.
 use Rattle.sweep.proofs.LimitLaws.{limited-same}
 use Rattle.sweep.specs.Labelled.{Labelled}
 use Rattle.labels.specs.Regions.{regions}
@@ -8,17 +9,12 @@ use mir.Val.{toZ, ofZ}
 use mir.Syntax.{w32, w64}
 use native.Mathlib.Nat.{le-refl}
 use mathlib.Core.Path.{subst}
-use native.Mathlib.Omega.{arith}
-use mathlib.Core.Path.{_≡_, refl, sym, ap, _∙_}
-use mathlib.Core.List.{List, [], _∷_, _++_}
-use Prim.Native.Nat.{ℕ, zero, suc, _+_, _-_, _*_, _≤_, _<_}
-use lib.ListN.{length, getD, set, take, drop, replicate, length-set}
+use mathlib.Core.List.{List}
+use Prim.Native.Nat.{ℕ, _-_}
+use lib.ListN.{length}
 use borrow.Author.Needs.{needs}
 use Rattle.sweep.proofs.sweep.label_sweep.Statement.{statement}
 use Rattle.sweep.proofs.sweep.label_sweep.Tie as tie
-use Rattle.sweep.proofs.sweep.label_sweep.Reads as reads
-use Rattle.sweep.proofs.sweep.label_sweep.Lts as lts
-use Rattle.sweep.proofs.sweep.label_in.Reads as label-in-reads
 
 -- the plan's numbers and their words mean the same
 back : (s : tie.Start) (k : ℕ) (w : List ℕ)
@@ -30,19 +26,15 @@ back s k w h =
     (subst (λ (z : ℤ). Labelled (regions (t .gates) (t .velocity .now) (t .valid .now) (limitsOf (t .nyquist) (t .splits) (t .a) z (toZ w64 (ofZ w64 (t .number))))) (length (t .velocity .now)) k w) (toZ-ofZ w32 (t .b) (s .fits .b))
     (subst (λ (z : ℤ). Labelled (regions (t .gates) (t .velocity .now) (t .valid .now) (limitsOf (t .nyquist) (t .splits) z (toZ w32 (ofZ w32 (t .b))) (toZ w64 (ofZ w64 (t .number))))) (length (t .velocity .now)) k w) (toZ-ofZ w32 (t .a) (s .fits .a)) h))
 
--- src/sweep.rt:46:14
 slice-aggregate-label-in : tie.Need-slice-aggregate-label-in
 slice-aggregate-label-in c = search needs
 
--- src/sweep.rt:46:5
 label-in-requires : tie.Need-label-in-requires
 label-in-requires c κs = let s = c .before .before .before .before .before in let t = s .args in (limited-same (t .nyquist) (t .splits) (t .a) (t .b) (t .number) (toZ w32 (ofZ w32 (t .a))) (toZ w32 (ofZ w32 (t .b))) (toZ w64 (ofZ w64 (t .number))) (t .gates) (t .velocity .now) (t .valid .now) (length (t .work .now)) (toZ-ofZ w32 (t .a) (s .fits .a)) (toZ-ofZ w32 (t .b) (s .fits .b)) (toZ-ofZ w64 (t .number) (s .fits .number)) (s .pre), le-refl 10000)
 
--- src/sweep.rt:41:1
 same-length : tie.Need-same-length
 same-length c = search needs
 
--- src/sweep.rt:41:1
 returns : tie.Need-returns
 returns c = back (c .before .before .before .before .before .before .before .before .before) (c .before .before .before .label-in .result) (c .before .before .before .label-in .last .1 .1 .1 .1 .1 .1 .1 .1 .1 .0) (c .before .before .before .label-in .ensures)
 

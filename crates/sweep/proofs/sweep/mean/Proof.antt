@@ -1,5 +1,6 @@
+-- `sweep::sweep::mean` meets its contract. Assumes nothing.
 use Prim.Native.Nat.{ℕ, _*_}
-use mathlib.Core.Path.{_≡_, sym, ap, _∙_}
+use mathlib.Core.Path.{_≡_, ap, _∙_}
 use Rattle.arithmetic.specs.Rounding.{real}
 use lib.IntN.{ℤ, pos, subℕ, _-ℤ_}
 use lib.Ieee.{Float, binary64, div, ofInt}
@@ -10,58 +11,42 @@ use Rattle.sweep.proofs.SignedLaws.{total-fits, total-back, mean-whole,
 use borrow.Author.Needs.{needs}
 use Rattle.sweep.proofs.sweep.mean.Statement.{statement}
 use Rattle.sweep.proofs.sweep.mean.Tie as tie
-use Rattle.sweep.proofs.sweep.mean.Reads as reads
-use Rattle.sweep.proofs.sweep.mean.Lts as lts
-use Rattle.arithmetic.proofs.rounding.round_even.Reads as round-even-reads
-use Rattle.std.proofs.num.nearest_i64_to_f64.Reads as nearest-i64-to-f64-reads
-use Rattle.std.proofs.num.nearest_u64_to_f64.Reads as nearest-u64-to-f64-reads
 
 -- the quotient of the two floats is the mean's
 quotient : (x y : Float) (t z : ℤ) (g : ℕ) → x ≡ ofInt binary64 t → t ≡ z → y ≡ ofInt binary64 (pos g) → div binary64 x y ≡ div binary64 (real z) (real (pos g))
 unfolding real
 quotient x y t z g a b d = ap (λ (q : Float). div binary64 q y) (a ∙ ap (ofInt binary64) b) ∙ ap (λ (q : Float). div binary64 (ofInt binary64 z) q) d
 
--- src/sweep.rt:47:18
 cast-total : tie.Need-cast-total
 cast-total c = search needs
 
--- src/sweep.rt:47:37
 mul-total : tie.Need-mul-total
 mul-total c = search needs
 
--- src/sweep.rt:47:36
 cast-total-2 : tie.Need-cast-total-2
 cast-total-2 c = search needs
 
--- src/sweep.rt:47:17
 sub-total : tie.Need-sub-total
 sub-total c = total-fits (c .before .before .args .s .held) (c .before .before .args .s .gates) (c .before .before .pre .0) (c .before .before .pre .1)
 
--- src/sweep.rt:48:13
 nearest-i64-to-f64-requires : tie.Need-nearest-i64-to-f64-requires
 nearest-i64-to-f64-requires c κs = search needs
 
--- src/sweep.rt:48:51
 nearest-u64-to-f64-requires : tie.Need-nearest-u64-to-f64-requires
 nearest-u64-to-f64-requires c κs = search needs
 
--- src/sweep.rt:49:11
 round-even-requires : tie.Need-round-even-requires
 round-even-requires c κs = search needs
 
--- src/sweep.rt:50:46
 enum-known-z : tie.Need-enum-known-z
 enum-known-z c = search needs
 
--- src/sweep.rt:51:51
 enum-told : tie.Need-enum-told
 enum-told c = search needs
 
--- src/sweep.rt:43:1
 returns : tie.Need-returns
 returns c = let a = c .before .before .before .before .before .before .before .before .args .s in let f = c .before .before .before .round-even in let k = c .before .z .given in mean-whole (div binary64 (real (subℕ (a .held) (1000 * a .gates))) (real (pos (a .gates)))) (f .result) (k .0 .0) (f .ensures ∙ ap roundEven (quotient (c .before .before .before .before .before .nearest-i64-to-f64 .result) (c .before .before .before .before .nearest-u64-to-f64 .result) (toZ w64 (ofZ w64 (toZ w64 (a .held) -ℤ toZ w64 (1000 * a .gates)))) (subℕ (a .held) (1000 * a .gates)) (a .gates) (c .before .before .before .before .before .nearest-i64-to-f64 .ensures) (total-back (a .held) (a .gates) (c .before .before .before .before .before .before .before .before .pre .0) (c .before .before .before .before .before .before .before .before .pre .1)) (c .before .before .before .before .nearest-u64-to-f64 .ensures))) (k .1) (record { sfits = c .known-told .given .0 .1 })
 
--- src/sweep.rt:43:1
 returns-2 : tie.Need-returns-2
 returns-2 c = let a = c .before .before .before .before .before .before .before .args .s in let f = c .before .before .round-even in mean-none (div binary64 (real (subℕ (a .held) (1000 * a .gates))) (real (pos (a .gates)))) (f .result) (f .ensures ∙ ap roundEven (quotient (c .before .before .before .before .nearest-i64-to-f64 .result) (c .before .before .before .nearest-u64-to-f64 .result) (toZ w64 (ofZ w64 (toZ w64 (a .held) -ℤ toZ w64 (1000 * a .gates)))) (subℕ (a .held) (1000 * a .gates)) (a .gates) (c .before .before .before .before .nearest-i64-to-f64 .ensures) (total-back (a .held) (a .gates) (c .before .before .before .before .before .before .before .pre .0) (c .before .before .before .before .before .before .before .pre .1)) (c .before .before .before .nearest-u64-to-f64 .ensures))) (c .enum-told .given .1)
 

@@ -1,5 +1,5 @@
+-- `sweep::sweep::settle` meets its contract. Assumes nothing.
 use Rattle.sweep.proofs.FinishLaws.{writes-ask}
-use Rattle.sweep.specs.Finish.{offsetBy}
 use Rattle.sweep.specs.Sweep.{gateCount}
 use Rattle.network.specs.Reduce.{countsAt}
 use Rattle.network.specs.Steps.{unbias}
@@ -8,32 +8,22 @@ use lib.IntN.{ℤ}
 use mir.ValLaws.{toZ-ofZ}
 use mir.Val.{toZ, ofZ}
 use mir.Syntax.{w32}
-use native.Mathlib.Omega.{arith}
-use mathlib.Core.Path.{_≡_, refl, sym, ap, _∙_}
-use mathlib.Core.List.{List, [], _∷_, _++_}
-use Prim.Native.Nat.{ℕ, zero, suc, _+_, _-_, _*_, _≤_, _<_}
-use lib.ListN.{length, getD, set, take, drop, replicate, length-set}
+use mathlib.Core.Path.{ap, _∙_}
+use Prim.Native.Nat.{_+_, _-_}
+use lib.ListN.{length, getD}
 use borrow.Author.Needs.{needs}
 use Rattle.sweep.proofs.sweep.settle.Statement.{statement}
 use Rattle.sweep.proofs.sweep.settle.Tie as tie
-use Rattle.sweep.proofs.sweep.settle.Reads as reads
-use Rattle.sweep.proofs.sweep.settle.Lts as lts
-use Rattle.sweep.proofs.sweep.offset_of.Reads as offset-of-reads
-use Rattle.sweep.proofs.sweep.write_folds.Reads as write-folds-reads
 
--- src/sweep.rt:173:9
 offset-of-requires : tie.Need-offset-of-requires
 offset-of-requires c κs = search needs
 
--- src/sweep.rt:174:5
 write-folds-requires : tie.Need-write-folds-requires
 write-folds-requires c κs = let a = c .before .before .before .before .args in writes-ask (a .w .now) (a .n) (a .k) (a .centred) (a .valid .now) (length (a .folds .now)) (toZ w32 (ofZ w32 (c .before .offset-of .result))) (c .before .before .before .before .pre) (toZ-ofZ w32 (c .before .offset-of .result) (record { sfits = c .before .offset-of .ok }) ∙ c .before .offset-of .ensures)
 
--- src/sweep.rt:169:1
 same-length : tie.Need-same-length
 same-length c = search needs
 
--- src/sweep.rt:169:1
 returns : tie.Need-returns
 returns c = let a = c .before .before .before .before .before .before .args in let o = c .before .before .before .offset-of in c .before .write-folds .ensures ∙ ap (λ (z : ℤ). tabulate (a .n) (λ g. gateCount z (getD (a .valid .now) g 0) (unbias (getD (a .w .now) (countsAt (a .n) (a .k) + getD (a .w .now) g 0) 0)))) (toZ-ofZ w32 (o .result) (record { sfits = o .ok }) ∙ o .ensures)
 

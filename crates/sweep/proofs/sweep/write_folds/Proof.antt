@@ -1,24 +1,20 @@
-use borrow.Author.Needs.{needs}
+-- `sweep::sweep::write_folds` meets its contract. Assumes nothing.
 use mir.Val.{toZ, ofZ}
 use mir.Syntax.{w32}
 use mir.ValLaws.{toZ-ofZ}
 use Rattle.sweep.specs.Sweep.{gateCount}
 use Rattle.network.specs.Reduce.{countsAt}
 use Rattle.network.specs.Steps.{unbias}
-use lib.IntN.{ℤ, pos, natAbs}
-use Rattle.sweep.proofs.FillLaws.{fill-begin, fill-on, fill-all, clear-end}
+use lib.IntN.{ℤ, natAbs}
+use Rattle.sweep.proofs.FillLaws.{fill-begin, fill-on, fill-all}
 use Rattle.arithmetic.specs.Seg.{put}
 use Rattle.arithmetic.specs.Seq.{tabulate}
 use native.Mathlib.Omega.{arith}
 use mathlib.Core.Path.{_≡_, refl, sym, ap, _∙_, subst}
-use mathlib.Core.List.{List, [], _∷_, _++_}
-use Prim.Native.Nat.{ℕ, zero, suc, _+_, _-_, _*_, _≤_, _<_, _^_}
-use lib.ListN.{length, getD, set, take, drop, replicate, length-set}
+use Prim.Native.Nat.{_+_, _-_, _≤_, _^_}
+use lib.ListN.{length, getD, length-set}
 use Rattle.sweep.proofs.sweep.write_folds.Statement.{statement}
 use Rattle.sweep.proofs.sweep.write_folds.Tie as tie
-use Rattle.sweep.proofs.sweep.write_folds.Reads as reads
-use Rattle.sweep.proofs.sweep.write_folds.Lts as lts
-use Rattle.sweep.proofs.sweep.fold_of.Reads as fold-of-reads
 
 abbrev Inv-loop : tie.InvT-loop
 Inv-loop w n k valid offset folds₀ g₀ folds g = (g ≤ n) × ((folds ≡ put folds₀ 0 (tabulate g (λ g. gateCount (toZ w32 offset) (getD valid g 0) (unbias (getD w (countsAt n k + getD w g 0) 0))))) × (length folds ≡ length folds₀))
@@ -26,77 +22,59 @@ Inv-loop w n k valid offset folds₀ g₀ folds g = (g ≤ n) × ((folds ≡ put
 abbrev μ-loop : tie.MeasureT-loop
 μ-loop w n k valid offset folds₀ g₀ folds g = n - g
 
--- src/sweep.rt:72:5
 loop-holds : tie.Need-loop-holds Inv-loop μ-loop
 loop-holds c = (omega arith, (fill-begin (λ g. gateCount (toZ w32 (ofZ w32 (c .before .before .args .offset))) (getD (c .before .before .args .valid .now) g 0) (unbias (getD (c .before .before .args .w .now) (countsAt (c .before .before .args .n) (c .before .before .args .k) + getD (c .before .before .args .w .now) g 0) 0))) (c .before .before .args .folds .now), refl))
 
--- src/sweep.rt:73:17
 mul-l : tie.Need-mul-l Inv-loop μ-loop
 mul-l c = omega arith
 
--- src/sweep.rt:73:17
 shared-slice-read-l : tie.Need-shared-slice-read-l Inv-loop μ-loop
 shared-slice-read-l c = omega (arith, c .before .loop-test .taken, c .before .before .before .before .before .pre .room)
 
--- src/sweep.rt:73:17
 cast-l : tie.Need-cast-l Inv-loop μ-loop
 cast-l c = omega (arith, c .before .before .before .before .before .pre .label (c .before .before .loop .g) (c .before .loop-test .taken), c .before .before .before .before .before .pre .room)
 
--- src/sweep.rt:74:24
 add-c : tie.Need-add-c Inv-loop μ-loop
 add-c c = omega (arith, c .before .before .before .before .before .pre .room)
 
--- src/sweep.rt:74:19
 add-c-2 : tie.Need-add-c-2 Inv-loop μ-loop
 add-c-2 c = omega (arith, c .before .before .before .before .before .pre .room)
 
--- src/sweep.rt:74:19
 add-c-3 : tie.Need-add-c-3 Inv-loop μ-loop
 add-c-3 c = omega (arith, c .before .before .before .before .before .pre .label (c .before .before .loop .g) (c .before .loop-test .taken), c .before .before .before .before .before .pre .room)
 
--- src/sweep.rt:74:17
 mul-c : tie.Need-mul-c Inv-loop μ-loop
 mul-c c = omega (arith, c .before .before .before .before .before .pre .label (c .before .before .loop .g) (c .before .loop-test .taken), c .before .before .before .before .before .pre .room)
 
--- src/sweep.rt:74:17
 shared-slice-read-c : tie.Need-shared-slice-read-c Inv-loop μ-loop
 shared-slice-read-c c = omega (arith, c .before .before .before .before .before .before .pre .label (c .before .before .before .loop .g) (c .before .before .loop-test .taken), c .before .before .before .before .before .before .pre .room)
 
--- src/sweep.rt:75:28
 shared-slice-read-fold-of : tie.Need-shared-slice-read-fold-of Inv-loop μ-loop
 shared-slice-read-fold-of c = omega (arith, c .before .before .before .loop-test .taken, c .before .before .before .before .before .before .before .pre .masks)
 
--- src/sweep.rt:75:20
 fold-of-requires : tie.Need-fold-of-requires Inv-loop μ-loop
 unfolding countsAt
 fold-of-requires c κs = (c .before .before .before .before .before .before .before .pre .most (getD (c .before .before .before .before .before .before .before .args .w .now) (c .before .before .before .before .loop .g) 0) (c .before .before .before .before .before .before .before .pre .label (c .before .before .before .before .loop .g) (c .before .before .before .loop-test .taken)), subst (λ (z : ℤ). natAbs z ≤ 2 ^ 30) (sym (toZ-ofZ w32 (c .before .before .before .before .before .before .before .args .offset) (c .before .before .before .before .before .before .before .fits .offset))) (c .before .before .before .before .before .before .before .pre .near))
 
--- src/sweep.rt:75:9
 mul-t11 : tie.Need-mul-t11 Inv-loop μ-loop
 mul-t11 c = omega arith
 
--- src/sweep.rt:75:9
 slice-set-from-folds : tie.Need-slice-set-from-folds Inv-loop μ-loop
 slice-set-from-folds c = omega (arith, c .before .before .before .before .loop-test .taken, c .before .before .before .before .before .before .before .before .pre .counts, c .before .before .before .before .before .loop .inv .1 .1)
 
--- src/sweep.rt:76:9
 add-g : tie.Need-add-g Inv-loop μ-loop
 add-g c = omega (arith, c .before .before .before .before .loop-test .taken, c .before .before .before .before .before .before .before .before .pre .room)
 
--- src/sweep.rt:72:5
 loop-less : tie.Need-loop-less Inv-loop μ-loop
 loop-less c = omega (arith, c .before .before .before .before .loop-test .taken)
 
--- src/sweep.rt:72:5
 loop-again : tie.Need-loop-again Inv-loop μ-loop
 unfolding countsAt
 loop-again c = (omega (arith, c .before .before .before .before .loop-test .taken), (fill-on (λ g. gateCount (toZ w32 (ofZ w32 (c .before .before .before .before .before .before .before .before .args .offset))) (getD (c .before .before .before .before .before .before .before .before .args .valid .now) g 0) (unbias (getD (c .before .before .before .before .before .before .before .before .args .w .now) (countsAt (c .before .before .before .before .before .before .before .before .args .n) (c .before .before .before .before .before .before .before .before .args .k) + getD (c .before .before .before .before .before .before .before .before .args .w .now) g 0) 0))) (c .before .before .before .before .before .before .before .before .args .folds .now) (c .before .before .before .before .before .loop .folds) (c .before .before .before .before .before .loop .g) (toZ w32 (ofZ w32 (c .fold-of .result))) (c .before .before .before .before .before .loop .inv .1 .0) (toZ-ofZ w32 (c .fold-of .result) (record { sfits = c .fold-of .ok }) ∙ c .fold-of .ensures), simp length-set (c .before .before .before .before .before .loop .inv .1 .1)))
 
--- src/sweep.rt:67:1
 same-length : tie.Need-same-length Inv-loop μ-loop
 same-length c = c .before .loop .inv .1 .1
 
--- src/sweep.rt:67:1
 returns : tie.Need-returns Inv-loop μ-loop
 returns c = fill-all (λ g. gateCount (toZ w32 (ofZ w32 (c .before .before .before .before .args .offset))) (getD (c .before .before .before .before .args .valid .now) g 0) (unbias (getD (c .before .before .before .before .args .w .now) (countsAt (c .before .before .before .before .args .n) (c .before .before .before .before .args .k) + getD (c .before .before .before .before .args .w .now) g 0) 0))) (c .before .before .before .before .args .folds .now) (c .before .loop .folds) (c .before .loop .g) (c .before .before .before .before .args .n) (c .before .loop .inv .1 .0) (omega (arith, c .before .loop .inv .0, c .loop-test .left)) (c .before .before .before .before .pre .counts) ∙ ap (λ (z : ℤ). tabulate (c .before .before .before .before .args .n) (λ g. gateCount z (getD (c .before .before .before .before .args .valid .now) g 0) (unbias (getD (c .before .before .before .before .args .w .now) (countsAt (c .before .before .before .before .args .n) (c .before .before .before .before .args .k) + getD (c .before .before .before .before .args .w .now) g 0) 0)))) (toZ-ofZ w32 (c .before .before .before .before .args .offset) (c .before .before .before .before .fits .offset))
 
