@@ -1,4 +1,4 @@
--- The starred sweeps of document 01 as one list under one theorem: each call's answer number and all that is lent afterwards, computed.
+-- The starred sweeps of the scope document as one list under one theorem: each call's answer number and all that is lent afterwards, computed.
 use Prim.Native.Nat.{ℕ}
 use mathlib.Core.Path.{_≡_, refl}
 use mathlib.Core.List.{List, [], _∷_, _++_, map}

@@ -8,12 +8,12 @@ use lib.Dec.{eqb}
 use lib.IntN.{ℤ, pos, subℕ}
 use lib.ListN.{length, getD}
 use lib.Ieee.{Float, binary64, div}
-use borrow.Author.Tests.{eqb-true, ne-eqb}
+use borrow.Author.Tests.{eq-eqb, eqb-true, ne-eqb}
 use Rattle.arithmetic.specs.Rounding.{roundEven, real}
 use Rattle.arithmetic.specs.Seg.{seg}
 use Rattle.arithmetic.specs.Seq.{tabulate, keep}
 use Rattle.arithmetic.specs.Intervals.{folded}
-use Rattle.arithmetic.proofs.SeqLaws.{tab-at, tab-same}
+use Rattle.arithmetic.proofs.SeqLaws.{tab-at, tab-same, keep-same}
 use Rattle.arithmetic.proofs.SegLaws.{getD-seg, length-seg}
 use Rattle.network.specs.Network.{State, sizeIn, replay, merges, countOf}
 use Rattle.network.specs.Edges.{pairs, used}
@@ -28,7 +28,7 @@ use Rattle.sweep.specs.Checks.{asked9}
 use Rattle.sweep.specs.Call.{ending}
 use Rattle.sweep.specs.Mean.{sumFrom, sizeAt, heldAt}
 use Rattle.sweep.specs.Finish.{offsetBy, countsBy, Finishes, Merges, lent, merged, framed}
-use Rattle.sweep.proofs.MergeNumber.{merges-most}
+use Rattle.sweep.proofs.MergeNumber.{merges-most, parts-few}
 use Rattle.sweep.proofs.MeanLaws.{weighed-is, gates-is, last-labels, last-sizes}
 
 -- ---- sums
@@ -38,58 +38,16 @@ unfolding sumFrom
 sum-same f g i zero h = refl
 sum-same f g i (suc k) h = ap (λ (x : ℕ). x + sumFrom f (suc i) k) (h i (omega arith) (omega arith)) ∙ ap (λ (x : ℕ). g i + x) (sum-same f g (suc i) k (λ j p q. h j (omega arith) (omega arith)))
 
--- one gate is in at most one region
-own-gate : ℕ → ℕ → ℕ
-own-gate x l = cond (eqb l x) 1 0
-
-own-none : (x i k : ℕ) → x < i → sumFrom (own-gate x) i k ≡ 0
-unfolding sumFrom own-gate
-own-none x i zero h = refl
-own-none x i (suc k) h =
-    go (own-none x (suc i) k (omega arith)) (ap (λ (b : Bool). cond {A = ℕ} b 1 0) (ne-eqb i x (λ e. omega arith)))
-  where
-    go : {a b : ℕ} → b ≡ 0 → a ≡ 0 → a + b ≡ 0
-    go p q = omega arith
-
-own-once : (x i k : ℕ) → sumFrom (own-gate x) i k ≤ 1
-unfolding sumFrom
-own-once x i zero = omega arith
-own-once x i (suc k) = go (eqb i x) refl (own-once x (suc i) k)
-  where
-    here : (b : Bool) → eqb i x ≡ b → own-gate x i ≡ cond b 1 0
-    here b e = unfold own-gate in ap (λ (y : Bool). cond y 1 0) e
-
-    go : (b : Bool) → eqb i x ≡ b → sumFrom (own-gate x) (suc i) k ≤ 1 → own-gate x i + sumFrom (own-gate x) (suc i) k ≤ 1
-    go true e ih = let q : i ≡ x = eqb-true i x e in omega (arith, here true e, own-none x (suc i) k (omega arith))
-    go false e ih = omega (arith, here false e, ih)
-
-sum-two : (f g h : ℕ → ℕ) (i k : ℕ) → ((j : ℕ) → h j ≡ f j + g j) → sumFrom h i k ≡ sumFrom f i k + sumFrom g i k
-unfolding sumFrom
-sum-two f g h i zero e = refl
-sum-two f g h i (suc k) e = omega (arith, e i, sum-two f g h (suc i) k e)
-
-size-first : (x : ℕ) (L : List ℕ) (l : ℕ) → sizeIn (x ∷ L) l ≡ own-gate x l + sizeIn L l
-unfolding sizeIn keep own-gate
-size-first x L l = go (eqb l x)
-  where
-    go : (b : Bool) → length (cond b (x ∷ keep (eqb l) L) (keep (eqb l) L)) ≡ cond b 1 0 + length (keep (eqb l) L)
-    go true = omega arith
-    go false = omega arith
-
 -- regions hold no more gates than there are
 sizes-few : (L : List ℕ) (i k : ℕ) → sumFrom (sizeIn L) i k ≤ length L
-sizes-few [] i k = omega (arith, nothing i k)
+sizes-few L i k = omega (arith, sum-same (sizeIn L) (λ l. length (keep (λ (x : ℕ). eqb x l) L)) i k (λ j p q. size-is j), parts-few (λ (x : ℕ). x) L i k)
   where
-    nil : (i : ℕ) → sizeIn [] i ≡ 0
-    nil i = unfold sizeIn keep in refl
+    turned : (l x : ℕ) (b : Bool) → eqb x l ≡ b → eqb l x ≡ b
+    turned l x true e = eq-eqb l x (sym (eqb-true x l e))
+    turned l x false e = ne-eqb l x (λ q. true≢false (sym (eq-eqb x l (sym q)) ∙ e))
 
-    both : (i k : ℕ) → sizeIn [] i ≡ 0 → sumFrom (sizeIn []) (suc i) k ≡ 0 → sumFrom (sizeIn []) i (suc k) ≡ 0
-    both i k a b = unfold sumFrom in omega arith
-
-    nothing : (i k : ℕ) → sumFrom (sizeIn []) i k ≡ 0
-    nothing i zero = unfold sumFrom in refl
-    nothing i (suc k) = both i k (nil i) (nothing (suc i) k)
-sizes-few (x ∷ L) i k = omega (arith, sum-two (own-gate x) (sizeIn L) (sizeIn (x ∷ L)) i k (size-first x L), own-once x i k, sizes-few L i k)
+    size-is : (l : ℕ) → sizeIn L l ≡ length (keep (λ (x : ℕ). eqb x l) L)
+    size-is l = unfold sizeIn in ap length (keep-same (eqb l) (λ (x : ℕ). eqb x l) L (λ x. turned l x (eqb x l) refl))
 
 -- ---- the answer of the run
 
