@@ -8,6 +8,7 @@ use lib.Ieee.{nan, binary32, fits, Float}
 use lib.ListN.{length, getD}
 use Rattle.network.specs.Network.{Region, State}
 use Rattle.network.specs.Mem.{Mem, view, Room, total, enext-set, rnext-set, elen-set, rlen-set, count-set}
+use Rattle.network.specs.Layout.{tableWords}
 use Rattle.network.specs.Net.{rows, edgeOf}
 use Rattle.network.specs.Rep.{Rep, gatesOf}
 use Rattle.network.specs.Settle.{settle}
@@ -48,7 +49,7 @@ rawNet m n s = record { edges = rows (edgeOf s) 0 m; regions = rows (rawRegion s
 
 -- the words hold all tables
 pub record Space (m n : ℕ) (w : List ℕ) (d : List Float) : Type 0 where
-  pub words : 7 * m + 7 * n ≤ length w
+  pub words : tableWords m n ≤ length w
   pub diffs : m ≤ length d
   pub small : 2 * m + n < 2 ^ 32
 

@@ -1,5 +1,4 @@
--- The pairs as gates, those alone whose first label is the greater, and where they lie: labels in the first n words, the gates in the
--- 4n after, the gates that they see in the 4n after those. Definitions only.
+-- The pairs as gates, those alone whose first label is the greater, in the places that Layout gives them. Definitions only.
 use Prim.Native.Nat.{ℕ, _+_, _*_, _≤_, _<_, _^_}
 use mathlib.Core.Path.{_≡_}
 use mathlib.Core.Bool.{Bool, cond}
@@ -11,6 +10,7 @@ use lib.Ieee.{Float, nan}
 use Rattle.arithmetic.specs.Seq.{upto, each}
 use Rattle.network.specs.Edges.{Shape, left, right, top, bottom, sees, Pair}
 use Rattle.arithmetic.specs.Seg.{put}
+use Rattle.network.specs.Layout.{gateAt, farAt, orderAt}
 use Rattle.network.specs.declared.edges.Frame.{Frame}
 
 -- a gate and the gate that it sees
@@ -43,7 +43,7 @@ greater p = ltb (p .two) (p .one)
 
 -- the memory with these as pairs c, c + 1, ..
 unfoldable pub stored : List ℕ → ℕ → ℕ → List GatePair → List ℕ
-stored w n c ts = put (put w (n + c) (map (λ (t : GatePair). t .gate) ts)) (5 * n + c) (map (λ (t : GatePair). t .far) ts)
+stored w n c ts = put (put w (gateAt n + c) (map (λ (t : GatePair). t .gate) ts)) (farAt n + c) (map (λ (t : GatePair). t .far) ts)
 
 -- from c pairs to e: these were added
 pub record Adds (n : ℕ) (w v : List ℕ) (c e : ℕ) (ts : List GatePair) : Type 0 where
@@ -53,13 +53,13 @@ pub record Adds (n : ℕ) (w v : List ℕ) (c e : ℕ) (ts : List GatePair) : Ty
 -- the words hold labels and pairs
 pub record Sheet (f : Frame) (n : ℕ) (w : List ℕ) : Type 0 where
   pub whole : n ≡ f .rays * f .gates
-  pub room : 9 * n ≤ length w
+  pub room : orderAt n ≤ length w
   pub small : n < 2 ^ 32
 
 -- the same, with a gate and room for k more pairs
 pub record Place (f : Frame) (n : ℕ) (w : List ℕ) (g c k : ℕ) : Type 0 where
   pub whole : n ≡ f .rays * f .gates
-  pub room : 9 * n ≤ length w
+  pub room : orderAt n ≤ length w
   pub small : n < 2 ^ 32
   pub inside : g < n
   pub place : c + k ≤ 4 * n

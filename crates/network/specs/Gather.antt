@@ -1,5 +1,4 @@
--- Sorted pairs read back, and runs of them gathered into tables: weights from t on, first ends from t + 3c, second ends from t + 4c,
--- differences from 0 in their own slice. Definitions only.
+-- Sorted pairs read back, and runs of them gathered as c edges into the tables from t on, where Layout puts them. Definitions only.
 use Prim.Native.Nat.{ℕ, _+_, _-_, _*_, _≤_, _<_, _^_}
 use mathlib.Core.Path.{_≡_}
 use mathlib.Core.Bool.{true, false}
@@ -11,6 +10,7 @@ use Rattle.arithmetic.specs.Rounding.{narrowed}
 use Rattle.arithmetic.specs.Seg.{seg, put}
 use Rattle.network.specs.Edges.{Pair, begun, plus}
 use Rattle.network.specs.GatePairs.{both, pairOf}
+use Rattle.network.specs.Layout.{gateAt, farAt, orderAt, firstAt, secondAt, enextAt}
 use Rattle.network.specs.Order.{alike, runs}
 use Rattle.network.specs.declared.edges.Raw.{Raw}
 use Rattle.network.specs.declared.edges.Sums.{Sums}
@@ -24,7 +24,7 @@ recordIs s = record { one = s .one; two = s .two; count = s .count; sum1 = s .su
 
 -- the i-th of the sorted pairs
 unfoldable pub pairAt : List ℕ → List Float → ℕ → ℕ → Pair
-pairAt w vel n i = pairOf (seg w 0 n) vel (both (getD w (n + getD w (9 * n + i) 0) 0) (getD w (5 * n + getD w (9 * n + i) 0) 0))
+pairAt w vel n i = pairOf (seg w 0 n) vel (both (getD w (gateAt n + getD w (orderAt n + i) 0) 0) (getD w (farAt n + getD w (orderAt n + i) 0) 0))
 
 -- those from i on
 unfoldable pub later : List ℕ → List Float → ℕ → ℕ → ℕ → List Pair
@@ -32,30 +32,30 @@ later w vel n m i = map (pairAt w vel n) (upto (m - i) i)
 
 -- what reading them asks
 pub record Ready (w : List ℕ) (vel : List Float) (n m : ℕ) : Type 0 where
-  pub room : 9 * n + m ≤ length w
+  pub room : orderAt n + m ≤ length w
   pub few : m ≤ 4 * n
   pub small : m < 2 ^ 32
   pub little : n < 2 ^ 32
   pub vels : length vel ≡ n
-  pub index : (i : ℕ) → i < m → getD w (9 * n + i) 0 < m
-  pub gate : (x : ℕ) → x < m → getD w (n + x) 0 < n
-  pub far : (x : ℕ) → x < m → getD w (5 * n + x) 0 < n
+  pub index : (i : ℕ) → i < m → getD w (orderAt n + i) 0 < m
+  pub gate : (x : ℕ) → x < m → getD w (gateAt n + x) 0 < n
+  pub far : (x : ℕ) → x < m → getD w (farAt n + x) 0 < n
 
 unfoldable pub diffOf : Float → EdgeRecord → Float
 diffOf wide r = narrowed (div binary64 (sub binary64 (r .sum1) (r .sum2)) wide)
 
 -- edge e written
 unfoldable pub written : List ℕ → ℕ → ℕ → ℕ → EdgeRecord → List ℕ
-written w t c e r = set (set (set w (t + e) (r .count)) (t + 3 * c + e) (r .one)) (t + 4 * c + e) (r .two)
+written w t c e r = set (set (set w (t + e) (r .count)) (t + firstAt c + e) (r .one)) (t + secondAt c + e) (r .two)
 
 -- edges 0, 1, .. written
 unfoldable pub tables : List ℕ → ℕ → ℕ → List EdgeRecord → List ℕ
-tables w t c rs = put (put (put w t (map (λ r. r .count) rs)) (t + 3 * c) (map (λ r. r .one) rs)) (t + 4 * c) (map (λ r. r .two) rs)
+tables w t c rs = put (put (put w t (map (λ r. r .count) rs)) (t + firstAt c) (map (λ r. r .one) rs)) (t + secondAt c) (map (λ r. r .two) rs)
 
 -- room for edge e
 pub record Slot (w : List ℕ) (d : List Float) (n m t c e : ℕ) : Type 0 where
-  pub above : 9 * n + m ≤ t
-  pub words : t + 5 * c ≤ length w
+  pub above : orderAt n + m ≤ t
+  pub words : t + enextAt c ≤ length w
   pub diffs : c ≤ length d
   pub place : e < c
 
@@ -67,8 +67,8 @@ pub record Turned (wide : Float) (t c : ℕ) (p : Pair) (s r : Sums) (w v : List
 -- what gathering asks: room for all runs
 pub record Gathers (w : List ℕ) (d vel : List Float) (n m t c : ℕ) : Type 0 where
   pub ready : Ready w vel n m
-  pub above : 9 * n + m ≤ t
-  pub words : t + 5 * c ≤ length w
+  pub above : orderAt n + m ≤ t
+  pub words : t + enextAt c ≤ length w
   pub diffs : c ≤ length d
   pub fits : length (runs (later w vel n m 0)) ≤ c
 

@@ -2,6 +2,7 @@ pub mod Edges
 pub mod Network
 pub mod Simple
 pub mod Sizes
+pub mod Layout
 pub mod Sees
 pub mod GatePairs
 pub mod Order

@@ -1,4 +1,4 @@
--- The tables of the merging code as lists, and where each lies in the lent words. Definitions only.
+-- The tables of the merging code as lists; Layout says where each lies in the lent words. Definitions only.
 use mathlib.Core.Path.{_≡_}
 use mathlib.Core.List.{List, [], _∷_}
 use Prim.Native.Nat.{ℕ, _+_, _*_, _≤_, _<_, _^_}
@@ -7,6 +7,7 @@ use lib.Ieee.{binary32, fits, nan, Float}
 use lib.ListN.{length, getD, set}
 use Rattle.arithmetic.specs.Seg.{seg}
 use Rattle.memory.specs.Tree.{Tree}
+use Rattle.network.specs.Layout.{weightAt, firstAt, secondAt, enextAt, rnextAt, markAt, nodeSizeAt, elenAt, rlenAt, nodeCountAt, tableWords}
 
 pub record Mem : Type 0 where
   pub weight : List ℕ
@@ -24,22 +25,22 @@ pub record Mem : Type 0 where
 -- m edges, n regions
 unfoldable pub view : ℕ → ℕ → List ℕ → List Float → Mem
 view m n w d = record {
-  weight = seg w (0) (m);
-  first = seg w (3 * m) (m);
-  second = seg w (4 * m) (m);
-  enext = seg w (5 * m) (2 * m + n);
-  rnext = seg w (7 * m + n) (n);
-  mark = seg w (7 * m + 2 * n) (n);
-  size = seg w (7 * m + 3 * n) (n);
-  elen = seg w (7 * m + 4 * n) (n);
-  rlen = seg w (7 * m + 5 * n) (n);
-  count = seg w (7 * m + 6 * n) (n);
+  weight = seg w weightAt m;
+  first = seg w (firstAt m) m;
+  second = seg w (secondAt m) m;
+  enext = seg w (enextAt m) (2 * m + n);
+  rnext = seg w (rnextAt m n) n;
+  mark = seg w (markAt m n) n;
+  size = seg w (nodeSizeAt m n) n;
+  elen = seg w (elenAt m n) n;
+  rlen = seg w (rlenAt m n) n;
+  count = seg w (nodeCountAt m n) n;
   diff = d;
 }
 
 -- the words hold all tables
 pub record Room (m n : ℕ) (w : List ℕ) (d : List Float) : Type 0 where
-  pub words : 7 * m + 7 * n ≤ length w
+  pub words : tableWords m n ≤ length w
   pub diffs : m ≤ length d
   pub small : 2 * m + n < 2 ^ 32
   pub tree : Tree m w

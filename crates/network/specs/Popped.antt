@@ -14,7 +14,7 @@ use Rattle.network.specs.Rep.{Rep}
 use Rattle.network.specs.declared.network.Popped.{Popped}
 use Rattle.network.specs.declared.network.Popped.the-variants.{Edge as Taken, Nothing}
 
--- document 01's choice: the ends, the difference divided by the weight in f64, and the number of the edge chosen, or none live
+-- the scope document's choice: the ends, the difference divided by the weight in f64, and the number of the edge chosen, or none live
 unfoldable pub popped : Option Edge → Popped
 popped none = Nothing
 popped (some e) = Taken (record { node1 = e .first; node2 = e .second; diff = div binary64 (e .diff) (real (pos (e .weight))); «edge_number» = e .num })

@@ -1,4 +1,4 @@
--- From labels to the counts of all regions: the layout of the work memory, what it asks, and what it leaves. Definitions only.
+-- From labels to the counts of all regions: what it asks, and what it leaves. Definitions only.
 use Prim.Native.Nat.{ℕ, _+_, _*_, _≤_, _<_}
 use mathlib.Core.Path.{_≡_}
 use mathlib.Core.Bool.{Bool, true, false}
@@ -10,24 +10,10 @@ use Rattle.arithmetic.specs.Seg.{seg}
 use Rattle.network.specs.Edges.{Shape, pairs, used}
 use Rattle.network.specs.Network.{State, start, sizeIn, merges, trace, replay, inRange, countOf}
 use Rattle.network.specs.Steps.{unbias}
+use Rattle.network.specs.Layout.{sizesAt, countsAt}
 use Rattle.network.specs.declared.edges.Frame.{Frame}
 use Rattle.network.specs.declared.network.Ran.{Ran}
 use Rattle.network.specs.declared.network.Ran.the-variants.{Settled, Denied}
-
--- ---- the layout, for n gates and k regions: labels from 0, sizes of labels 0 to k, their counts (with 1,000 added), and the tables of
--- edges and nodes. Before the tables are filled, the pairs and their sort lie from n on.
-
--- where the sizes begin
-unfoldable pub sizesAt : ℕ → ℕ
-sizesAt n = n
-
--- where the counts begin
-unfoldable pub countsAt : ℕ → ℕ → ℕ
-countsAt n k = n + (k + 1)
-
--- where the tables of edges and nodes begin
-unfoldable pub tablesAt : ℕ → ℕ
-tablesAt n = 13 * n
 
 -- the network of labelled gates, k being the number of regions and wide 2 × Nyquist
 unfoldable pub networkBy : Float → Shape → ℕ → List ℕ → List Float → State

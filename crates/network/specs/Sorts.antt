@@ -1,4 +1,4 @@
--- The stored pairs sorted: their numbers, a spare part, first labels, second labels, counts, from 9n on. Definitions only.
+-- The stored pairs sorted, in the places that Layout gives them. Definitions only.
 use Prim.Native.Nat.{ℕ, _+_, _*_, _≤_, _<_, _^_}
 use mathlib.Core.Path.{_≡_}
 use mathlib.Core.List.{List, map}
@@ -6,6 +6,7 @@ use lib.ListN.{length, getD}
 use Rattle.arithmetic.specs.Seq.{upto}
 use Rattle.arithmetic.specs.Seg.{seg}
 use Rattle.memory.specs.Sort.{sorted}
+use Rattle.network.specs.Layout.{gateAt, farAt, orderAt, tallyAt}
 
 -- the labels of the m gates from src on
 unfoldable pub labelsOf : List ℕ → ℕ → ℕ → List ℕ
@@ -20,14 +21,14 @@ pub record Reads (w : List ℕ) (n src m dst : ℕ) : Type 0 where
 
 -- what the sort asks: m pairs of gates below n, with labels below k
 pub record Sorts (w : List ℕ) (n m k : ℕ) : Type 0 where
-  pub room : 9 * n + m + m + m + m + k ≤ length w
+  pub room : tallyAt n m + k ≤ length w
   pub few : m ≤ 4 * n
   pub small : m < 2 ^ 32
-  pub gate : (i : ℕ) → i < m → getD w (n + i) 0 < n
-  pub far : (i : ℕ) → i < m → getD w (5 * n + i) 0 < n
+  pub gate : (i : ℕ) → i < m → getD w (gateAt n + i) 0 < n
+  pub far : (i : ℕ) → i < m → getD w (farAt n + i) 0 < n
   pub label : (j : ℕ) → j < n → getD w j 0 < k
 
 -- and gives
 pub record Sorted (w v : List ℕ) (n m k : ℕ) : Type 0 where
-  pub order : seg v (9 * n) m ≡ sorted (labelsOf w (5 * n) m) k (sorted (labelsOf w n m) k (upto m 0))
-  pub kept : (j : ℕ) → j < 9 * n → getD v j 0 ≡ getD w j 0
+  pub order : seg v (orderAt n) m ≡ sorted (labelsOf w (farAt n) m) k (sorted (labelsOf w (gateAt n) m) k (upto m 0))
+  pub kept : (j : ℕ) → j < orderAt n → getD v j 0 ≡ getD w j 0

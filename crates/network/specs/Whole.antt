@@ -7,6 +7,7 @@ use lib.Ieee.{Float}
 use Rattle.arithmetic.specs.Seg.{seg}
 use Rattle.network.specs.declared.edges.Frame.{Frame}
 use Rattle.network.specs.Gather.{diffOf}
+use Rattle.network.specs.Layout.{orderAt, tallyAt, firstAt, secondAt, enextAt}
 use Rattle.network.specs.Order.{weigh}
 use Rattle.network.specs.declared.edges.EdgeRecord.{EdgeRecord}
 
@@ -16,18 +17,18 @@ pub record Asked (f : Frame) (w : List ℕ) (d vel : List Float) (n k t : ℕ) :
   pub small : 4 * n < 2 ^ 32
   pub vels : length vel ≡ n
   pub label : (j : ℕ) → j < n → getD w j 0 ≤ k
-  pub scratch : 25 * n + k + 1 ≤ length w
-  pub above : 13 * n ≤ t
-  pub words : t + 20 * n ≤ length w
+  pub scratch : tallyAt n (4 * n) + k + 1 ≤ length w
+  pub above : orderAt n + 4 * n ≤ t
+  pub words : t + enextAt (4 * n) ≤ length w
   pub diffs : 4 * n ≤ length d
 
--- the tables from t on hold these records as e edges: weights, a gap of 2e words, first ends, second ends; the labels are as they were
+-- the tables from t on hold these records as e edges; the labels are as they were
 pub record Edged (wide : Float) (n : ℕ) (u v : List ℕ) (b : List Float) (t e : ℕ) (rs : List EdgeRecord) : Type 0 where
   pub count : e ≡ length rs
   pub few : e ≤ 4 * n
   pub light : weigh rs ≤ 4 * n
   pub weight : seg v t e ≡ map (λ r. r .count) rs
-  pub first : seg v (t + 3 * e) e ≡ map (λ r. r .one) rs
-  pub second : seg v (t + 4 * e) e ≡ map (λ r. r .two) rs
+  pub first : seg v (t + firstAt e) e ≡ map (λ r. r .one) rs
+  pub second : seg v (t + secondAt e) e ≡ map (λ r. r .two) rs
   pub diff : seg b 0 e ≡ map (diffOf wide) rs
   pub labels : seg v 0 n ≡ seg u 0 n

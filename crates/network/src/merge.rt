@@ -1,4 +1,4 @@
-// One merge of the network, over lent words and lent differences. specs/Mem.antt says where each table lies, specs/Steps.antt what each
+// One merge of the network, over lent words and lent differences. specs/Layout.antt says where each table lies, specs/Steps.antt what each
 // function does to the tables.
 ghost use mathlib.Core.Path.{_≡_};
 ghost use mathlib.Core.Bool.{Bool};
@@ -53,8 +53,8 @@ fn shift_up(d: f64, w: u32, g: u32) -> f64
     if g == 1000 {
         return d;
     }
-    let k = scaled(w, g);
-    plus(d, k)
+    let gain = scaled(w, g);
+    plus(d, gain)
 }
 
 fn shift_down(d: f64, w: u32, g: u32) -> f64

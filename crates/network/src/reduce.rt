@@ -1,4 +1,4 @@
-// From labels to the counts of all regions: edges, sizes and all merges, over one layout of the work memory (specs/Reduce.antt).
+// From labels to the counts of all regions: edges, sizes and all merges, over one layout of the work memory (specs/Layout.antt).
 ghost use Rattle.arithmetic.specs.Seg.{seg};
 ghost use Rattle.network.specs.Sees.{shape};
 ghost use Rattle.network.specs.Reduce.{networkBy, Reduces, Reduced};

@@ -18,7 +18,8 @@ use Rattle.arithmetic.proofs.SegLaws.{getD-seg, length-seg}
 use Rattle.network.specs.Network.{State, sizeIn, replay, merges, countOf}
 use Rattle.network.specs.Edges.{pairs, used}
 use Rattle.network.specs.Steps.{unbias}
-use Rattle.network.specs.Reduce.{sizesAt, countsAt, networkBy, goodBy, Reduced}
+use Rattle.network.specs.Layout.{sizesAt, countsAt}
+use Rattle.network.specs.Reduce.{networkBy, goodBy, Reduced}
 use Rattle.network.specs.Sees.{shape}
 use Rattle.network.specs.declared.edges.Frame.{Frame}
 use Rattle.network.specs.declared.network.Ran.{Ran}

@@ -16,7 +16,8 @@ use Rattle.arithmetic.specs.Seg.{seg}
 use Rattle.arithmetic.specs.Intervals.{folded, limitsOf}
 use Rattle.labels.specs.Regions.{regions}
 use Rattle.labels.specs.Label.{Found}
-use Rattle.network.specs.Reduce.{countsAt, Reduces, networkBy}
+use Rattle.network.specs.Layout.{countsAt}
+use Rattle.network.specs.Reduce.{Reduces, networkBy}
 use Rattle.network.specs.Sees.{shape}
 use Rattle.network.specs.declared.edges.Frame.{Frame}
 use Rattle.sweep.specs.Sweep.{Sweep, orZero, gateCount, finished, unfoldedBy}

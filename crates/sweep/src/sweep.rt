@@ -7,7 +7,7 @@ ghost use lib.Ieee.{binary64, div};
 ghost use Rattle.arithmetic.specs.Seq.{tabulate};
 ghost use Rattle.arithmetic.specs.Rounding.{roundEven, real};
 ghost use Rattle.network.specs.Steps.{unbias};
-ghost use Rattle.network.specs.Reduce.{countsAt};
+ghost use Rattle.network.specs.Layout.{countsAt};
 ghost use Rattle.sweep.specs.Sweep.{orZero, gateCount};
 ghost use Rattle.sweep.specs.Mean.{sumFrom, sizeAt, heldAt, Tabled, Writes};
 ghost use Rattle.sweep.specs.Call.{cleared};

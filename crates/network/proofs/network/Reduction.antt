@@ -22,7 +22,8 @@ use Rattle.network.specs.Sizes.{Sizes}
 use Rattle.network.specs.Mem.{view}
 use Rattle.network.specs.Steps.{unbias}
 use Rattle.network.specs.Begin.{Space, Raw, AllIs}
-use Rattle.network.specs.Reduce.{sizesAt, countsAt, networkBy, goodBy, Reduces, Reduced}
+use Rattle.network.specs.Layout.{sizesAt, countsAt}
+use Rattle.network.specs.Reduce.{networkBy, goodBy, Reduces, Reduced}
 use Rattle.network.specs.declared.edges.Frame.{Frame}
 use Rattle.network.specs.declared.network.Ran.{Ran}
 use Rattle.network.proofs.network.Joint.{Filled, raw}

@@ -3,7 +3,7 @@ use mir.Val.{toZ, ofZ}
 use mir.Syntax.{w32}
 use mir.ValLaws.{toZ-ofZ}
 use Rattle.sweep.specs.Sweep.{gateCount}
-use Rattle.network.specs.Reduce.{countsAt}
+use Rattle.network.specs.Layout.{countsAt}
 use Rattle.network.specs.Steps.{unbias}
 use lib.IntN.{ℤ, natAbs}
 use Rattle.sweep.proofs.FillLaws.{fill-begin, fill-on, fill-all}
