@@ -15,7 +15,7 @@ use lib.Ieee.Order.{round-mono, drop}
 use lib.Ieee.Nearest.{closest}
 use lib.Ieee.Positive.{first-pos}
 use lib.Ieee.Scale.{round-same}
-use Rattle.arithmetic.proofs.RangeLaws.{le-leb}
+use Rattle.arithmetic.proofs.RangeLaws.{le-leb, eqb-sym}
 use Rattle.arithmetic.proofs.RoundLaws.{neg-round, round-unit}
 
 -- ---- ±a is plus s a - minus s a
@@ -68,15 +68,6 @@ or-l false b t = absurd t
 or-r : (a b : Bool) → T b → T (a || b)
 or-r true b t = tt
 or-r false b t = t
-
-eqb-sym : (a b : ℕ) → eqb a b ≡ eqb b a
-eqb-sym a b = go (eqb a b) (eqb b a) (λ (t : T (eqb a b)). subst (λ (x : ℕ). T (eqb x a)) (eqb→eq a b t) (eqb-refl a)) (λ (t : T (eqb b a)). subst (λ (x : ℕ). T (eqb x b)) (eqb→eq b a t) (eqb-refl b))
-  where
-    go : (x y : Bool) → (T x → T y) → (T y → T x) → x ≡ y
-    go true true f g = refl
-    go true false f g = absurd (f tt)
-    go false true f g = absurd (g tt)
-    go false false f g = refl
 
 both : (A B : ℕ) → A + B ≤ 0 → T (eqb A B && eqb A 0)
 both A B h =

@@ -3,7 +3,7 @@
 use Prim.Native.Nat.{ℕ, suc, _*_, _/_, _%_, _^_}
 use mathlib.Core.Bool.{Bool, true, false, cond}
 use lib.Dec.{eqb, leb}
-use lib.IntN.{ℤ, pos, negℤ}
+use lib.IntN.{ℤ, pos, negℤ, _*ℤ_}
 use lib.Ieee.{Float, nan, inf, fin, binary32, binary64, up, down, round, ofInt}
 use lib.Ieee.Nearest.{closest}
 use Rattle.arithmetic.specs.declared.rounding.Rounded.{Rounded}
@@ -59,3 +59,7 @@ narrowed (fin s m e) = round binary32 s (m * up e) (down e)
 -- a whole number in f64
 unfoldable pub real : ℤ → Float
 real z = ofInt binary64 z
+
+-- a weight times a number of folds, rounded to f32
+unfoldable pub scale : ℕ → ℤ → Float
+scale w k = ofInt binary32 (pos w *ℤ k)

@@ -1,3 +1,4 @@
 pub mod Sort
 pub mod TwoKeys
 pub mod Tree
+pub mod Layout

@@ -13,8 +13,8 @@ use Rattle.arithmetic.proofs.SeqLaws.{eqb-renamed, keep-and, keep-none, keep-sa
 use Rattle.labels.proofs.Spot.{trues, shift, flag, shift-rises, shift-inj, shifts-kept}
 use Rattle.labels.proofs.RootsEcho.{at}
 use Rattle.arithmetic.proofs.AllLaws.{all-each, all-keep}
-use Rattle.network.specs.Edges.{Shape, Direction, next, look, sees, Pair, begun, plus, gathered, firstIs, secondIs, recordsOf, records, greaterFirst, used}
-use Rattle.network.specs.declared.edges.EdgeRecord.{EdgeRecord}
+use Rattle.edges.specs.Edges.{Shape, Direction, next, look, sees, Pair, begun, plus, gathered, firstIs, secondIs, recordsOf, records, greaterFirst, used}
+use Rattle.edges.specs.declared.edges.EdgeRecord.{EdgeRecord}
 
 -- No gate of the echo sees one outside it, and none outside sees one of the echo.
 abbrev pub Apart : (ℕ → Bool) → Shape → List ℕ → Type 0

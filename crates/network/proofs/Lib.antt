@@ -2,15 +2,6 @@ pub mod Lists
 pub mod Restrict
 pub mod Ends
 pub mod Own
-pub mod Rename
-pub mod Embed
-pub mod Locality
-pub mod Accept
-pub mod Dead
-pub mod Once
 pub mod SimpleLaws
 pub mod Choice
 pub mod EdgesEcho
-pub mod PairsEcho
-pub mod StartEcho
-pub mod AcceptEcho

@@ -6,11 +6,11 @@ use lib.Dec.{T}
 use lib.IntN.{pos}
 use lib.Ieee.{nan, binary32, fits, Float}
 use lib.ListN.{length, getD}
-use Rattle.network.specs.Network.{Region, State}
-use Rattle.network.specs.Mem.{Mem, view, Room, total, enext-set, rnext-set, elen-set, rlen-set, count-set}
-use Rattle.network.specs.Layout.{tableWords}
+use Rattle.network.specs.Network.{Region, State, gatesOf}
+use Rattle.merge.specs.Mem.{Mem, view, Room, total, enext-set, rnext-set, elen-set, rlen-set, count-set}
+use Rattle.memory.specs.Layout.{tableWords}
 use Rattle.network.specs.Net.{rows, edgeOf}
-use Rattle.network.specs.Rep.{Rep, gatesOf}
+use Rattle.network.specs.Rep.{Rep}
 use Rattle.network.specs.Settle.{settle}
 use Rattle.network.specs.declared.network.Ran.{Ran}
 use Rattle.network.specs.TurnIs.{gatesIn, firstOf, RanIs}

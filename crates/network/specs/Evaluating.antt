@@ -1,8 +1,7 @@
 -- A mark that opens the definitions of this crate and of those below: `unfolding evaluating` under a signature lets antt compute them.
-use Rattle.network.specs.Edges
 use Rattle.network.specs.Network
-use Rattle.labels.specs.Evaluating as Below
+use Rattle.edges.specs.Evaluating as Below
 
 unfoldable pub evaluating : Unit {0}
-unfolding Below.evaluating Edges.next Edges.skip Edges.look Edges.sees Edges.pairTo Edges.pairsAt Edges.pairs Edges.begun Edges.plus Edges.gathered Edges.firstIs Edges.secondIs Edges.recordsOf Edges.records Edges.greaterFirst Edges.used Network.bounded Network.isZero Network.sizeOf Network.gather Network.members Network.raised Network.at Network.whole Network.quot Network.planFor Network.plan Network.kill Network.scale Network.shifted Network.adjust Network.turnIf Network.turn Network.link Network.find Network.absorb Network.absent Network.hand Network.combine Network.prepare Network.joinAll Network.mergeEdges Network.move Network.merge Network.stepTo Network.step Network.better Network.choose Network.follow Network.run Network.merges Network.replay Network.eventOf Network.event Network.trace Network.countOf Network.inRange Network.edgeOf Network.numbered Network.alone Network.sizeIn Network.start
+unfolding Below.evaluating Network.bounded Network.isZero Network.sizeOf Network.gatesOf Network.gather Network.members Network.raised Network.at Network.whole Network.quot Network.planFor Network.plan Network.kill Network.shifted Network.adjust Network.turnIf Network.turn Network.link Network.find Network.absorb Network.absent Network.hand Network.combine Network.prepare Network.joinAll Network.mergeEdges Network.move Network.merge Network.stepTo Network.step Network.better Network.choose Network.follow Network.run Network.merges Network.replay Network.eventOf Network.event Network.trace Network.countOf Network.inRange Network.edgeOf Network.numbered Network.alone Network.sizeIn Network.start
 evaluating = tt

@@ -7,8 +7,8 @@ use lib.Dec.{eqb}
 use lib.Ieee.{nan}
 use lib.ListN.{getD}
 use Rattle.network.specs.Network.{Edge, Region, State}
-use Rattle.network.specs.Mem.{Mem}
-use Rattle.network.specs.Steps.{unbias}
+use Rattle.merge.specs.Mem.{Mem}
+use Rattle.merge.specs.Steps.{unbias}
 
 -- f k, f (k + 1), .. of n numbers
 unfoldable pub rows : {A : Type 0} → (ℕ → A) → ℕ → ℕ → List A

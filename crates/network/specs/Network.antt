@@ -5,13 +5,13 @@ use mathlib.Core.Option.{Option, none, some}
 use Prim.Native.Nat.{ℕ, zero, suc, _+_}
 use lib.Dec.{leb, ltb, eqb}
 use lib.ListN.{length}
-use lib.IntN.{ℤ, pos, negsuc, _+ℤ_, _*ℤ_, negℤ}
-use lib.Ieee.{Float, binary32, binary64, add, sub, neg, div, ofInt}
+use lib.IntN.{ℤ, pos, negsuc, _+ℤ_, negℤ}
+use lib.Ieee.{Float, binary32, binary64, add, sub, neg, div}
 use Rattle.arithmetic.specs.Seq.{all, keep}
-use Rattle.arithmetic.specs.Rounding.{roundEven, narrowed, real}
+use Rattle.arithmetic.specs.Rounding.{roundEven, narrowed, real, scale}
 use Rattle.arithmetic.specs.declared.rounding.Rounded.{Rounded}
 use Rattle.arithmetic.specs.declared.rounding.Rounded.the-variants.{Whole, Outside}
-use Rattle.network.specs.declared.edges.EdgeRecord.{EdgeRecord}
+use Rattle.edges.specs.declared.edges.EdgeRecord.{EdgeRecord}
 
 -- An edge: its number, whether it is live, the nodes at its ends, its weight and its difference.
 pub record Edge : Type 0 where
@@ -48,6 +48,11 @@ isZero (negsuc n) = false
 unfoldable pub sizeOf : List Region → ℕ → ℕ
 sizeOf [] a = 0
 sizeOf (r ∷ rs) a = cond (eqb a (r .node)) (r .size) 0 + sizeOf rs a
+
+-- the gates of all regions
+unfoldable pub gatesOf : List Region → ℕ
+gatesOf [] = 0
+gatesOf (r ∷ rs) = r .size + gatesOf rs
 
 -- What f gives of each region of node a.
 unfoldable pub gather : {A : Type 0} → (Region → A) → List Region → ℕ → List A
@@ -106,10 +111,6 @@ kill i e = record {
   weight = e .weight;
   diff = e .diff;
 }
-
--- weight times number, rounded to f32
-unfoldable pub scale : ℕ → ℤ → Float
-scale w k = ofInt binary32 (pos w *ℤ k)
 
 -- The new difference of an edge, whose first or second end is the moved node or not.
 unfoldable pub shifted : Bool → Bool → Bool → ℤ → ℕ → Float → Float

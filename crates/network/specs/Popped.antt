@@ -9,7 +9,7 @@ use lib.Ieee.{Float, nan, binary64, div}
 use Rattle.arithmetic.specs.Rounding.{real}
 use Rattle.memory.specs.Tree.{Best}
 use Rattle.network.specs.Network.{Edge, State, choose}
-use Rattle.network.specs.Mem.{Mem}
+use Rattle.merge.specs.Mem.{Mem}
 use Rattle.network.specs.Rep.{Rep}
 use Rattle.network.specs.declared.network.Popped.{Popped}
 use Rattle.network.specs.declared.network.Popped.the-variants.{Edge as Taken, Nothing}

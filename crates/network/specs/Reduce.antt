@@ -7,11 +7,11 @@ use lib.ListN.{length, getD}
 use lib.Ieee.{Float}
 use Rattle.arithmetic.specs.Seq.{upto, all, tabulate}
 use Rattle.arithmetic.specs.Seg.{seg}
-use Rattle.network.specs.Edges.{Shape, pairs, used}
+use Rattle.edges.specs.Edges.{Shape, pairs, used}
 use Rattle.network.specs.Network.{State, start, sizeIn, merges, trace, replay, inRange, countOf}
-use Rattle.network.specs.Steps.{unbias}
-use Rattle.network.specs.Layout.{sizesAt, countsAt}
-use Rattle.network.specs.declared.edges.Frame.{Frame}
+use Rattle.merge.specs.Steps.{unbias}
+use Rattle.memory.specs.Layout.{sizesAt, countsAt}
+use Rattle.edges.specs.declared.edges.Frame.{Frame}
 use Rattle.network.specs.declared.network.Ran.{Ran}
 use Rattle.network.specs.declared.network.Ran.the-variants.{Settled, Denied}
 

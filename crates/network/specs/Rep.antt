@@ -2,19 +2,13 @@
 use mathlib.Core.Path.{_≡_}
 use mathlib.Core.Logic.{_⊎_}
 use mathlib.Core.Bool.{true}
-use mathlib.Core.List.{List, [], _∷_}
 use Prim.Native.Nat.{ℕ, _+_, _*_, _<_, _^_}
 use lib.ListN.{getD}
-use Rattle.network.specs.Network.{Edge, Region, State, sizeOf}
-use Rattle.network.specs.Mem.{Mem, Sound}
+use Rattle.network.specs.Network.{Edge, State, sizeOf, gatesOf}
+use Rattle.merge.specs.Mem.{Mem, Sound}
 use Rattle.network.specs.Net.{rows, edgeOf, regionOf, Like}
-use Rattle.network.specs.Chain.{Chains}
+use Rattle.merge.specs.Chain.{Chains}
 use Rattle.network.specs.Simple.{Simple}
-
--- the gates of all regions
-unfoldable pub gatesOf : List Region → ℕ
-gatesOf [] = 0
-gatesOf (r ∷ rs) = r .size + gatesOf rs
 
 -- the two slots of an edge are in the chains of its two ends
 abbrev pub Ends : ℕ → (ℕ → ℕ) → ℕ → Edge → Type 0

@@ -12,8 +12,8 @@ use Rattle.network.specs.declared.network.Turned.{Turned}
 use Rattle.network.specs.declared.network.Turned.the-variants.{Merged, Ended, Refused}
 use Rattle.network.specs.declared.network.Ran.{Ran}
 use Rattle.network.specs.declared.network.Ran.the-variants.{Settled, Denied}
-use Rattle.network.specs.Mem.{Mem, view}
-use Rattle.network.specs.Steps.{numberOf}
+use Rattle.merge.specs.Mem.{Mem, view}
+use Rattle.merge.specs.Steps.{numberOf}
 use Rattle.network.specs.Net.{rows, regionOf, stateOf}
 use Rattle.network.specs.Settle.{Done}
 use Rattle.network.specs.Rep.{Rep}

@@ -1,6 +1,4 @@
-// The network of regions: edges between regions that see each other, and the merges that join them.
-pub mod edges;
-pub mod merge;
+// The network of regions: the run of merges that joins them, and the counts that it gives.
 pub mod network;
 pub mod reduce;
 pub mod sizes;

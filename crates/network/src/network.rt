@@ -5,13 +5,13 @@ ghost use Rattle.arithmetic.specs.Rounding.{roundEven};
 ghost use Rattle.network.specs.Network.{whole};
 ghost use Rattle.network.specs.Popped.{Pops, AnyPop};
 ghost use lib.ListN.{getD};
-ghost use Rattle.network.specs.Mem.{view, Room};
-ghost use Rattle.network.specs.Steps.{numberOf};
+ghost use Rattle.merge.specs.Mem.{view, Room};
+ghost use Rattle.merge.specs.Steps.{numberOf};
 ghost use Rattle.network.specs.Rep.{Rep};
 ghost use Rattle.network.specs.Settle.{settle};
 ghost use Rattle.network.specs.TurnIs.{Standing, AnyTurn, Chosen, AnyPick, gatesIn, firstOf, RanIs};
 ghost use Rattle.network.specs.Begin.{slotsFrom, regionsFrom, linkAt, linkFrom, Space, Raw, Begun, Linkable, AllIs};
-ghost use Rattle.network.specs.Does.{Does};
+ghost use Rattle.merge.specs.Does.{Does};
 
 // The heaviest live edge: its ends, its difference after the division by its weight, and its number.
 pub struct PoppedEdge {
@@ -92,13 +92,13 @@ fn choose_base(
     let sp = w[7 * m + 3 * n + p as usize];
     let sq = w[7 * m + 3 * n + q as usize];
     if sp > sq {
-        let ok = crate::merge::merge(w, d, m, n, e, p, q, g, last);
+        let ok = merge::merge::merge(w, d, m, n, e, p, q, g, last);
         if ok {
             return Turned::Merged(p);
         }
         return Turned::Refused;
     }
-    let yes = crate::merge::merge(w, d, m, n, e, q, p, 2000 - g, last);
+    let yes = merge::merge::merge(w, d, m, n, e, q, p, 2000 - g, last);
     if yes {
         return Turned::Merged(q);
     }

@@ -1,6 +1,6 @@
 // From labels to the counts of all regions: edges, sizes and all merges, over one layout of the work memory (specs/Layout.antt).
 ghost use Rattle.arithmetic.specs.Seg.{seg};
-ghost use Rattle.network.specs.Sees.{shape};
+ghost use Rattle.edges.specs.Sees.{shape};
 ghost use Rattle.network.specs.Reduce.{networkBy, Reduces, Reduced};
 
 // The labels of n gates are the first n words, k the number of regions, wide 2 × Nyquist.
@@ -8,7 +8,7 @@ pub fn reduce(
     w: &mut [u32],
     d: &mut [f64],
     vel: &[f32],
-    f: crate::edges::Frame,
+    f: edges::edges::Frame,
     n: usize,
     k: usize,
     wide: f64,
@@ -18,7 +18,7 @@ pub fn reduce(
 {
     let t = 13 * n;
     let nodes = k + 1;
-    let e = crate::edges::find_edges(w, d, vel, f, n, k, t, wide);
+    let e = edges::edges::find_edges(w, d, vel, f, n, k, t, wide);
     crate::sizes::count_sizes(w, n, n, nodes);
     memory::sort::copy(w, n, t + 7 * e + 3 * nodes, nodes);
     let end = t + 7 * e + 7 * nodes;

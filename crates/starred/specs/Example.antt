@@ -16,9 +16,9 @@ use Rattle.arithmetic.specs.declared.intervals.Extremes.the-variants.{Both}
 use Rattle.sweep.specs.Evaluating.{evaluating}
 use Rattle.sweep.specs.Sweep.{Sweep, unfolded}
 use Rattle.sweep.specs.Checks.{Lent, accepted, ownLimits, outcome}
-use Rattle.sweep.specs.Demand3.{Accepted, Apart, liesIn, bothIn, echoes, MergeList, Does, Alike, Agree, offset}
-use Rattle.sweep.proofs.ApartTest.{apart, onSide, gateApart, apart-holds}
-use Rattle.sweep.proofs.Demand3Laws.{merge-lists, two-sweeps}
+use Rattle.locality.specs.Demand3.{Accepted, Apart, liesIn, bothIn, echoes, MergeList, Does, Alike, Agree, offset}
+use Rattle.locality.proofs.ApartTest.{apart, onSide, gateApart, apart-holds}
+use Rattle.locality.proofs.Demand3Laws.{merge-lists, two-sweeps}
 
 -- eight gates of one ray, Nyquist 10, splits 3, skips 0, centred or not
 abbrev ray : ℕ → List ℤ → List ℕ → Sweep

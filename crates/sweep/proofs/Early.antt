@@ -9,8 +9,8 @@ use lib.IntN.{pos}
 use borrow.Author.Tests.{ltb-true, le-ltb, eqb-true}
 use Rattle.arithmetic.specs.Seq.{upto, keep, each, All}
 use Rattle.labels.specs.Label.{Found}
-use Rattle.network.specs.Edges.{Pair, gathered, firstIs, secondIs, recordsOf, records, greaterFirst, used}
-use Rattle.network.specs.declared.edges.EdgeRecord.{EdgeRecord}
+use Rattle.edges.specs.Edges.{Pair, gathered, firstIs, secondIs, recordsOf, records, greaterFirst, used}
+use Rattle.edges.specs.declared.edges.EdgeRecord.{EdgeRecord}
 use Rattle.network.specs.Network.{start, numbered, alone, merges, run, replay, countOf}
 use Rattle.network.proofs.EdgesEcho.{gathered-all, records-nil}
 use Rattle.sweep.specs.Sweep.{Sweep, pairsOf, sizes, networkOf, final, none, early}

@@ -19,11 +19,11 @@ use Rattle.arithmetic.specs.Intervals.{folded}
 use Rattle.arithmetic.specs.Evaluating.{evaluating}
 use Rattle.arithmetic.proofs.SeqLaws.{tab-same}
 use Rattle.labels.specs.Label.{Found}
-use Rattle.network.specs.Network.{State, alone, start, merges, replay, trace, countOf, inRange}
+use Rattle.network.specs.Network.{State, alone, start, merges, replay, trace, countOf, inRange, gatesOf}
 use Rattle.network.specs.Reduce.{networkBy}
-use Rattle.network.specs.Sees.{shape}
-use Rattle.network.specs.declared.edges.Frame.{Frame}
-use Rattle.sweep.specs.Sweep.{Sweep, Unfolded, none as no-pairs, orZero, sizes, networkOf, pairsOf, final, early, weighed, gatesOf, meanOf, offsetOf, gateCount, ended, finished, unfoldedBy}
+use Rattle.edges.specs.Sees.{shape}
+use Rattle.edges.specs.declared.edges.Frame.{Frame}
+use Rattle.sweep.specs.Sweep.{Sweep, Unfolded, none as no-pairs, orZero, sizes, networkOf, pairsOf, final, early, weighed, meanOf, offsetOf, gateCount, ended, finished, unfoldedBy}
 use Rattle.sweep.specs.Checks.{Outcome, asked9}
 use Rattle.sweep.specs.Call.{ending}
 use Rattle.sweep.specs.Finish.{lent, framed, foundIn, merged, closed}

@@ -14,8 +14,8 @@ use Rattle.arithmetic.specs.Intervals.{atLeast0, limitsOf}
 use Rattle.arithmetic.proofs.Plans.{no-nan}
 use Rattle.labels.specs.Label.{Found}
 use Rattle.labels.specs.Regions.{regions}
-use Rattle.network.specs.Sees.{shape}
-use Rattle.network.specs.declared.edges.Frame.{Frame}
+use Rattle.edges.specs.Sees.{shape}
+use Rattle.edges.specs.declared.edges.Frame.{Frame}
 use Rattle.sweep.specs.Sweep.{Sweep, regionsOf, pairsOf, networkOf, early, ended, offsetOf, finished, unfoldedBy, unfolded}
 use Rattle.sweep.specs.Checks.{Outcome, refused, accepted, gatesIn, wordsFor, floatsFor, asked9}
 use Rattle.sweep.specs.Call.{Memory, Answer, lengths, cleared, clearedFor, ending}

@@ -12,12 +12,5 @@ pub mod QuestionLaws
 pub mod Early
 pub mod EarlyEnd
 pub mod SolveLaws
-pub mod Echo
-pub mod GateCounts
-pub mod TwoSweeps
-pub mod MergeLists
-pub mod Question9
-pub mod ApartTest
-pub mod Demand3Laws
 pub mod CallLaws
 pub mod EndLaws

@@ -10,13 +10,13 @@ use lib.ListN.{length}
 use borrow.Author.Tests.{lt-ltb, le-ltb, ne-eqb}
 use Rattle.arithmetic.specs.Seq.{upto}
 use Rattle.arithmetic.proofs.SeqLaws.{eqb-refl}
-use Rattle.network.specs.Network.{Region, State, Edge, Plan, plan, at, step, stepTo, merge, move, replay, start, countOf, alone}
-use Rattle.network.specs.declared.edges.EdgeRecord.{EdgeRecord}
+use Rattle.network.specs.Network.{Region, State, Edge, Plan, plan, at, step, stepTo, merge, move, replay, start, countOf, alone, gatesOf}
+use Rattle.edges.specs.declared.edges.EdgeRecord.{EdgeRecord}
 use mathlib.Core.Option.{Option, none, some}
 use lib.Ieee.{Float}
-use Rattle.network.specs.Steps.{unbias}
-use Rattle.network.proofs.network.Bias.{lt-or-le, unbias-up, unbias-down}
-use Rattle.sweep.specs.Sweep.{weighed, gatesOf}
+use Rattle.merge.specs.Steps.{unbias}
+use Rattle.merge.proofs.merge.Bias.{lt-or-le, unbias-up, unbias-down}
+use Rattle.sweep.specs.Sweep.{weighed}
 use Rattle.sweep.specs.Mean.{sumFrom}
 use Rattle.sweep.proofs.SignedLaws.{sub-is}
 

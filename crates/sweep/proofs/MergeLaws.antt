@@ -15,16 +15,16 @@ use Rattle.arithmetic.specs.Seq.{tabulate, keep}
 use Rattle.arithmetic.specs.Intervals.{folded}
 use Rattle.arithmetic.proofs.SeqLaws.{tab-at, tab-same, keep-same}
 use Rattle.arithmetic.proofs.SegLaws.{getD-seg, length-seg}
-use Rattle.network.specs.Network.{State, sizeIn, replay, merges, countOf}
-use Rattle.network.specs.Edges.{pairs, used}
-use Rattle.network.specs.Steps.{unbias}
-use Rattle.network.specs.Layout.{sizesAt, countsAt}
+use Rattle.network.specs.Network.{State, sizeIn, replay, merges, countOf, gatesOf}
+use Rattle.edges.specs.Edges.{pairs, used}
+use Rattle.merge.specs.Steps.{unbias}
+use Rattle.memory.specs.Layout.{sizesAt, countsAt}
 use Rattle.network.specs.Reduce.{networkBy, goodBy, Reduced}
-use Rattle.network.specs.Sees.{shape}
-use Rattle.network.specs.declared.edges.Frame.{Frame}
+use Rattle.edges.specs.Sees.{shape}
+use Rattle.edges.specs.declared.edges.Frame.{Frame}
 use Rattle.network.specs.declared.network.Ran.{Ran}
 use Rattle.network.specs.declared.network.Ran.the-variants.{Settled, Denied}
-use Rattle.sweep.specs.Sweep.{orZero, weighed, gatesOf, meanOf, offsetOf, final, gateCount, finished}
+use Rattle.sweep.specs.Sweep.{orZero, weighed, meanOf, offsetOf, final, gateCount, finished}
 use Rattle.sweep.specs.Checks.{asked9}
 use Rattle.sweep.specs.Call.{ending}
 use Rattle.sweep.specs.Mean.{sumFrom, sizeAt, heldAt}

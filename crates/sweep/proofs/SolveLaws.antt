@@ -13,7 +13,7 @@ use Rattle.arithmetic.proofs.SegLaws.{getD-seg}
 use Rattle.labels.specs.Label.{Found}
 use Rattle.labels.specs.Regions.{regions}
 use Rattle.labels.proofs.RegionLaws.{label-at-most, number-at-most}
-use Rattle.network.specs.declared.edges.Frame.{Frame}
+use Rattle.edges.specs.declared.edges.Frame.{Frame}
 use Rattle.sweep.specs.Sweep.{unfoldedBy}
 use Rattle.sweep.specs.Checks.{Outcome, refused, accepted, asked9}
 use Rattle.sweep.specs.Call.{Answer, ending, cleared}

@@ -5,7 +5,7 @@ use native.Mathlib.Nat.{mul-le-mul-left}
 use mathlib.Core.Path.{_≡_, refl, sym, ap, _∙_}
 use mathlib.Core.List.{List}
 use lib.ListN.{length, getD}
-use Rattle.network.specs.Layout.{sizesAt, countsAt}
+use Rattle.memory.specs.Layout.{sizesAt, countsAt}
 use Rattle.sweep.specs.Mean.{sumFrom, sizeAt, heldAt, Tabled}
 
 -- the sum from l on is f l and the sum after it

@@ -11,15 +11,15 @@ use lib.Ieee.{Float, binary64, div, isNan}
 use mathlib.Core.List.{[]}
 use Rattle.arithmetic.specs.Seq.{tabulate}
 use Rattle.arithmetic.specs.Rounding.{roundEven, real}
-use Rattle.network.specs.Steps.{unbias}
+use Rattle.merge.specs.Steps.{unbias}
 use Rattle.arithmetic.specs.Seg.{seg}
 use Rattle.arithmetic.specs.Intervals.{folded, limitsOf}
 use Rattle.labels.specs.Regions.{regions}
 use Rattle.labels.specs.Label.{Found}
-use Rattle.network.specs.Layout.{countsAt}
+use Rattle.memory.specs.Layout.{countsAt}
 use Rattle.network.specs.Reduce.{Reduces, networkBy}
-use Rattle.network.specs.Sees.{shape}
-use Rattle.network.specs.declared.edges.Frame.{Frame}
+use Rattle.edges.specs.Sees.{shape}
+use Rattle.edges.specs.declared.edges.Frame.{Frame}
 use Rattle.sweep.specs.Sweep.{Sweep, orZero, gateCount, finished, unfoldedBy}
 use Rattle.sweep.specs.Checks.{asked9}
 use Rattle.sweep.specs.Call.{Memory, Answer, ending}

@@ -7,4 +7,3 @@ pub mod Mean
 pub mod Finish
 pub mod Velocity
 pub mod Evaluating
-pub mod Demand3

@@ -4,7 +4,7 @@ use mathlib.Core.Path.{_≡_}
 use mathlib.Core.List.{List}
 use lib.IntN.{ℤ, natAbs}
 use lib.ListN.{length, getD}
-use Rattle.network.specs.Layout.{sizesAt, countsAt}
+use Rattle.memory.specs.Layout.{sizesAt, countsAt}
 
 -- f i + f (i + 1) + .., n of them
 unfoldable pub sumFrom : (ℕ → ℕ) → ℕ → ℕ → ℕ

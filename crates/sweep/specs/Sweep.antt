@@ -13,8 +13,8 @@ use Rattle.arithmetic.specs.declared.rounding.Rounded.the-variants.{Whole, Outs
 use Rattle.arithmetic.specs.Intervals.{folded}
 use Rattle.labels.specs.Label.{Found}
 use Rattle.labels.specs.Regions.{regions}
-use Rattle.network.specs.Edges.{Shape, Pair, pairs, used}
-use Rattle.network.specs.Network.{Region, State, sizeIn, start, merges, replay, trace, inRange, countOf}
+use Rattle.edges.specs.Edges.{Shape, Pair, pairs, used}
+use Rattle.network.specs.Network.{Region, State, gatesOf, sizeIn, start, merges, replay, trace, inRange, countOf}
 
 -- the inputs of a call, but for what is lent
 pub record Sweep : Type 0 where
@@ -58,11 +58,6 @@ early s f = ltb (f .number) 2 || none (pairsOf s f)
 unfoldable pub weighed : List Region → ℤ
 weighed [] = pos 0
 weighed (r ∷ rs) = (pos (r .size) *ℤ r .count) +ℤ weighed rs
-
--- the gates of all regions
-unfoldable pub gatesOf : List Region → ℕ
-gatesOf [] = 0
-gatesOf (r ∷ rs) = r .size + gatesOf rs
 
 -- a rounded number; 0 for what is no number, as the mean over no gates
 unfoldable pub orZero : Rounded → ℤ

@@ -48,7 +48,7 @@ fn unfold_sweep(
     ensures { λ r. ⌜ record { number = r; memory = record { counts = now (folds .exit); pair = now (pair .exit); words = now (words .exit); floats = now (floats .exit) } } ≡ ending (asked9 (unfolded (sweepOf rays gates nyquist splits «skip_rays» «skip_gates» centred wrap (now (velocity .entry)) (now (valid .entry))) (limitsOf nyquist splits a b number))) (clearedFor (gatesIn (sweepOf rays gates nyquist splits «skip_rays» «skip_gates» centred wrap (now (velocity .entry)) (now (valid .entry)))) (record { counts = now (folds .entry); pair = now (pair .entry); words = now (words .entry); floats = now (floats .entry) })) ⌝ }
 {
     let n = velocity.len();
-    let f = network::edges::Frame {
+    let f = edges::edges::Frame {
         rays: rays as usize,
         gates: gates as usize,
         across: skip_rays as usize,

@@ -6,8 +6,8 @@ ghost use lib.ListN.{length, getD};
 ghost use lib.Ieee.{binary64, div};
 ghost use Rattle.arithmetic.specs.Seq.{tabulate};
 ghost use Rattle.arithmetic.specs.Rounding.{roundEven, real};
-ghost use Rattle.network.specs.Steps.{unbias};
-ghost use Rattle.network.specs.Layout.{countsAt};
+ghost use Rattle.merge.specs.Steps.{unbias};
+ghost use Rattle.memory.specs.Layout.{countsAt};
 ghost use Rattle.sweep.specs.Sweep.{orZero, gateCount};
 ghost use Rattle.sweep.specs.Mean.{sumFrom, sizeAt, heldAt, Tabled, Writes};
 ghost use Rattle.sweep.specs.Call.{cleared};
@@ -81,13 +81,13 @@ fn label_sweep(
 }
 
 // The gates of all regions, and their counts, with 1,000 added to each, summed over them.
-pub struct Sums {
+pub struct Totals {
     pub gates: u64,
     pub held: u64,
 }
 
 // The sums over regions 1 to k of n gates.
-fn add_up(w: &[u32], n: usize, k: usize) -> Sums
+fn add_up(w: &[u32], n: usize, k: usize) -> Totals
     requires { ⌜ Tabled (now w) n k ⌝ }
     ensures { λ r. ⌜ (r .gates ≡ sumFrom (sizeAt (now (w .entry)) n) 1 k) × (r .held ≡ sumFrom (heldAt (now (w .entry)) n k) 1 k) ⌝ }
 {
@@ -101,14 +101,14 @@ fn add_up(w: &[u32], n: usize, k: usize) -> Sums
         held = s * c + held;
         l -= 1;
     }
-    Sums {
+    Totals {
         gates: gates,
         held: held,
     }
 }
 
 // The mean count, rounded; 0 where it is no number.
-fn mean(s: Sums) -> i32
+fn mean(s: Totals) -> i32
     requires { ⌜ (s .gates ≤ 1440000) × (s .held ≤ 2880000000) ⌝ }
     ensures { λ r. ⌜ r ≡ orZero (roundEven (div binary64 (real (subℕ (s .held) (1000 * s .gates))) (real (pos (s .gates))))) ⌝ }
 {
@@ -166,7 +166,7 @@ fn write_pair(pair: &mut [u32], regions: usize, merges: usize)
 }
 
 // The counts of all gates, less the offset where asked.
-fn settle(w: &[u32], n: usize, k: usize, valid: &[u8], centred: u32, folds: &mut [i32])
+pub fn settle(w: &[u32], n: usize, k: usize, valid: &[u8], centred: u32, folds: &mut [i32])
     requires { ⌜ Finishes (now w) n k (now valid) (length (now folds)) ⌝ }
     ensures { λ _. ⌜ now (folds .exit) ≡ countsBy (now (w .entry)) n k (now (valid .entry)) centred ⌝ }
 {
@@ -188,7 +188,7 @@ fn no_folds(folds: &mut [i32])
 
 // The regions of n labelled gates are merged, and counts and pair written: 0, or the refusal by question 9.
 fn merge_regions(
-    f: network::edges::Frame,
+    f: edges::edges::Frame,
     n: usize,
     k: usize,
     nyquist: f32,
@@ -215,7 +215,7 @@ fn merge_regions(
 
 // The end of a sweep with k regions: below two there is nothing to merge.
 fn finish(
-    f: network::edges::Frame,
+    f: edges::edges::Frame,
     n: usize,
     k: usize,
     nyquist: f32,
@@ -251,7 +251,7 @@ fn finish(
 }
 
 // The first m words are zero.
-fn clear_words(w: &mut [u32], m: usize)
+pub fn clear_words(w: &mut [u32], m: usize)
     requires { ⌜ m ≤ length (now w) ⌝ }
     ensures { λ _. ⌜ now (w .exit) ≡ cleared 0 m (now (w .entry)) ⌝ }
 {
@@ -263,7 +263,7 @@ fn clear_words(w: &mut [u32], m: usize)
 }
 
 // The same of f64.
-fn clear_floats(d: &mut [f64], m: usize)
+pub fn clear_floats(d: &mut [f64], m: usize)
     requires { ⌜ m ≤ length (now d) ⌝ }
     ensures { λ _. ⌜ now (d .exit) ≡ cleared (real (pos 0)) m (now (d .entry)) ⌝ }
 {
@@ -276,7 +276,7 @@ fn clear_floats(d: &mut [f64], m: usize)
 
 // A sweep that passed questions 1 to 8, its limits planned: 0, or the refusal by question 9. All lent words are 0 at the end.
 pub fn solve(
-    f: network::edges::Frame,
+    f: edges::edges::Frame,
     gates: u32,
     nyquist: f32,
     splits: u32,

@@ -9,11 +9,11 @@ use lib.IntN.{ℤ, _+ℤ_}
 use lib.ListN.{length, getD, set, length-set}
 use lib.Seq.{getD-set-same, getD-set-other}
 use Rattle.network.specs.Network.{Region, gather, raised, bounded}
-use Rattle.network.specs.Mem.{Mem, Sound, enext-set, rnext-set, size-set, elen-set, rlen-set}
-use Rattle.network.specs.Steps.{splice, grow}
+use Rattle.merge.specs.Mem.{Mem, Sound, enext-set, rnext-set, size-set, elen-set, rlen-set}
+use Rattle.merge.specs.Steps.{splice, grow}
 use Rattle.network.specs.Net.{rows, edgeOf}
-use Rattle.network.specs.Chain.{cur, Chains, own-joined, pos-joined, len-joined}
-use Rattle.network.proofs.network.SoundSet.{eq-or-ne, sound-enext, sound-rnext, sound-size, sound-elen, sound-rlen}
+use Rattle.merge.specs.Chain.{cur, Chains, own-joined, pos-joined, len-joined}
+use Rattle.merge.proofs.merge.SoundSet.{eq-or-ne, sound-enext, sound-rnext, sound-size, sound-elen, sound-rlen}
 use Rattle.network.proofs.network.Circles.{joined}
 use Rattle.network.proofs.network.Moved.{same-no, same-yes}
 use lib.Dec.{eqb}

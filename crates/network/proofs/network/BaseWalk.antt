@@ -6,17 +6,17 @@ use Prim.Native.Nat.{ℕ, _≤_, _<_}
 use native.Mathlib.Omega.{arith}
 use lib.Ieee.{Float, neg}
 use borrow.Author.Tests.{le-ltb}
-use Rattle.network.proofs.network.Bias.{lt-or-le}
+use Rattle.merge.proofs.merge.Bias.{lt-or-le}
 use lib.ListN.{getD}
 use Rattle.network.specs.Network.{Edge, turn, turnIf}
 use Rattle.network.proofs.SimpleLaws.{joined-turn}
-use Rattle.network.specs.Mem.{Mem, Sound, enext-set, mark-set, elen-set}
-use Rattle.network.specs.Steps.{dropAt, through, turnAt, baseEdge, walkBase}
+use Rattle.merge.specs.Mem.{Mem, Sound, enext-set, mark-set, elen-set}
+use Rattle.merge.specs.Steps.{dropAt, through, turnAt, baseEdge, walkBase}
 use Rattle.network.specs.Net.{edgeOf, Like}
 use Rattle.network.specs.Rep.{Circled}
-use Rattle.network.proofs.network.SoundSet.{eq-or-ne}
-use Rattle.network.proofs.network.SoundSteps.{sound-base, sound-turn}
-use Rattle.network.proofs.network.Frames.{frame-base}
+use Rattle.merge.proofs.merge.SoundSet.{eq-or-ne}
+use Rattle.merge.proofs.merge.SoundSteps.{sound-base, sound-turn}
+use Rattle.merge.proofs.merge.Frames.{frame-base}
 use Rattle.network.proofs.network.Chained.{At, at-end}
 use Rattle.network.proofs.network.Dropping.{went}
 use Rattle.network.proofs.network.TableEdges.{like-of, like-dead, like-then, like-at, live-word, dead-word, Words, words, base-none, base-two, base-one, base-else, mark-kept, mark-new, turn-kept, turn-new, mark-edges}
@@ -136,7 +136,7 @@ module _ (m b : ℕ) (K : ℕ → Edge) (S : Plain m K) where
     first-if = sym (w .second-is)
 
     turn-marks : (c : ℕ) → getD (turnAt s f .mark) c 0 ≡ getD (s .mark) c 0
-    unfolding turnAt Rattle.network.specs.Mem.first-set Rattle.network.specs.Mem.second-set Rattle.network.specs.Mem.diff-set
+    unfolding turnAt Rattle.merge.specs.Mem.first-set Rattle.merge.specs.Mem.second-set Rattle.merge.specs.Mem.diff-set
     turn-marks c = refl
 
     two : getD (s .second) f 0 ≡ b → Basing m b K (also done f) (baseEdge m b s f)

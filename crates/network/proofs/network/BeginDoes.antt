@@ -7,12 +7,12 @@ use native.Mathlib.Omega.{arith}
 use lib.ListN.{length, getD, set, length-set}
 use lib.Seq.{getD-set-same, getD-set-other}
 use Rattle.memory.proofs.tree.TreeLaws.{tree-set}
-use Rattle.network.specs.Mem.{Mem, view, Room, enext-set, elen-set, rlen-set, count-set}
-use Rattle.network.specs.Does.{Does}
+use Rattle.merge.specs.Mem.{Mem, view, Room, enext-set, elen-set, rlen-set, count-set}
+use Rattle.merge.specs.Does.{Does}
 use Rattle.network.specs.Begin.{slotsFrom, regionsFrom, linkAt, linkEdge, linkFrom, Linkable}
-use Rattle.network.proofs.network.View.{enext-at, elen-at, first-at, second-at, enext-put, rnext-put, elen-put, rlen-put, count-put}
-use Rattle.network.proofs.network.Leaf.{room-of}
-use Rattle.network.proofs.network.SoundSet.{eq-or-ne}
+use Rattle.merge.proofs.merge.View.{enext-at, elen-at, first-at, second-at, enext-put, rnext-put, elen-put, rlen-put, count-put}
+use Rattle.merge.proofs.merge.Leaf.{room-of}
+use Rattle.merge.proofs.merge.SoundSet.{eq-or-ne}
 use lib.Ieee.{Float}
 
 -- ---- loops that go on with a table function
@@ -105,7 +105,7 @@ link-len m a i s x = ⊎-elim
     (λ p. let q : getD (set (s .elen) a (getD (s .elen) a 0 + 1)) x 0 ≡ getD (s .elen) a 0 + 1 = ap (λ (y : ℕ). getD (set (s .elen) a (getD (s .elen) a 0 + 1)) y 0) e ∙ getD-set-same (s .elen) a (getD (s .elen) a 0 + 1) 0 p in
     let z : getD (s .elen) x 0 ≡ getD (s .elen) a 0 = ap (λ (y : ℕ). getD (s .elen) y 0) e in omega arith)
     (λ p. let q : getD (set (s .elen) a (getD (s .elen) a 0 + 1)) x 0 ≡ getD (s .elen) x 0 = ap (λ (y : List ℕ). getD y x 0) (lib.Seq.set-out (s .elen) a (getD (s .elen) a 0 + 1) p) in omega arith)
-    (Rattle.network.proofs.network.Bias.lt-or-le a (length (s .elen))))
+    (Rattle.merge.proofs.merge.Bias.lt-or-le a (length (s .elen))))
     (λ e. let q : getD (set (s .elen) a (getD (s .elen) a 0 + 1)) x 0 ≡ getD (s .elen) x 0 = getD-set-other (s .elen) a x (getD (s .elen) a 0 + 1) 0 e in omega arith)
     (eq-or-ne x a)
 

@@ -7,8 +7,8 @@ use Prim.Native.Nat.{ℕ, suc, _+_, _*_, _-_, _/_, _≤_, _<_}
 use native.Mathlib.Omega.{arith}
 use lib.ListN.{getD}
 use Rattle.network.specs.Network.{Edge}
-use Rattle.network.specs.Mem.{Mem}
-use Rattle.network.specs.Chain.{cur, Chains}
+use Rattle.merge.specs.Mem.{Mem}
+use Rattle.merge.specs.Chain.{cur, Chains}
 use Rattle.network.specs.Rep.{Circled, Ends}
 use Rattle.network.proofs.network.Circles.{later}
 

@@ -5,9 +5,9 @@ use mathlib.Core.List.{List}
 use Prim.Native.Nat.{ℕ, zero, suc, _+_, _-_, _≤_, _<_}
 use native.Mathlib.Omega.{arith}
 use lib.ListN.{getD}
-use Rattle.network.specs.Chain.{cur, Chains, own-joined, pos-joined, len-joined}
-use Rattle.network.proofs.network.Bias.{lt-or-le}
-use Rattle.network.proofs.network.SoundSet.{eq-or-ne}
+use Rattle.merge.specs.Chain.{cur, Chains, own-joined, pos-joined, len-joined}
+use Rattle.merge.proofs.merge.Bias.{lt-or-le}
+use Rattle.merge.proofs.merge.SoundSet.{eq-or-ne}
 use Rattle.network.proofs.network.Moved.{same-no, same-yes}
 use Rattle.arithmetic.proofs.SeqLaws.{eqb-refl}
 

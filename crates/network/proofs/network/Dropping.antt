@@ -10,17 +10,17 @@ use lib.ListN.{getD, set, length-set}
 use lib.Seq.{getD-set-same, getD-set-other}
 use borrow.Author.Tests.{lt-ltb, le-ltb, eqb-true}
 use Rattle.network.specs.Network.{Edge}
-use Rattle.network.specs.Mem.{Mem, Sound, enext-set, elen-set}
-use Rattle.network.specs.Steps.{spent, dropAt, passed, kept, along, through, still, pruned}
-use Rattle.network.specs.Chain.{cur, Chains, own-split, pos-split, len-split}
+use Rattle.merge.specs.Mem.{Mem, Sound, enext-set, elen-set}
+use Rattle.merge.specs.Steps.{spent, dropAt, passed, kept, along, through, still, pruned}
+use Rattle.merge.specs.Chain.{cur, Chains, own-split, pos-split, len-split}
 use Rattle.network.specs.Rep.{Circled, Ends}
-use Rattle.network.proofs.network.Bias.{lt-or-le}
-use Rattle.network.proofs.network.SoundSet.{eq-or-ne}
+use Rattle.merge.proofs.merge.Bias.{lt-or-le}
+use Rattle.merge.proofs.merge.SoundSet.{eq-or-ne}
 use Rattle.network.proofs.network.Circles.{cur-suc, lead}
 use Rattle.network.proofs.network.Split.{split, split-here, split-own, split-pos, split-shorter, split-len}
-use Rattle.network.proofs.network.Passing.{sound-drop}
+use Rattle.merge.proofs.merge.Passing.{sound-drop}
 use Rattle.network.proofs.network.Chained.{circled-by}
-use Rattle.network.proofs.network.Frames.{Same, same-refl, same-drop}
+use Rattle.merge.proofs.merge.Frames.{Same, same-refl, same-drop}
 
 -- a slot that is spent, and one that is not
 pub spent-dead : (m : ℕ) (s : Mem) (x : ℕ) → spent m s x ≡ true → x / 2 < m → getD (s .weight) (x / 2) 0 ≡ 0

@@ -16,19 +16,18 @@ use Rattle.arithmetic.specs.Seg.{seg}
 use Rattle.arithmetic.specs.Rounding.{narrowed}
 use Rattle.arithmetic.proofs.SeqLaws.{tab-at}
 use Rattle.arithmetic.proofs.SegLaws.{lt-or-le, getD-seg}
-use Rattle.network.specs.declared.edges.EdgeRecord.{EdgeRecord}
-use Rattle.network.specs.Edges.{Pair, used}
+use Rattle.edges.specs.declared.edges.EdgeRecord.{EdgeRecord}
+use Rattle.edges.specs.Edges.{Pair, used}
 use Rattle.network.specs.Network as Network
-use Rattle.network.specs.Network.{Edge, Region, numbered, sizeIn}
+use Rattle.network.specs.Network.{Edge, Region, numbered, sizeIn, gatesOf}
 use Rattle.network.specs.Simple.{Simple, Joined}
-use Rattle.network.specs.Order.{weigh}
-use Rattle.network.specs.Gather.{diffOf}
-use Rattle.network.specs.Mem.{Mem, total}
+use Rattle.edges.specs.Order.{weigh}
+use Rattle.edges.specs.Gather.{diffOf}
+use Rattle.merge.specs.Mem.{Mem, total}
 use Rattle.network.specs.Net.{rows, edgeOf}
-use Rattle.network.specs.Rep.{gatesOf}
 use Rattle.network.specs.Begin.{Raw, rawRegion}
-use Rattle.network.proofs.edges.Assembly.{map-getD}
-use Rattle.network.proofs.edges.RecordLaws.{Good, used-rise, used-good, all-place, rise-place}
+use Rattle.edges.proofs.edges.Assembly.{map-getD}
+use Rattle.edges.proofs.edges.RecordLaws.{Good, used-rise, used-good, all-place, rise-place}
 use Rattle.network.proofs.network.Rows.{rows-ext, rows-has}
 
 abbrev pub blank : EdgeRecord

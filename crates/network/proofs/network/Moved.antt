@@ -10,14 +10,15 @@ use lib.IntN.{pos}
 use lib.Ieee.{Float, neg, binary32, add}
 use lib.ListN.{getD}
 use borrow.Author.Tests.{eqb-true, eqb-false, eq-eqb, ne-eqb, ltb-true, ltb-false}
-use Rattle.network.specs.Network.{Edge, Link, link, find, absorb, absent, hand, turn, turnIf, adjust, shifted, isZero, scale}
+use Rattle.network.specs.Network.{Edge, Link, link, find, absorb, absent, hand, turn, turnIf, adjust, shifted, isZero}
+use Rattle.arithmetic.specs.Rounding.{scale}
 use Rattle.network.proofs.SimpleLaws.{Turned}
-use Rattle.network.specs.Mem.{Mem, Sound, mark-set}
-use Rattle.network.specs.Steps.{unbias, mate, absorbAt, attachAt, joinEdge, shift, movedEdge}
+use Rattle.merge.specs.Mem.{Mem, Sound, mark-set}
+use Rattle.merge.specs.Steps.{unbias, mate, absorbAt, attachAt, joinEdge, shift, movedEdge}
 use Rattle.network.specs.Net.{rows, edgeOf, Like}
-use Rattle.network.proofs.network.Bias.{lt-or-le, unbias-up, unbias-down}
-use Rattle.network.proofs.network.SoundSet.{eq-or-ne}
-use Rattle.network.proofs.network.SoundSteps.{Mate, mate-is, mate-of}
+use Rattle.merge.proofs.merge.Bias.{lt-or-le, unbias-up, unbias-down}
+use Rattle.merge.proofs.merge.SoundSet.{eq-or-ne}
+use Rattle.merge.proofs.merge.SoundSteps.{Mate, mate-is, mate-of}
 use Rattle.network.proofs.network.Rows.{hits, hit, Hit, hit-is, find-one, find-no, find-like}
 use Rattle.network.proofs.network.TableEdges.{like-of, like-dead, like-then, like-at, word-live, dead-word, Words, words, moved-none, moved-else, moved-one, moved-two, absorb-gone, absorb-kept, absorb-grown, attach-kept, attach-new}
 use Rattle.arithmetic.proofs.SeqLaws.{eqb-refl}
@@ -372,7 +373,7 @@ module _ (m b v g : ℕ) (P Q : ℕ → Edge) (S : Setting m b v g P Q) where
       }
         where
           same-marks : (c : ℕ) → getD (absorbAt s q f (P f .diff) .mark) c 0 ≡ getD (s .mark) c 0
-          same-marks c = unfold absorbAt Rattle.network.specs.Mem.weight-set Rattle.network.specs.Mem.diff-set in refl
+          same-marks c = unfold absorbAt Rattle.merge.specs.Mem.weight-set Rattle.merge.specs.Mem.diff-set in refl
 
     -- the base has none
     module _ (far : m ≤ mate m b s c₀) (hc : c₀ < n) where
@@ -399,11 +400,11 @@ module _ (m b v g : ℕ) (P Q : ℕ → Edge) (S : Setting m b v g P Q) where
           ∙ sym (mid-moved (also done f) f true e (also-new done f) ∙ (rw free refl))
 
       mark-else : (c : ℕ) → (c ≡ c₀ → ⊥) → getD (attachAt b s f c₀ (P f .diff) .mark) c 0 ≡ getD (s .mark) c 0
-      unfolding attachAt Rattle.network.specs.Mem.mark-set Rattle.network.specs.Mem.diff-set Rattle.network.specs.Mem.first-set Rattle.network.specs.Mem.second-set
+      unfolding attachAt Rattle.merge.specs.Mem.mark-set Rattle.merge.specs.Mem.diff-set Rattle.merge.specs.Mem.first-set Rattle.merge.specs.Mem.second-set
       mark-else c ne = lib.Seq.getD-set-other (s .mark) c₀ c f 0 ne
 
       mark-here : getD (attachAt b s f c₀ (P f .diff) .mark) c₀ 0 ≡ f
-      unfolding attachAt Rattle.network.specs.Mem.mark-set Rattle.network.specs.Mem.diff-set Rattle.network.specs.Mem.first-set Rattle.network.specs.Mem.second-set
+      unfolding attachAt Rattle.merge.specs.Mem.mark-set Rattle.merge.specs.Mem.diff-set Rattle.merge.specs.Mem.first-set Rattle.merge.specs.Mem.second-set
       mark-here = lib.Seq.getD-set-same (s .mark) c₀ f 0 (omega (arith, sound .l-mark))
 
       pub attached : Middle m b v P Q (also done f) (attachAt b s f c₀ (P f .diff))

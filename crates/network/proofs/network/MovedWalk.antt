@@ -7,16 +7,16 @@ use mathlib.Core.Option.{Option, none, some}
 use Prim.Native.Nat.{ℕ, zero, suc, _-_, _/_, _≤_, _<_}
 use native.Mathlib.Omega.{arith}
 use borrow.Author.Tests.{le-ltb, eqb-true, eqb-false}
-use Rattle.network.proofs.network.Bias.{lt-or-le}
+use Rattle.merge.proofs.merge.Bias.{lt-or-le}
 use lib.ListN.{getD}
 use Rattle.network.specs.Network.{Edge, Link, link, find, absorb, absent, hand, combine, turn, turnIf, adjust, shifted, isZero}
-use Rattle.network.specs.Mem.{Mem, Sound}
-use Rattle.network.specs.Steps.{unbias, movedEdge, walkMoved}
-use Rattle.network.specs.Does.{Gains}
+use Rattle.merge.specs.Mem.{Mem, Sound}
+use Rattle.merge.specs.Steps.{unbias, movedEdge, walkMoved}
+use Rattle.merge.specs.Does.{Gains}
 use Rattle.network.specs.Net.{rows, edgeOf, Like}
-use Rattle.network.specs.Chain.{cur}
-use Rattle.network.proofs.network.SoundSteps.{sound-moved}
-use Rattle.network.proofs.network.Frames.{frame-moved}
+use Rattle.merge.specs.Chain.{cur}
+use Rattle.merge.proofs.merge.SoundSteps.{sound-moved}
+use Rattle.merge.proofs.merge.Frames.{frame-moved}
 use Rattle.network.proofs.network.Rows.{hits, find-no, find-like}
 use Rattle.network.proofs.network.TableEdges.{like-dead, like-then}
 use Rattle.network.proofs.network.Moved.{Setting, only, mid, Middle, Next, any-step, mid-base, mid-moved, mid-else, mid-dead, hit-only, absorb-none}

@@ -13,8 +13,8 @@ use mir.ValLaws.{toZ-ofZ}
 use borrow.Author.Tests.{ltb-true, ltb-false, lt-ltb, le-ltb, le-leb, lt-leb}
 use Rattle.arithmetic.specs.declared.rounding.Rounded.{Rounded}
 use Rattle.arithmetic.specs.declared.rounding.Rounded.the-variants.{Whole, Outside}
-use Rattle.network.specs.Steps.{unbias, numberOf}
-use Rattle.network.proofs.network.Bias.{lt-or-le, unbias-up, unbias-down}
+use Rattle.merge.specs.Steps.{unbias, numberOf}
+use Rattle.merge.proofs.merge.Bias.{lt-or-le, unbias-up, unbias-down}
 use Rattle.network.specs.Network.{whole, bounded}
 
 abbrev back : ℤ → ℤ

@@ -7,8 +7,8 @@ use Prim.Native.Nat.{ℕ, zero, suc, _+_, _-_, _≤_, _<_}
 use native.Mathlib.Omega.{arith}
 use lib.Dec.{ltb, eqb}
 use borrow.Author.Tests.{lt-ltb, le-ltb, eqb-true, eqb-false}
-use Rattle.network.specs.Chain.{cur, Chains}
-use Rattle.network.proofs.network.Bias.{lt-or-le}
+use Rattle.merge.specs.Chain.{cur, Chains}
+use Rattle.merge.proofs.merge.Bias.{lt-or-le}
 
 pub pigeon : (n k : ℕ) (f : ℕ → ℕ) → ((i : ℕ) → i < k → f i < n) → ((i j : ℕ) → i < k → j < k → f i ≡ f j → i ≡ j) → k ≤ n
 pigeon zero k f below inj = ⊎-elim (λ h. omega arith) (λ h. absurd (omega (arith, below 0 (omega arith)))) (lt-or-le k 1)

@@ -12,9 +12,9 @@ use Rattle.network.specs.Network.{Edge, Region, Plan, sizeOf, at, plan, 
 use Rattle.network.proofs.Restrict.{prepare-num}
 use Rattle.network.proofs.Ends.{prepare-live}
 use Rattle.network.proofs.SimpleLaws.{prepared-simple, prepared-turned, ends-apart}
-use Rattle.network.specs.Steps.{unbias}
+use Rattle.merge.specs.Steps.{unbias}
 use Rattle.network.specs.Net.{rows}
-use Rattle.network.proofs.network.SoundSet.{eq-or-ne}
+use Rattle.merge.proofs.merge.SoundSet.{eq-or-ne}
 use Rattle.network.proofs.network.Rows.{map-rows, has-rows}
 use Rattle.network.proofs.network.Moved.{Setting, same-no, same-yes}
 use Rattle.network.proofs.network.BaseWalk.{Plain}

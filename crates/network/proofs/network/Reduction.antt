@@ -14,17 +14,17 @@ use Rattle.arithmetic.specs.Seq.{tabulate}
 use Rattle.arithmetic.proofs.SeqLaws.{tab-length}
 use Rattle.arithmetic.specs.Seg.{seg, put, Apart}
 use Rattle.arithmetic.proofs.SegLaws.{eq-or-ne, length-put, length-seg, getD-seg, getD-put-in, seg-put-below, seg-put-above, seg-put-same, seg-set-out, seg-part, put-mid, lent-seg}
-use Rattle.network.specs.Edges.{Pair, pairs, used}
+use Rattle.edges.specs.Edges.{Pair, pairs, used}
 use Rattle.network.specs.Network.{sizeIn, merges, replay, countOf}
-use Rattle.network.specs.Sees.{shape}
-use Rattle.network.specs.Whole.{Asked, Edged}
+use Rattle.edges.specs.Sees.{shape}
+use Rattle.edges.specs.Whole.{Asked, Edged}
 use Rattle.network.specs.Sizes.{Sizes}
-use Rattle.network.specs.Mem.{view}
-use Rattle.network.specs.Steps.{unbias}
+use Rattle.merge.specs.Mem.{view}
+use Rattle.merge.specs.Steps.{unbias}
 use Rattle.network.specs.Begin.{Space, Raw, AllIs}
-use Rattle.network.specs.Layout.{sizesAt, countsAt}
+use Rattle.memory.specs.Layout.{sizesAt, countsAt}
 use Rattle.network.specs.Reduce.{networkBy, goodBy, Reduces, Reduced}
-use Rattle.network.specs.declared.edges.Frame.{Frame}
+use Rattle.edges.specs.declared.edges.Frame.{Frame}
 use Rattle.network.specs.declared.network.Ran.{Ran}
 use Rattle.network.proofs.network.Joint.{Filled, raw}
 use Rattle.network.proofs.network.Started.{network, Left, refused, left, no-region-0}

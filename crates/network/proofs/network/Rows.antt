@@ -9,7 +9,7 @@ use native.Mathlib.Omega.{arith}
 use lib.ListN.{length, getD}
 use Rattle.network.specs.Network.{Edge, link, find}
 use Rattle.network.specs.Net.{rows}
-use Rattle.network.proofs.network.SoundSet.{eq-or-ne}
+use Rattle.merge.proofs.merge.SoundSet.{eq-or-ne}
 use lib.Dec.{eqb}
 use borrow.Author.Tests.{eqb-true}
 use Rattle.arithmetic.proofs.SeqLaws.{eqb-refl}

@@ -6,9 +6,9 @@ use Prim.Native.Nat.{ℕ, zero, suc, _+_, _-_, _≤_, _<_}
 use native.Mathlib.Omega.{arith}
 use lib.ListN.{getD}
 use borrow.Author.Tests.{lt-ltb, le-ltb}
-use Rattle.network.specs.Chain.{cur, Chains, own-split, pos-split, len-split}
-use Rattle.network.proofs.network.Bias.{lt-or-le}
-use Rattle.network.proofs.network.SoundSet.{eq-or-ne}
+use Rattle.merge.specs.Chain.{cur, Chains, own-split, pos-split, len-split}
+use Rattle.merge.proofs.merge.Bias.{lt-or-le}
+use Rattle.merge.proofs.merge.SoundSet.{eq-or-ne}
 use Rattle.network.proofs.network.Moved.{same-no, same-yes}
 use Rattle.network.proofs.network.Circles.{cur-suc}
 use Rattle.arithmetic.proofs.SeqLaws.{eqb-refl}

@@ -9,11 +9,11 @@ use lib.Dec.{ltb, eqb}
 use lib.ListN.{length, getD, set, length-set}
 use lib.Seq.{getD-set-same, getD-set-other}
 use borrow.Author.Tests.{lt-ltb, le-ltb}
-use Rattle.network.specs.Mem.{Mem, enext-set, rnext-set, elen-set, rlen-set, count-set}
-use Rattle.network.specs.Chain.{cur, Chains, own-joined, pos-joined, len-joined}
+use Rattle.merge.specs.Mem.{Mem, enext-set, rnext-set, elen-set, rlen-set, count-set}
+use Rattle.merge.specs.Chain.{cur, Chains, own-joined, pos-joined, len-joined}
 use Rattle.network.specs.Begin.{slotsFrom, regionsFrom, linkAt, linkEdge, linkFrom}
-use Rattle.network.proofs.network.Bias.{lt-or-le}
-use Rattle.network.proofs.network.SoundSet.{eq-or-ne}
+use Rattle.merge.proofs.merge.Bias.{lt-or-le}
+use Rattle.merge.proofs.merge.SoundSet.{eq-or-ne}
 use Rattle.network.proofs.network.Circles.{cur-suc}
 use Rattle.network.proofs.network.After.{swap, swapped, chains-len}
 use Rattle.network.proofs.network.Moved.{same-no, same-yes}

@@ -11,21 +11,21 @@ use lib.Ieee.{nan, Float}
 use lib.ListN.{length, getD}
 use borrow.Author.Tests.{lt-ltb, le-ltb}
 use Rattle.arithmetic.proofs.SegLaws.{length-seg}
-use Rattle.network.specs.Network.{Edge, Region, State, sizeOf}
+use Rattle.network.specs.Network.{Edge, Region, State, sizeOf, gatesOf}
 use Rattle.memory.specs.Tree.{Weighed}
-use Rattle.network.specs.Mem.{Mem, view, Room, Sound, total}
-use Rattle.network.specs.Steps.{unbias}
-use Rattle.network.specs.Does.{Does}
+use Rattle.merge.specs.Mem.{Mem, view, Room, Sound, total}
+use Rattle.merge.specs.Steps.{unbias}
+use Rattle.merge.specs.Does.{Does}
 use Rattle.network.specs.Net.{rows, edgeOf, regionOf, stateOf}
-use Rattle.network.specs.Rep.{Rep, Circled, gatesOf}
+use Rattle.network.specs.Rep.{Rep, Circled}
 use Rattle.network.specs.TurnIs.{gatesIn, firstOf, RanIs}
 use Rattle.network.specs.Begin.{slotsFrom, regionsFrom, linkFrom, rawRegion, rawNet, Space, Raw, Begun, Linkable, AllIs}
 use Rattle.network.specs.Settle.{settle}
 use Rattle.network.specs.declared.network.Ran.{Ran}
-use Rattle.network.proofs.network.View.{view-weighed}
-use Rattle.network.proofs.network.Leaf.{room-of}
-use Rattle.network.proofs.network.Bias.{lt-or-le, unbias-up}
-use Rattle.network.proofs.network.SoundSet.{eq-or-ne}
+use Rattle.merge.proofs.merge.View.{view-weighed}
+use Rattle.merge.proofs.merge.Leaf.{room-of}
+use Rattle.merge.proofs.merge.Bias.{lt-or-le, unbias-up}
+use Rattle.merge.proofs.merge.SoundSet.{eq-or-ne}
 use Rattle.network.proofs.network.Rows.{rows-ext}
 use Rattle.network.proofs.network.TableEdges.{like-refl}
 use Rattle.network.proofs.network.Moved.{same-no, same-yes}

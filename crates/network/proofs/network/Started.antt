@@ -13,10 +13,10 @@ use lib.ListN.{length, getD}
 use lib.Ieee.{Float}
 use borrow.Author.Tests.{ne-eqb, eqb-true}
 use Rattle.arithmetic.specs.Seq.{All, upto, keep, all}
-use Rattle.network.specs.Edges.{Pair, used}
+use Rattle.edges.specs.Edges.{Pair, used}
 use Rattle.network.specs.Network.{Region, State, Event, alone, start, sizeIn, merges, run, trace, replay, inRange, countOf}
-use Rattle.network.specs.Mem.{Mem, view}
-use Rattle.network.specs.Steps.{unbias}
+use Rattle.merge.specs.Mem.{Mem, view}
+use Rattle.merge.specs.Steps.{unbias}
 use Rattle.network.specs.Net.{rows, edgeOf, regionOf}
 use Rattle.network.specs.Settle.{Done, settle}
 use Rattle.network.specs.TurnIs.{gatesIn, RanIs}

@@ -10,23 +10,23 @@ use lib.ListN.{getD}
 use lib.Seq.{getD-set-same, getD-set-other}
 use borrow.Author.Tests.{eqb-true}
 use Rattle.network.specs.Network.{Edge, Region, State, Plan, sizeOf, plan, planFor, kill, turn, turnIf, adjust, prepare, combine}
-use Rattle.network.specs.Mem.{Mem, Sound, weight-set}
-use Rattle.network.specs.Steps.{unbias, walkBase, pruned, movedEdge, walkMoved, movedAll, readied}
-use Rattle.network.specs.Does.{Gains}
+use Rattle.merge.specs.Mem.{Mem, Sound, weight-set}
+use Rattle.merge.specs.Steps.{unbias, walkBase, pruned, movedEdge, walkMoved, movedAll, readied}
+use Rattle.merge.specs.Does.{Gains}
 use Rattle.network.specs.Net.{rows, edgeOf, regionOf, Like}
-use Rattle.network.specs.Chain.{cur}
+use Rattle.merge.specs.Chain.{cur}
 use Rattle.network.specs.Rep.{Rep, Circled}
-use Rattle.network.proofs.network.SoundSet.{eq-or-ne, sound-weight}
-use Rattle.network.proofs.network.SoundSteps.{sound-moved}
-use Rattle.network.proofs.network.Leaf.{total-less}
-use Rattle.network.proofs.network.Frames.{Frame, frame-moved-all, Beside, beside-refl, beside-walk-base, Same}
+use Rattle.merge.proofs.merge.SoundSet.{eq-or-ne, sound-weight}
+use Rattle.merge.proofs.merge.SoundSteps.{sound-moved}
+use Rattle.merge.proofs.merge.Leaf.{total-less}
+use Rattle.merge.proofs.merge.Frames.{Frame, frame-moved-all, Beside, beside-refl, beside-walk-base, Same}
 use Rattle.network.proofs.network.TableEdges.{like-dead, like-then, like-at, live-word, word-dead, Words, words}
 use Rattle.network.proofs.network.Chained.{circled-by, circled-less, at-end, met}
 use Rattle.network.proofs.network.Dropping.{Pruned, prune-is}
 use Rattle.network.proofs.network.Moved.{same-no, same-yes, Setting, Middle}
 use Rattle.network.proofs.network.MovedWalk.{begin, Walked, walk, finish, finish-marks}
 use Rattle.network.proofs.network.BaseWalk.{Plain, Ready, Walked as WalkedBase, ready-walk, ready-still}
-use Rattle.network.proofs.network.Counts.{Counted}
+use Rattle.merge.proofs.merge.Counts.{Counted}
 use Rattle.network.proofs.network.Prepared.{plain, nodes-apart, setting}
 
 pub sound-walk-moved : (m n b v g k : ℕ) (s : Mem) (x : ℕ) → Gains n b v g → Sound m n s → Sound m n (walkMoved k m b v g s x)

@@ -8,22 +8,22 @@ use Prim.Native.Nat.{ℕ, _+_, _*_, _-_, _≤_, _<_, _^_}
 use native.Mathlib.Omega.{arith}
 use lib.IntN.{ℤ, _+ℤ_}
 use lib.ListN.{length, getD, set}
-use Rattle.network.specs.Network.{Edge, Region, State, Plan, Link, sizeOf, at, plan, kill, prepare, find, absorb, hand, combine, joinAll, mergeEdges, move, merge, stepTo, step, raised, bounded}
+use Rattle.network.specs.Network.{Edge, Region, State, Plan, Link, sizeOf, at, plan, kill, prepare, find, absorb, hand, combine, joinAll, mergeEdges, move, merge, stepTo, step, raised, bounded, gatesOf}
 use Rattle.network.proofs.Restrict.{prepare-num, combine-num}
 use Rattle.network.proofs.Ends.{combine-live}
 use Rattle.network.proofs.Choice.{size-base}
 use Rattle.network.proofs.SimpleLaws.{Turned, step-simple}
-use Rattle.network.specs.Mem.{Mem, Sound, weight-set}
-use Rattle.network.specs.Steps.{unbias, accepts, walkRaise, pruned, movedAll, readied, handed, then, merged}
+use Rattle.merge.specs.Mem.{Mem, Sound, weight-set}
+use Rattle.merge.specs.Steps.{unbias, accepts, walkRaise, pruned, movedAll, readied, handed, then, merged}
 use Rattle.network.specs.Net.{rows, regionOf}
-use Rattle.network.specs.Chain.{cur, Chains, own-joined, pos-joined, len-joined}
-use Rattle.network.specs.Rep.{Rep, Circled, Ends, gatesOf}
-use Rattle.network.proofs.network.SoundSet.{eq-or-ne}
+use Rattle.merge.specs.Chain.{cur, Chains, own-joined, pos-joined, len-joined}
+use Rattle.network.specs.Rep.{Rep, Circled, Ends}
+use Rattle.merge.proofs.merge.SoundSet.{eq-or-ne}
 use Rattle.network.proofs.network.Rows.{map-rows, rows-ext}
 use Rattle.network.proofs.network.TableEdges.{like-at}
-use Rattle.network.proofs.network.Frames.{Beside}
+use Rattle.merge.proofs.merge.Frames.{Beside}
 use Rattle.network.proofs.network.Moved.{same-no, same-yes}
-use Rattle.network.proofs.network.Counts.{Gained, Gives, raise}
+use Rattle.merge.proofs.merge.Counts.{Gained, Gives, raise}
 use Rattle.network.proofs.network.Sums.{accepts-is, accepted-sum, size-else, gates-move}
 use Rattle.network.proofs.network.After.{swap, swapped, chains-len, after, after-edges, after-mark, after-count, after-rnext, after-enext, after-size, after-elen, after-rlen, sound-after, sum-there, all-yes, all-no}
 use Rattle.network.proofs.network.Prepared.{at-rows, setting}

@@ -8,10 +8,9 @@ use native.Mathlib.Omega.{arith}
 use lib.Dec.{leb, eqb}
 use lib.IntN.{ℤ, pos, negsuc, subℕ, _+ℤ_, +ℤ-comm}
 use borrow.Author.Tests.{lt-ltb, le-ltb, le-leb, lt-leb, eqb-true}
-use Rattle.network.specs.Network.{Region, Plan, sizeOf, move, bounded}
-use Rattle.network.specs.Steps.{unbias, accepts}
-use Rattle.network.specs.Rep.{gatesOf}
-use Rattle.network.proofs.network.Bias.{lt-or-le, unbias-up, unbias-down}
+use Rattle.network.specs.Network.{Region, Plan, sizeOf, move, bounded, gatesOf}
+use Rattle.merge.specs.Steps.{unbias, accepts}
+use Rattle.merge.proofs.merge.Bias.{lt-or-le, unbias-up, unbias-down}
 use Rattle.network.proofs.network.Moved.{same-no}
 
 sub-low : (a b : ℕ) → a < b → subℕ a b ≡ negsuc (b - suc a)

@@ -9,8 +9,8 @@ use lib.ListN.{getD, set, length-set}
 use lib.Seq.{getD-set-same, getD-set-other}
 use borrow.Author.Tests.{eqb-true, eq-eqb, ne-eqb, lt-ltb}
 use Rattle.network.specs.Network.{Edge}
-use Rattle.network.specs.Mem.{Mem, Sound, weight-set, first-set, second-set, mark-set, diff-set}
-use Rattle.network.specs.Steps.{turnAt, baseEdge, absorbAt, attachAt, joinEdge, shift, movedEdge}
+use Rattle.merge.specs.Mem.{Mem, Sound, weight-set, first-set, second-set, mark-set, diff-set}
+use Rattle.merge.specs.Steps.{turnAt, baseEdge, absorbAt, attachAt, joinEdge, shift, movedEdge}
 use Rattle.network.specs.Net.{edgeOf, Like}
 
 pub like-refl : (x : Edge) → Like x x

@@ -12,9 +12,9 @@ use borrow.Author.Tests.{lt-ltb, le-ltb}
 use Rattle.network.specs.Network.{Edge, Region, State, Plan, sizeOf, at, plan, planFor, eventOf, event, step, raised, better, choose, quot, bounded, inRange, whole}
 use Rattle.network.proofs.Choice.{Best as Heaviest, best-chosen}
 use Rattle.memory.specs.Tree.{Tree, Best}
-use Rattle.network.specs.Mem.{Mem, view, Room, Sound}
-use Rattle.network.specs.Steps.{unbias, merged, numberOf}
-use Rattle.network.specs.Does.{Does, Raised, Gains, Fit}
+use Rattle.merge.specs.Mem.{Mem, view, Room, Sound}
+use Rattle.merge.specs.Steps.{unbias, merged, numberOf}
+use Rattle.merge.specs.Does.{Does, Raised, Gains, Fit}
 use Rattle.network.specs.Net.{rows, regionOf}
 use Rattle.network.specs.Rep.{Rep}
 use Rattle.network.specs.Settle.{Done, onward, settle}
@@ -22,7 +22,7 @@ use Rattle.network.specs.TurnIs.{TurnIs, Chosen, PickIs, gatesIn, firstO
 use Rattle.network.specs.declared.network.Turned.{Turned}
 use Rattle.network.specs.declared.network.Turned.the-variants.{Merged, Ended, Refused}
 use Rattle.network.specs.declared.network.Ran.the-variants.{Settled, Denied}
-use Rattle.network.proofs.network.View.{weight-at, first-at, second-at, size-at}
+use Rattle.merge.proofs.merge.View.{weight-at, first-at, second-at, size-at}
 use Rattle.network.proofs.network.Rows.{length-rows, getD-rows, has-rows}
 use Rattle.network.proofs.network.TableEdges.{word-live, Words, words}
 use Rattle.network.proofs.network.Pigeon.{two-circles}
@@ -30,7 +30,7 @@ use Rattle.network.proofs.network.Sums.{size-two}
 use Rattle.network.proofs.network.Prepared.{at-rows}
 use Rattle.network.proofs.network.StepEdges.{ends-in}
 use Rattle.network.proofs.network.StepRep.{MergeIs, merge-is}
-use Rattle.network.proofs.network.MergeDoes.{raised-true, raised-false}
+use Rattle.merge.proofs.merge.MergeDoes.{raised-true, raised-false}
 use Rattle.network.proofs.network.NumberIs.{Numbered, number-in, number-out, opposite}
 use Rattle.arithmetic.specs.Seq.{all}
 use Rattle.arithmetic.specs.Rounding.{real, roundEven}

@@ -1,7 +1,7 @@
 -- `network::network::fill_slots` meets its contract. Assumes nothing.
 use Rattle.network.proofs.network.BeginDoes.{Going, going-start, slots-turn, slots-end}
 use Rattle.network.specs.Begin.{slotsFrom}
-use Rattle.network.specs.Mem.{view}
+use Rattle.merge.specs.Mem.{view}
 use native.Mathlib.Omega.{arith}
 use Prim.Native.Nat.{_+_, _-_, _*_}
 use Rattle.network.proofs.network.fill_slots.Statement.{statement}

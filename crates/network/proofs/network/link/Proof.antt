@@ -1,5 +1,5 @@
 -- `network::network::link` meets its contract. Assumes nothing.
-use Rattle.network.proofs.network.View.{elen-at}
+use Rattle.merge.proofs.merge.View.{elen-at}
 use Rattle.network.proofs.network.BeginDoes.{link-does}
 use native.Mathlib.Omega.{arith}
 use Prim.Native.Nat.{_-_}

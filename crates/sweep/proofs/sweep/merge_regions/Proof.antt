@@ -2,7 +2,7 @@
 use Rattle.sweep.proofs.MergeLaws.{run-settled, run-denied, merged-asks, merges-few, merged-good, merged-bad}
 use Rattle.sweep.specs.Finish.{lent, countsBy}
 use Rattle.sweep.specs.Call.{Answer}
-use Rattle.network.specs.Sees.{shape}
+use Rattle.edges.specs.Sees.{shape}
 use Rattle.network.specs.Reduce.{networkBy, Reduced}
 use Rattle.network.specs.Network.{merges}
 use Rattle.arithmetic.specs.Seg.{seg}

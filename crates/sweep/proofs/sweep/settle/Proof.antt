@@ -1,8 +1,8 @@
 -- `sweep::sweep::settle` meets its contract. Assumes nothing.
 use Rattle.sweep.proofs.FinishLaws.{writes-ask}
 use Rattle.sweep.specs.Sweep.{gateCount}
-use Rattle.network.specs.Layout.{countsAt}
-use Rattle.network.specs.Steps.{unbias}
+use Rattle.memory.specs.Layout.{countsAt}
+use Rattle.merge.specs.Steps.{unbias}
 use Rattle.arithmetic.specs.Seq.{tabulate}
 use lib.IntN.{ℤ}
 use mir.ValLaws.{toZ-ofZ}

@@ -3,8 +3,8 @@ use mir.Val.{toZ, ofZ}
 use mir.Syntax.{w32}
 use mir.ValLaws.{toZ-ofZ}
 use Rattle.sweep.specs.Sweep.{gateCount}
-use Rattle.network.specs.Layout.{countsAt}
-use Rattle.network.specs.Steps.{unbias}
+use Rattle.memory.specs.Layout.{countsAt}
+use Rattle.merge.specs.Steps.{unbias}
 use lib.IntN.{ℤ, natAbs}
 use Rattle.sweep.proofs.FillLaws.{fill-begin, fill-on, fill-all}
 use Rattle.arithmetic.specs.Seg.{put}

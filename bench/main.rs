@@ -1,0 +1,176 @@
+//! Times the proved sweep entry beside the Rust on made weather sweeps, in one process, and the entry's stages one by one. Every count of
+//! both sides is compared. Prints a table, and writes it to the file given: rows of comma-separated numbers, for plot.py.
+extern crate radish_oracle;
+use radish_oracle::dealias::dealias_region_based;
+use radish_oracle::make::weather;
+use radish_oracle::Sweep;
+use std::hint::black_box;
+use std::time::Instant;
+
+extern "C" {
+    fn jivakkol_dealias_sweep(
+        rays: u32, gates: u32, nyquist: f32, interval_splits: u32, skip_between_rays: u32, skip_along_ray: u32,
+        centered: u32, rays_wrap_around: u32, velocity: *const f32, velocity_len: usize, valid: *const u8, valid_len: usize,
+        folds: *mut i32, folds_len: usize, pair: *mut u32, pair_len: usize, work: *mut u32, work_len: usize,
+        work_f64: *mut f64, work_f64_len: usize,
+    ) -> u32;
+    fn stage_questions(
+        rays: u32, gates: u32, nyquist: f32, splits: u32, skip_rays: u32, skip_gates: u32, centred: u32, wrap: u32,
+        velocity: *const f32, velocity_len: usize, valid: *const u8, valid_len: usize, words: usize, floats: usize,
+    ) -> u32;
+    fn stage_range(velocity: *const f32, velocity_len: usize, valid: *const u8, valid_len: usize) -> u32;
+    fn stage_labels(
+        gates: u32, velocity: *const f32, velocity_len: usize, valid: *const u8, valid_len: usize,
+        limits: *const f64, limits_len: usize, work: *mut u32, work_len: usize,
+    ) -> u32;
+    fn stage_looks(rays: usize, gates: usize, across: usize, along: usize, wrap: u32, work: *mut u32, work_len: usize, n: usize) -> usize;
+    fn stage_sort(work: *mut u32, work_len: usize, n: usize, m: usize, k: usize);
+    fn stage_count(work: *const u32, work_len: usize, velocity: *const f32, velocity_len: usize, n: usize, m: usize) -> usize;
+    fn stage_edges(
+        work: *mut u32, work_len: usize, floats: *mut f64, floats_len: usize, velocity: *const f32, velocity_len: usize,
+        n: usize, m: usize, t: usize, c: usize, wide: f64,
+    ) -> usize;
+    fn stage_sizes(work: *mut u32, work_len: usize, n: usize, at: usize, k: usize);
+    fn stage_copy(work: *mut u32, work_len: usize, src: usize, dst: usize, len: usize);
+    fn stage_merges(tables: *mut u32, tables_len: usize, floats: *mut f64, floats_len: usize, e: usize, v: usize) -> u32;
+    fn stage_output(work: *const u32, work_len: usize, n: usize, k: usize, valid: *const u8, valid_len: usize, centred: u32, folds: *mut i32, folds_len: usize);
+    fn stage_clear(work: *mut u32, work_len: usize, floats: *mut f64, floats_len: usize);
+}
+
+/// What a call is lent.
+struct Lent {
+    folds: Vec<i32>,
+    pair: [u32; 2],
+    work: Vec<u32>,
+    floats: Vec<f64>,
+}
+
+const STAGES: [&str; 7] = ["intervals", "labels", "looks", "sort", "network", "output", "clearing"];
+
+fn call(s: &Sweep, l: &mut Lent) {
+    let number = unsafe {
+        jivakkol_dealias_sweep(
+            s.rays as u32, s.gates as u32, s.nyquist, s.splits, s.skip_between_rays, s.skip_along_ray, s.centred, s.wrap,
+            s.velocities.as_ptr(), s.velocities.len(), s.mask.as_ptr(), s.mask.len(), l.folds.as_mut_ptr(), l.folds.len(),
+            l.pair.as_mut_ptr(), 2, l.work.as_mut_ptr(), l.work.len(), l.floats.as_mut_ptr(), l.floats.len(),
+        )
+    };
+    assert_eq!(number, 0);
+}
+
+/// The stages in the entry's order, each timed. `limits` are the sweep's own; what they cost is not in the figures (at most 10,000).
+fn staged(s: &Sweep, limits: &[f64], l: &mut Lent) -> [f64; 7] {
+    let (n, words, floats) = (s.rays * s.gates, l.work.len(), l.floats.len());
+    let (vel, mask) = (s.velocities.as_ptr(), s.mask.as_ptr());
+    let mut seconds = [0.0; 7];
+    let mut from = Instant::now();
+    let mut lap = |stage: usize| {
+        seconds[stage] = from.elapsed().as_secs_f64();
+        from = Instant::now();
+    };
+    unsafe {
+        let w = l.work.as_mut_ptr();
+        let d = l.floats.as_mut_ptr();
+        let asked = stage_questions(
+            s.rays as u32, s.gates as u32, s.nyquist, s.splits, s.skip_between_rays, s.skip_along_ray, s.centred, s.wrap, vel, n,
+            mask, n, words, floats,
+        );
+        assert_eq!((asked, stage_range(vel, n, mask, n)), (0, 1));
+        lap(0);
+        let k = stage_labels(s.gates as u32, vel, n, mask, n, limits.as_ptr(), limits.len(), w, 3 * n + 64) as usize;
+        lap(1);
+        let m = stage_looks(s.rays, s.gates, s.skip_between_rays as usize, s.skip_along_ray as usize, s.wrap, w, words, n);
+        lap(2);
+        let (t, nodes) = (13 * n, k + 1);
+        stage_sort(w, words, n, m, nodes);
+        lap(3);
+        let c = stage_count(w, words, vel, n, n, m);
+        let e = stage_edges(w, words, d, floats, vel, n, n, m, t, c, 2.0 * s.nyquist as f64);
+        stage_sizes(w, words, n, n, nodes);
+        stage_copy(w, words, n, t + 7 * e + 3 * nodes, nodes);
+        assert_eq!(stage_merges(w.add(t), 7 * e + 7 * nodes, d, floats, e, nodes), 1);
+        stage_copy(w, words, t + 7 * e + 6 * nodes, n + nodes, nodes);
+        *w.add(n + nodes) = 1000;
+        lap(4);
+        stage_output(w, words, n, k, mask, n, s.centred, l.folds.as_mut_ptr(), n);
+        lap(5);
+        stage_clear(w, words, d, floats);
+        lap(6);
+    }
+    seconds
+}
+
+fn timed(run: impl FnOnce()) -> f64 {
+    let from = Instant::now();
+    run();
+    from.elapsed().as_secs_f64()
+}
+
+/// The sweep's own limits, by the Rust: they depend on the least and the greatest valid velocity alone.
+fn limits(s: &Sweep) -> Vec<f64> {
+    let valid = s.velocities.iter().zip(&s.mask).filter(|(_, m)| **m == 1).map(|(v, _)| *v);
+    let ends = valid.fold((f32::MAX, f32::MIN), |(lo, hi), v| (lo.min(v), hi.max(v)));
+    Sweep { rays: 1, gates: 2, velocities: vec![ends.0, ends.1], mask: vec![1, 1], ..s.clone() }.trace().limits
+}
+
+/// What the work memory held before a call.
+fn soil(l: &mut Lent) {
+    l.work.fill(7);
+    l.floats.fill(7.0);
+    l.folds.fill(7);
+}
+
+/// One row: rays, gates, roughness, regions, merges, seconds of the Rust, of the entry, of a plain fill of its work memory, of each stage.
+fn measure(rays: usize, gates: usize, rough: f64) -> Vec<f64> {
+    let s = weather(7, rays, gates, rough);
+    let n = rays * gates;
+    let limits = limits(&s);
+    let mut l = Lent { folds: vec![7; n], pair: [7; 2], work: vec![7; 96 * n + 64], floats: vec![7.0; 16 * n + 16] };
+    let (mut entry, mut fill, mut stages) = (f64::MAX, f64::MAX, [f64::MAX; 7]);
+    let mut ours: Vec<i32> = Vec::new();
+    for _ in 0..7 {
+        soil(&mut l);
+        entry = entry.min(timed(|| call(&s, &mut l)));
+        ours = l.folds.clone();
+        soil(&mut l);
+        for (least, x) in stages.iter_mut().zip(staged(&s, &limits, &mut l)) {
+            *least = least.min(x);
+        }
+        assert!(l.folds == ours, "{rays} x {gates} at roughness {rough}: the counts of the stages differ");
+        soil(&mut l);
+        fill = fill.min(timed(|| {
+            l.work.fill(0);
+            l.floats.fill(0.0);
+            black_box((&l.work, &l.floats));
+        }));
+    }
+    let (v, m, o) = (s.velocity(), s.valid(), s.options());
+    let (mut rust, mut theirs) = (f64::MAX, Vec::new());
+    for _ in 0..if l.pair[0] > 50_000 { 1 } else { 5 } {
+        let from = Instant::now();
+        let counts = dealias_region_based(&v, &m, s.nyquist, s.wrap == 1, o).unwrap();
+        rust = rust.min(from.elapsed().as_secs_f64());
+        theirs = counts.iter().copied().collect();
+    }
+    assert!(ours == theirs, "{rays} x {gates} at roughness {rough}: the counts differ from the Rust's");
+    let mut row = vec![rays as f64, gates as f64, rough, l.pair[0] as f64, l.pair[1] as f64, rust, entry, fill];
+    row.extend(stages);
+    row
+}
+
+fn main() {
+    let file = std::env::args().nth(1).expect("a file to write the rows to");
+    println!("| rays × gates | roughness | regions | merges | Rust s | entry s | ratio | without clearing | plain fill s | {} |", STAGES.join(" | "));
+    println!("|{}", "---|".repeat(9 + STAGES.len()));
+    let mut rows = String::new();
+    for rough in [0.0, 2.0, 8.0] {
+        for (rays, gates) in [(90, 250), (180, 500), (360, 1000), (720, 2000)] {
+            let r = measure(rays, gates, rough);
+            print!("| {rays} × {gates} | {rough} | {} | {} | {:.4} | {:.4} | {:.1} | {:.1} | {:.4} |", r[3], r[4], r[5], r[6], r[5] / r[6], r[5] / (r[6] - r[14]), r[7]);
+            println!("{}", r[8..].iter().map(|x| format!(" {x:.4} |")).collect::<String>());
+            rows += &r.iter().map(|x| format!("{x}")).collect::<Vec<_>>().join(",");
+            rows += "\n";
+        }
+    }
+    std::fs::write(file, rows).expect("the rows can be written");
+}

@@ -1,0 +1,56 @@
+-- `network::edges::count_runs` meets its contract. Assumes nothing.
+use Rattle.edges.specs.Gather.{pairIs}
+use Rattle.edges.proofs.edges.RunCount.{Counting, count-begin, count-on, count-end, count-none}
+use native.Mathlib.Omega.{arith}
+use Prim.Native.Nat.{_-_}
+use Rattle.edges.proofs.edges.count_runs.Statement.{statement}
+use Rattle.edges.proofs.edges.count_runs.Tie as tie
+
+abbrev Inv-loop : tie.InvT-loop
+Inv-loop w vel n m p₀ e₀ i₀ p e i = Counting w vel n m (pairIs p) e i
+
+abbrev μ-loop : tie.MeasureT-loop
+μ-loop w vel n m p₀ e₀ i₀ p e i = m - i
+
+returns : tie.Need-returns Inv-loop μ-loop
+returns c = let a = c .before .before .before .args in count-none (a .w .now) (a .vel .now) (a .n) (a .m) (c .if1 .taken)
+
+pair-at-requires : tie.Need-pair-at-requires Inv-loop μ-loop
+pair-at-requires c κs = (c .before .before .before .pre, omega (arith, c .if1 .left))
+
+loop-holds : tie.Need-loop-holds Inv-loop μ-loop
+loop-holds c = let a = c .before .before .before .before .args in count-begin (a .w .now) (a .vel .now) (a .n) (a .m) (pairIs (c .pair-at .result)) (omega (arith, c .before .if1 .left)) (c .pair-at .ensures)
+
+pair-at-requires-2 : tie.Need-pair-at-requires-2 Inv-loop μ-loop
+pair-at-requires-2 c κs = (c .before .before .before .before .before .before .pre, c .loop-test .taken)
+
+next-run-requires : tie.Need-next-run-requires Inv-loop μ-loop
+next-run-requires c κs = omega (arith, c .before .before .loop .inv .few, c .before .loop-test .taken, c .before .before .before .before .before .before .before .pre .small)
+
+add-i : tie.Need-add-i Inv-loop μ-loop
+add-i c = omega (arith, c .before .before .loop-test .taken, c .before .before .before .before .before .before .before .before .pre .small)
+
+loop-less : tie.Need-loop-less Inv-loop μ-loop
+loop-less c = omega (arith, c .before .before .loop-test .taken)
+
+loop-again : tie.Need-loop-again Inv-loop μ-loop
+loop-again c = let a = c .before .before .before .before .before .before .before .before .args in let l = c .before .before .before .loop in count-on (a .w .now) (a .vel .now) (a .n) (a .m) (pairIs (l .p)) (pairIs (c .before .pair-at2 .result)) (l .e) (c .next-run .result) (l .i) (l .inv) (c .before .before .loop-test .taken) (c .before .pair-at2 .ensures) (c .next-run .ensures)
+
+returns-2 : tie.Need-returns-2 Inv-loop μ-loop
+returns-2 c = let a = c .before .before .before .before .before .before .args in let l = c .before .loop in count-end (a .w .now) (a .vel .now) (a .n) (a .m) (pairIs (l .p)) (l .e) (l .i) (l .inv) (omega (arith, c .loop-test .left))
+
+pub count-runs-spec : {M : Type 1} → statement M
+count-runs-spec =
+    tie.close
+    (tie.spec
+    Inv-loop
+    μ-loop
+    returns
+    pair-at-requires
+    loop-holds
+    pair-at-requires-2
+    next-run-requires
+    add-i
+    loop-less
+    loop-again
+    returns-2)

@@ -1,0 +1,56 @@
+-- `network::edges::gather_one` meets its contract. Assumes nothing.
+use Prim.Native.Nat.{_-_}
+use borrow.Author.Needs.{needs}
+use Rattle.edges.proofs.edges.Going.{turned-on, turned-off}
+use Rattle.edges.specs.Gather.{pairAt}
+use Rattle.edges.proofs.edges.gather_one.Statement.{statement}
+use Rattle.edges.proofs.edges.gather_one.Tie as tie
+
+pair-at-requires : tie.Need-pair-at-requires
+pair-at-requires c κs = search needs
+
+same-labels-requires : tie.Need-same-labels-requires
+same-labels-requires c κs = search needs
+
+go-on-requires : tie.Need-go-on-requires
+go-on-requires c κs = search needs
+
+same-length : tie.Need-same-length
+same-length c = search needs
+
+returns : tie.Need-returns
+returns c = let a = c .before .before .before .before .before .before .before .before .args in turned-on (a .wide) (a .t) (a .c) (pairAt (a .w .now) (a .vel .now) (a .n) (a .i)) (a .s) (c .go-on .result) (c .before .before .before .pair-at .result) (c .before .before .same-labels .result) (c .before .before .before .pair-at .ensures) (c .before .before .same-labels .ensures) (c .before .if1 .taken) (c .go-on .ensures .0) (c .go-on .ensures .1) (a .w .now) (a .d .now)
+
+put-edge-requires : tie.Need-put-edge-requires
+put-edge-requires c κs = search needs
+
+add-begin : tie.Need-add-begin
+add-begin c = search needs
+
+begin-requires : tie.Need-begin-requires
+begin-requires c κs = search needs
+
+same-length-2 : tie.Need-same-length-2
+same-length-2 c = search needs
+
+same-length-3 : tie.Need-same-length-3
+same-length-3 c = search needs
+
+returns-2 : tie.Need-returns-2
+returns-2 c = let a = c .before .before .before .before .before .before .before .before .before .before .before .before .before .before .before .before .args in turned-off (a .wide) (a .t) (a .c) (pairAt (a .w .now) (a .vel .now) (a .n) (a .i)) (a .s) (c .begin .result) (c .before .before .before .before .before .before .before .before .before .before .before .pair-at .result) (c .before .before .before .before .before .before .before .before .before .before .same-labels .result) (c .before .before .before .before .before .before .before .before .before .before .before .pair-at .ensures) (c .before .before .before .before .before .before .before .before .before .before .same-labels .ensures) (c .before .before .before .before .before .before .before .before .before .if1 .left) (c .begin .ensures .0) (c .begin .ensures .1) (a .w .now) (c .before .before .before .before .before .before .put-edge .last .0) (a .d .now) (c .before .before .before .before .before .before .put-edge .last .1 .0) (c .before .before .before .before .before .before .put-edge .ensures .0) (c .before .before .before .before .before .before .put-edge .ensures .1)
+
+pub gather-one-spec : {M : Type 1} → statement M
+gather-one-spec =
+    tie.close
+    (tie.spec
+    pair-at-requires
+    same-labels-requires
+    go-on-requires
+    same-length
+    returns
+    put-edge-requires
+    add-begin
+    begin-requires
+    same-length-2
+    same-length-3
+    returns-2)

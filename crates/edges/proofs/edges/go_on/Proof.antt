@@ -1,0 +1,19 @@
+-- `network::edges::go_on` meets its contract. Assumes nothing.
+use native.Mathlib.Omega.{arith}
+use mathlib.Core.Path.{_≡_, refl}
+use Prim.Native.Nat.{suc, _+_, _-_}
+use borrow.Author.Needs.{needs}
+use lib.Ieee.{add, binary64}
+use Rattle.edges.specs.Edges.{plus}
+use Rattle.edges.proofs.edges.go_on.Statement.{statement}
+use Rattle.edges.proofs.edges.go_on.Tie as tie
+
+add-t3 : tie.Need-add-t3
+add-t3 c = search needs
+
+returns : tie.Need-returns
+unfolding plus
+returns c = let s = c .before .before .before .before .before .args .s in let p = c .before .before .before .before .before .args .p in let e : s .count + 1 ≡ suc (s .count) = omega arith in ((λ j. record { one = s .one; two = s .two; count = e j; sum1 = add binary64 (s .sum1) (p .vel1); sum2 = add binary64 (s .sum2) (p .vel2) }), refl)
+
+pub go-on-spec : {M : Type 1} → statement M
+go-on-spec = tie.close (tie.spec add-t3 returns)

@@ -1,0 +1,85 @@
+-- `network::edges::look` meets its contract. Assumes nothing.
+use borrow.Author.Needs.{needs}
+use native.Mathlib.Omega.{arith}
+use mathlib.Core.Path.{_≡_, sym, ap, _∙_}
+use Prim.Native.Nat.{ℕ, suc, _-_, _*_, _<_}
+use mathlib.Core.Option.{some}
+use Rattle.edges.proofs.edges.Looking.{none-on, seen-on, skip-on, last-on, begins}
+use Rattle.edges.proofs.edges.Next.{next-in}
+use Rattle.edges.specs.Sees.{shape, way, answer}
+use Rattle.edges.specs.Edges.{sees, next}
+use Rattle.edges.specs.Edges as edges
+use Rattle.edges.proofs.edges.look.Statement.{statement}
+use Rattle.edges.proofs.edges.look.Tie as tie
+
+abbrev Inv-loop : tie.InvT-loop
+Inv-loop labels f d g left₀ h₀ left h = (h < f .rays * f .gates) × (sees (shape f) labels (way d) g ≡ edges.look (shape f) (way d) labels (suc left) h)
+
+abbrev μ-loop : tie.MeasureT-loop
+μ-loop labels f d g left₀ h₀ left h = left
+
+reach-requires : tie.Need-reach-requires Inv-loop μ-loop
+reach-requires c κs = search needs
+
+-- the step's answer, as the definition has it
+is-next : (c : tie.After-known-told Inv-loop μ-loop) → next (shape (c .before .before .before .before .before .before .before .args .f)) (way (c .before .before .before .before .before .before .before .args .d)) (c .before .before .before .before .loop .h) ≡ some (c .before .s .given .0 .0)
+is-next c = sym (c .before .before .before .step .ensures) ∙ ap answer (c .before .s .given .1)
+
+inside : (c : tie.After-known-told Inv-loop μ-loop) → c .before .s .given .0 .0 < c .before .before .before .before .before .before .before .args .f .rays * c .before .before .before .before .before .before .before .args .f .gates
+inside c = next-in (shape (c .before .before .before .before .before .before .before .args .f)) (c .before .before .before .before .loop .h) (way (c .before .before .before .before .before .before .before .args .d)) (c .before .s .given .0 .0) (c .before .before .before .before .loop .inv .0) (is-next c)
+
+loop-holds : tie.Need-loop-holds Inv-loop μ-loop
+loop-holds c = (c .before .before .pre .inside, begins (shape (c .before .before .args .f)) (way (c .before .before .args .d)) (c .before .before .args .labels .now) (c .reach .result) (c .before .before .args .g) (c .reach .ensures))
+
+step-requires : tie.Need-step-requires Inv-loop μ-loop
+step-requires c κs = record { inside = c .loop .inv .0; small = c .before .before .before .pre .small }
+
+enum-known-s : tie.Need-enum-known-s Inv-loop μ-loop
+enum-known-s c = search needs
+
+enum-told : tie.Need-enum-told Inv-loop μ-loop
+enum-told c = search needs
+
+returns : tie.Need-returns Inv-loop μ-loop
+returns c = sym (c .before .before .before .loop .inv .1 ∙ none-on (shape (c .before .before .before .before .before .before .args .f)) (way (c .before .before .before .before .before .before .args .d)) (c .before .before .before .before .before .before .args .labels .now) (c .before .before .before .loop .left) (c .before .before .before .loop .h) (sym (c .before .before .step .ensures) ∙ ap answer (c .enum-told .given .1)))
+
+mul-if1 : tie.Need-mul-if1 Inv-loop μ-loop
+mul-if1 c = omega (arith, inside c, c .before .before .before .before .before .before .before .pre .small)
+
+shared-slice-read-if1 : tie.Need-shared-slice-read-if1 Inv-loop μ-loop
+shared-slice-read-if1 c = omega (arith, inside (c .before), c .before .before .before .before .before .before .before .before .pre .whole)
+
+returns-2 : tie.Need-returns-2 Inv-loop μ-loop
+returns-2 c = sym (c .before .before .before .before .before .before .loop .inv .1 ∙ seen-on (shape (c .before .before .before .before .before .before .before .before .before .args .f)) (way (c .before .before .before .before .before .before .before .before .before .args .d)) (c .before .before .before .before .before .before .before .before .before .args .labels .now) (c .before .before .before .before .before .before .loop .left) (c .before .before .before .before .before .before .loop .h) (c .before .before .before .s .given .0 .0) (is-next (c .before .before)) (c .if1 .taken))
+
+returns-3 : tie.Need-returns-3 Inv-loop μ-loop
+returns-3 c = sym (c .before .before .before .before .before .before .before .loop .inv .1 ∙ ap (λ (x : ℕ). edges.look (shape (c .before .before .before .before .before .before .before .before .before .before .args .f)) (way (c .before .before .before .before .before .before .before .before .before .before .args .d)) (c .before .before .before .before .before .before .before .before .before .before .args .labels .now) (suc x) (c .before .before .before .before .before .before .before .loop .h)) (c .if2 .taken) ∙ last-on (shape (c .before .before .before .before .before .before .before .before .before .before .args .f)) (way (c .before .before .before .before .before .before .before .before .before .before .args .d)) (c .before .before .before .before .before .before .before .before .before .before .args .labels .now) (c .before .before .before .before .before .before .before .loop .h) (c .before .before .before .before .s .given .0 .0) (is-next (c .before .before .before)) (c .before .if1 .left))
+
+sub-left : tie.Need-sub-left Inv-loop μ-loop
+sub-left c = search needs
+
+loop-less : tie.Need-loop-less Inv-loop μ-loop
+loop-less c = search needs
+
+loop-again : tie.Need-loop-again Inv-loop μ-loop
+loop-again c = (inside (c .before .before .before), c .before .before .before .before .before .before .before .loop .inv .1 ∙ skip-on (shape (c .before .before .before .before .before .before .before .before .before .before .args .f)) (way (c .before .before .before .before .before .before .before .before .before .before .args .d)) (c .before .before .before .before .before .before .before .before .before .before .args .labels .now) (c .before .before .before .before .before .before .before .loop .left) (c .before .before .before .before .before .before .before .loop .h) (c .before .before .before .before .s .given .0 .0) (is-next (c .before .before .before)) (c .before .if1 .left) ∙ ap (λ (x : ℕ). edges.look (shape (c .before .before .before .before .before .before .before .before .before .before .args .f)) (way (c .before .before .before .before .before .before .before .before .before .before .args .d)) (c .before .before .before .before .before .before .before .before .before .before .args .labels .now) x (c .before .before .before .before .s .given .0 .0)) (omega (arith, c .if2 .left)))
+
+pub look-spec : {M : Type 1} → statement M
+look-spec =
+    tie.close
+    (tie.spec
+    Inv-loop
+    μ-loop
+    reach-requires
+    loop-holds
+    step-requires
+    enum-known-s
+    enum-told
+    returns
+    mul-if1
+    shared-slice-read-if1
+    returns-2
+    returns-3
+    sub-left
+    loop-less
+    loop-again)

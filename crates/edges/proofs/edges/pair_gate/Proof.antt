@@ -1,0 +1,49 @@
+-- `network::edges::pair_gate` meets its contract. Assumes nothing.
+use native.Mathlib.Omega.{arith}
+use Prim.Native.Nat.{_-_}
+use borrow.Author.Needs.{needs}
+use Rattle.edges.proofs.edges.PairTurn.{place-less, place-on, four, unlabelled}
+use Rattle.edges.specs.Edges.{left, right, top}
+use Rattle.edges.proofs.edges.pair_gate.Statement.{statement}
+use Rattle.edges.proofs.edges.pair_gate.Tie as tie
+
+mul-if1 : tie.Need-mul-if1
+mul-if1 c = search needs
+
+slice-read-if1 : tie.Need-slice-read-if1
+slice-read-if1 c = search needs
+
+returns : tie.Need-returns
+returns c = let a = c .before .before .before .args in unlabelled (a .f) (a .n) (a .w .now) (a .g) (a .c) (c .before .before .before .pre .inside) (c .if1 .taken)
+
+pair-one-requires : tie.Need-pair-one-requires
+pair-one-requires c κs = search needs
+
+pair-one-requires-2 : tie.Need-pair-one-requires-2
+pair-one-requires-2 c κs = let a = c .before .before .before .before .before .before .before .before .args in place-less (a .f) (a .n) (c .before .before .before .pair-one .last .0) (a .g) (c .before .before .before .pair-one .result) 3 1 (place-on (a .f) (a .n) (a .w .now) (c .before .before .before .pair-one .last .0) (a .g) (a .c) (c .before .before .before .pair-one .result) 3 left (c .before .before .before .before .before .before .before .before .pre) (c .before .before .before .pair-one .ensures)) (omega arith)
+
+pair-one-requires-3 : tie.Need-pair-one-requires-3
+pair-one-requires-3 c κs = let a = c .before .before .before .before .before .before .before .before .before .before .before .before .args in place-less (a .f) (a .n) (c .before .before .before .pair-one2 .last .0) (a .g) (c .before .before .before .pair-one2 .result) 2 1 (place-on (a .f) (a .n) (c .before .before .before .before .before .before .before .pair-one .last .0) (c .before .before .before .pair-one2 .last .0) (a .g) (c .before .before .before .before .before .before .before .pair-one .result) (c .before .before .before .pair-one2 .result) 2 right (place-on (a .f) (a .n) (a .w .now) (c .before .before .before .before .before .before .before .pair-one .last .0) (a .g) (a .c) (c .before .before .before .before .before .before .before .pair-one .result) 3 left (c .before .before .before .before .before .before .before .before .before .before .before .before .pre) (c .before .before .before .before .before .before .before .pair-one .ensures)) (c .before .before .before .pair-one2 .ensures)) (omega arith)
+
+pair-one-requires-4 : tie.Need-pair-one-requires-4
+pair-one-requires-4 c κs = let a = c .before .before .before .before .before .before .before .before .before .before .before .before .before .before .before .before .args in place-on (a .f) (a .n) (c .before .before .before .before .before .before .before .pair-one2 .last .0) (c .before .before .before .pair-one3 .last .0) (a .g) (c .before .before .before .before .before .before .before .pair-one2 .result) (c .before .before .before .pair-one3 .result) 1 top (place-on (a .f) (a .n) (c .before .before .before .before .before .before .before .before .before .before .before .pair-one .last .0) (c .before .before .before .before .before .before .before .pair-one2 .last .0) (a .g) (c .before .before .before .before .before .before .before .before .before .before .before .pair-one .result) (c .before .before .before .before .before .before .before .pair-one2 .result) 2 right (place-on (a .f) (a .n) (a .w .now) (c .before .before .before .before .before .before .before .before .before .before .before .pair-one .last .0) (a .g) (a .c) (c .before .before .before .before .before .before .before .before .before .before .before .pair-one .result) 3 left (c .before .before .before .before .before .before .before .before .before .before .before .before .before .before .before .before .pre) (c .before .before .before .before .before .before .before .before .before .before .before .pair-one .ensures)) (c .before .before .before .before .before .before .before .pair-one2 .ensures)) (c .before .before .before .pair-one3 .ensures)
+
+same-length : tie.Need-same-length
+same-length c = search needs
+
+returns-2 : tie.Need-returns-2
+returns-2 c = let a = c .before .before .before .before .before .before .before .before .before .before .before .before .before .before .before .before .before .before .before .args in four (a .f) (a .n) (a .g) (a .w .now) (c .before .before .before .before .before .before .before .before .before .before .before .before .before .before .pair-one .last .0) (c .before .before .before .before .before .before .before .before .before .before .pair-one2 .last .0) (c .before .before .before .before .before .before .pair-one3 .last .0) (c .before .before .pair-one4 .last .0) (a .c) (c .before .before .before .before .before .before .before .before .before .before .before .before .before .before .pair-one .result) (c .before .before .before .before .before .before .before .before .before .before .pair-one2 .result) (c .before .before .before .before .before .before .pair-one3 .result) (c .before .before .pair-one4 .result) (c .before .before .before .before .before .before .before .before .before .before .before .before .before .before .before .before .before .before .before .pre) (c .before .before .before .before .before .before .before .before .before .before .before .before .before .before .before .before .if1 .left) (c .before .before .before .before .before .before .before .before .before .before .before .before .before .before .pair-one .ensures) (c .before .before .before .before .before .before .before .before .before .before .pair-one2 .ensures) (c .before .before .before .before .before .before .pair-one3 .ensures) (c .before .before .pair-one4 .ensures)
+
+pub pair-gate-spec : {M : Type 1} → statement M
+pair-gate-spec =
+    tie.close
+    (tie.spec
+    mul-if1
+    slice-read-if1
+    returns
+    pair-one-requires
+    pair-one-requires-2
+    pair-one-requires-3
+    pair-one-requires-4
+    same-length
+    returns-2)

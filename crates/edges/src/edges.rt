@@ -1,0 +1,428 @@
+// edges.rs: looks, pairs, and the edge records gathered from them.
+ghost use mathlib.Core.Path.{_≡_};
+ghost use mathlib.Core.Bool.{cond};
+ghost use mathlib.Core.List.{List, [], _∷_};
+ghost use Prim.Native.Nat.{ℕ, suc, _+_, _-_, _*_, _≤_, _<_, _^_};
+ghost use lib.ListN.{length, getD, set};
+ghost use Rattle.arithmetic.specs.Seg.{seg, put};
+ghost use Rattle.arithmetic.specs.Seq.{upto};
+ghost use Rattle.edges.specs.Edges.{next, left, right, top, bottom, look, sees, skip, begun, plus, pairs, used};
+ghost use Rattle.edges.specs.Whole.{Asked, Edged};
+ghost use Rattle.edges.specs.Gather.{pairIs, recordIs, pairAt, later, Ready, diffOf, written, tables, Slot, Turned, Gathers, Gathered};
+ghost use Rattle.edges.specs.Order.{alike, runs};
+ghost use Rattle.edges.specs.Sorts.{labelsOf, Reads, Sorts, Sorted};
+ghost use Rattle.edges.specs.GatePairs.{gatePairTo, gatePairsAt, gatePairs, Adds, Sheet, Place};
+ghost use Rattle.edges.specs.Sees.{answer, way, shape, Inside, Looks};
+
+// Two labels, the number of their pairs, and the sums of the velocities at either end.
+pub struct EdgeRecord {
+    pub one: u32,
+    pub two: u32,
+    pub count: u32,
+    pub sum1: f64,
+    pub sum2: f64,
+}
+
+// Rays, gates per ray, the two skips, and whether rays wrap.
+pub struct Frame {
+    pub rays: usize,
+    pub gates: usize,
+    pub across: usize,
+    pub along: usize,
+    pub wrap: u32,
+}
+
+pub enum Way {
+    Left,
+    Right,
+    Top,
+    Bottom,
+}
+
+pub enum Seen {
+    At(usize),
+    Nothing,
+}
+
+// One step to the ray before.
+fn to_left(f: Frame, g: usize) -> Seen
+    requires { ⌜ Inside f g ⌝ }
+    ensures { λ r. ⌜ answer r ≡ next (shape f) left g ⌝ }
+{
+    let gates = f.gates;
+    if gates <= g {
+        return Seen::At(g - gates);
+    }
+    if f.wrap != 1 {
+        return Seen::Nothing;
+    }
+    Seen::At(g + (f.rays - 1) * gates)
+}
+
+// One step to the ray after.
+fn to_right(f: Frame, g: usize) -> Seen
+    requires { ⌜ Inside f g ⌝ }
+    ensures { λ r. ⌜ answer r ≡ next (shape f) right g ⌝ }
+{
+    let gates = f.gates;
+    if g + gates < f.rays * gates {
+        return Seen::At(g + gates);
+    }
+    if f.wrap != 1 {
+        return Seen::Nothing;
+    }
+    Seen::At(g % gates)
+}
+
+// One step back on the ray.
+fn to_top(f: Frame, g: usize) -> Seen
+    requires { ⌜ Inside f g ⌝ }
+    ensures { λ r. ⌜ answer r ≡ next (shape f) top g ⌝ }
+{
+    if g % f.gates == 0 {
+        return Seen::Nothing;
+    }
+    Seen::At(g - 1)
+}
+
+// One step on along the ray.
+fn to_bottom(f: Frame, g: usize) -> Seen
+    requires { ⌜ Inside f g ⌝ }
+    ensures { λ r. ⌜ answer r ≡ next (shape f) bottom g ⌝ }
+{
+    if (g + 1) % f.gates == 0 {
+        return Seen::Nothing;
+    }
+    Seen::At(g + 1)
+}
+
+// One step.
+pub fn step(f: Frame, d: Way, g: usize) -> Seen
+    requires { ⌜ Inside f g ⌝ }
+    ensures { λ r. ⌜ answer r ≡ next (shape f) (way d) g ⌝ }
+{
+    match d {
+        Way::Left => to_left(f, g),
+        Way::Right => to_right(f, g),
+        Way::Top => to_top(f, g),
+        Way::Bottom => to_bottom(f, g),
+    }
+}
+
+// How many further steps a look takes.
+pub fn reach(f: Frame, d: Way) -> usize
+    ensures { λ r. ⌜ r ≡ skip (shape f) (way d) ⌝ }
+{
+    match d {
+        Way::Left => f.across,
+        Way::Right => f.across,
+        Way::Top => f.along,
+        Way::Bottom => f.along,
+    }
+}
+
+// The gate that gate g sees.
+pub fn look(labels: &[u32], f: Frame, d: Way, g: usize) -> Seen
+    requires { ⌜ Looks f (now labels) g ⌝ }
+    ensures { λ r. ⌜ answer r ≡ sees (shape f) (now (labels .entry)) (way d) g ⌝ }
+{
+    let mut left = reach(f, d);
+    let mut h = g;
+    loop {
+        let s = step(f, d, h);
+        let Seen::At(j) = s else {
+            return Seen::Nothing;
+        };
+        if labels[j] != 0 {
+            return Seen::At(j);
+        }
+        if left == 0 {
+            return Seen::Nothing;
+        }
+        h = j;
+        left -= 1;
+    }
+}
+
+// Gate g and the gate that it sees one way, as pair c, if its label is the greater. Gives how many pairs there are then.
+pub fn pair_one(w: &mut [u32], n: usize, f: Frame, d: Way, g: usize, c: usize) -> usize
+    requires { ⌜ Place f n (now w) g c 1 ⌝ }
+    ensures { λ r. ⌜ Adds n (now (w .entry)) (now (w .exit)) c r (gatePairTo (seg (now (w .entry)) 0 n) g (sees (shape f) (seg (now (w .entry)) 0 n) (way d) g)) ⌝ }
+{
+    let s = look(&w[0..n], f, d, g);
+    let Seen::At(h) = s else {
+        return c;
+    };
+    if w[g] <= w[h] {
+        return c;
+    }
+    w[n + c] = g as u32;
+    w[5 * n + c] = h as u32;
+    c + 1
+}
+
+// The pairs of gate g.
+pub fn pair_gate(w: &mut [u32], n: usize, f: Frame, g: usize, c: usize) -> usize
+    requires { ⌜ Place f n (now w) g c 4 ⌝ }
+    ensures { λ r. ⌜ Adds n (now (w .entry)) (now (w .exit)) c r (gatePairsAt (shape f) (seg (now (w .entry)) 0 n) g) ⌝ }
+{
+    if w[g] == 0 {
+        return c;
+    }
+    let c1 = pair_one(w, n, f, Way::Left, g, c);
+    let c2 = pair_one(w, n, f, Way::Right, g, c1);
+    let c3 = pair_one(w, n, f, Way::Top, g, c2);
+    pair_one(w, n, f, Way::Bottom, g, c3)
+}
+
+// All pairs, in scan order.
+pub fn pair_all(w: &mut [u32], n: usize, f: Frame) -> usize
+    requires { ⌜ Sheet f n (now w) ⌝ }
+    ensures { λ r. ⌜ Adds n (now (w .entry)) (now (w .exit)) 0 r (gatePairs (shape f) (seg (now (w .entry)) 0 n)) ⌝ }
+    ensures { λ r. ⌜ r ≤ 4 * n ⌝ }
+{
+    let mut c = 0;
+    let mut g = 0;
+    while g < n {
+        c = pair_gate(w, n, f, g, c);
+        g += 1;
+    }
+    c
+}
+
+// The numbers below m, from b on.
+pub fn number(w: &mut [u32], b: usize, m: usize)
+    requires { ⌜ (b + m ≤ length (now w)) × (m < 2 ^ 32) ⌝ }
+    ensures { λ _. ⌜ now (w .exit) ≡ put (now (w .entry)) b (upto m 0) ⌝ }
+{
+    let mut i = 0;
+    while i < m {
+        w[b + i] = i as u32;
+        i += 1;
+    }
+}
+
+// The labels of the m gates from src on, from dst on.
+pub fn labels_of(w: &mut [u32], n: usize, src: usize, m: usize, dst: usize)
+    requires { ⌜ Reads (now w) n src m dst ⌝ }
+    ensures { λ _. ⌜ now (w .exit) ≡ put (now (w .entry)) dst (labelsOf (now (w .entry)) src m) ⌝ }
+{
+    let mut i = 0;
+    while i < m {
+        let x = w[src + i] as usize;
+        w[dst + i] = w[x];
+        i += 1;
+    }
+}
+
+// The pairs' numbers, by second label and then first.
+pub fn sort_pairs(w: &mut [u32], n: usize, m: usize, k: usize)
+    requires { ⌜ Sorts (now w) n m k ⌝ }
+    ensures { λ _. ⌜ Sorted (now (w .entry)) (now (w .exit)) n m k ⌝ }
+{
+    let base = 9 * n;
+    number(w, base, m);
+    labels_of(w, n, n, m, base + m + m);
+    labels_of(w, n, 5 * n, m, base + m + m + m);
+    memory::sort::sort2(w, base, m, m, k);
+}
+
+// Two labels and the velocities at either end.
+pub struct Raw {
+    pub one: u32,
+    pub two: u32,
+    pub vel1: f64,
+    pub vel2: f64,
+}
+
+// A record as it is gathered, and how many there were before it.
+pub struct Sums {
+    pub one: u32,
+    pub two: u32,
+    pub count: u32,
+    pub sum1: f64,
+    pub sum2: f64,
+    pub edges: usize,
+}
+
+// The i-th of the sorted pairs.
+pub fn pair_at(w: &[u32], vel: &[f32], n: usize, m: usize, i: usize) -> Raw
+    requires { ⌜ Ready (now w) (now vel) n m ⌝ }
+    requires { ⌜ i < m ⌝ }
+    ensures { λ r. ⌜ pairIs r ≡ pairAt (now (w .entry)) (now (vel .entry)) n i ⌝ }
+{
+    let x = w[9 * n + i] as usize;
+    let g = w[n + x] as usize;
+    let h = w[5 * n + x] as usize;
+    Raw {
+        one: w[g],
+        two: w[h],
+        vel1: std::num::f32_to_f64_with_nan(vel[g]),
+        vel2: std::num::f32_to_f64_with_nan(vel[h]),
+    }
+}
+
+// A record of one pair.
+pub fn begin(p: Raw, edges: usize) -> Sums
+    ensures { λ r. ⌜ (recordIs r ≡ begun (pairIs p)) × (r .edges ≡ edges) ⌝ }
+{
+    Sums {
+        one: p.one,
+        two: p.two,
+        count: 1,
+        sum1: p.vel1,
+        sum2: p.vel2,
+        edges: edges,
+    }
+}
+
+// A record with one more pair.
+pub fn go_on(s: Sums, p: Raw) -> Sums
+    requires { ⌜ s .count + 1 < 2 ^ 32 ⌝ }
+    ensures { λ r. ⌜ (recordIs r ≡ plus (recordIs s) (pairIs p)) × (r .edges ≡ s .edges) ⌝ }
+{
+    Sums {
+        one: s.one,
+        two: s.two,
+        count: s.count + 1,
+        sum1: s.sum1 + p.vel1,
+        sum2: s.sum2 + p.vel2,
+        edges: s.edges,
+    }
+}
+
+// The difference of a record.
+pub fn difference(s: Sums, wide: f64) -> f64
+    ensures { λ r. ⌜ r ≡ diffOf wide (recordIs s) ⌝ }
+{
+    let y = arithmetic::narrow::to_f32((s.sum1 - s.sum2) / wide);
+    std::num::f32_to_f64_with_nan(y)
+}
+
+// The record written as an edge.
+pub fn put_edge(w: &mut [u32], d: &mut [f64], t: usize, c: usize, wide: f64, s: Sums)
+    requires { ⌜ (t + 5 * c ≤ length (now w)) × (c ≤ length (now d)) × (s .edges < c) ⌝ }
+    ensures { λ _. ⌜ now (w .exit) ≡ written (now (w .entry)) t c (s .edges) (recordIs s) ⌝ }
+    ensures { λ _. ⌜ now (d .exit) ≡ set (now (d .entry)) (s .edges) (diffOf wide (recordIs s)) ⌝ }
+{
+    let e = s.edges;
+    w[t + e] = s.count;
+    w[t + 3 * c + e] = s.one;
+    w[t + 4 * c + e] = s.two;
+    d[e] = difference(s, wide);
+}
+
+// Whether a pair has a record's labels.
+pub fn same_labels(s: Sums, p: Raw) -> bool
+    ensures { λ r. ⌜ r ≡ alike (recordIs s) (pairIs p) ⌝ }
+{
+    if s.one != p.one {
+        return false;
+    }
+    s.two == p.two
+}
+
+// The i-th pair goes on with the record, or the record is written and another begun.
+pub fn gather_one(
+    w: &mut [u32],
+    d: &mut [f64],
+    vel: &[f32],
+    n: usize,
+    m: usize,
+    t: usize,
+    c: usize,
+    wide: f64,
+    s: Sums,
+    i: usize,
+) -> Sums
+    requires { ⌜ Ready (now w) (now vel) n m ⌝ }
+    requires { ⌜ Slot (now w) (now d) n m t c (s .edges) ⌝ }
+    requires { ⌜ (i < m) × (s .count + 1 < 2 ^ 32) ⌝ }
+    ensures { λ r. ⌜ Turned wide t c (pairAt (now (w .entry)) (now (vel .entry)) n i) s r (now (w .entry)) (now (w .exit)) (now (d .entry)) (now (d .exit)) ⌝ }
+{
+    let p = pair_at(w, vel, n, m, i);
+    if same_labels(s, p) {
+        return go_on(s, p);
+    }
+    put_edge(w, d, t, c, wide, s);
+    begin(p, s.edges + 1)
+}
+
+// The sorted pairs gathered into edges. Gives how many.
+pub fn gather(
+    w: &mut [u32],
+    d: &mut [f64],
+    vel: &[f32],
+    n: usize,
+    m: usize,
+    t: usize,
+    c: usize,
+    wide: f64,
+) -> usize
+    requires { ⌜ Gathers (now w) (now d) (now vel) n m t c ⌝ }
+    ensures { λ r. ⌜ Gathered wide (now (w .entry)) (now (w .exit)) (now (d .entry)) (now (d .exit)) t c r (runs (later (now (w .entry)) (now (vel .entry)) n m 0)) ⌝ }
+{
+    if m == 0 {
+        return 0;
+    }
+    let p = pair_at(w, vel, n, m, 0);
+    let mut s = begin(p, 0);
+    let mut i = 1;
+    while i < m {
+        s = gather_one(w, d, vel, n, m, t, c, wide, s, i);
+        i += 1;
+    }
+    put_edge(w, d, t, c, wide, s);
+    s.edges + 1
+}
+
+// One more than e where pair q begins a run after pair p, else e.
+fn next_run(p: Raw, q: Raw, e: usize) -> usize
+    requires { ⌜ e + 1 < 2 ^ 32 ⌝ }
+    ensures { λ r. ⌜ r ≡ cond (alike (begun (pairIs p)) (pairIs q)) e (e + 1) ⌝ }
+{
+    if same_labels(begin(p, 0), q) {
+        return e;
+    }
+    e + 1
+}
+
+// How many runs of equal labels the sorted pairs have.
+pub fn count_runs(w: &[u32], vel: &[f32], n: usize, m: usize) -> usize
+    requires { ⌜ Ready (now w) (now vel) n m ⌝ }
+    ensures { λ r. ⌜ r ≡ length (runs (later (now (w .entry)) (now (vel .entry)) n m 0)) ⌝ }
+{
+    if m == 0 {
+        return 0;
+    }
+    let mut p = pair_at(w, vel, n, m, 0);
+    let mut e = 1;
+    let mut i = 1;
+    while i < m {
+        let q = pair_at(w, vel, n, m, i);
+        e = next_run(p, q, e);
+        p = q;
+        i += 1;
+    }
+    e
+}
+
+// The edges of a labelled sweep, of labels 0 to k, in tables from t on. Gives how many.
+pub fn find_edges(
+    w: &mut [u32],
+    d: &mut [f64],
+    vel: &[f32],
+    f: Frame,
+    n: usize,
+    k: usize,
+    t: usize,
+    wide: f64,
+) -> usize
+    requires { ⌜ Asked f (now w) (now d) (now vel) n k t ⌝ }
+    ensures { λ r. ⌜ Edged wide n (now (w .entry)) (now (w .exit)) (now (d .exit)) t r (used k (pairs (shape f) (seg (now (w .entry)) 0 n) (now (vel .entry)))) ⌝ }
+{
+    let m = pair_all(w, n, f);
+    sort_pairs(w, n, m, k + 1);
+    let e = count_runs(w, vel, n, m);
+    gather(w, d, vel, n, m, t, e, wide)
+}

@@ -1,0 +1,2 @@
+// Which regions see each other, and the edges between them.
+pub mod edges;

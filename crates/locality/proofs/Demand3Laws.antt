@@ -1,0 +1,149 @@
+-- Demand 3, proved: `merge-lists` and `two-sweeps` are the two statements of Demand3. Assumes nothing.
+use Prim.Native.Nat.{ℕ, _<_}
+use native.Mathlib.Omega.{arith}
+use mathlib.Core.Path.{_≡_, refl, sym, ap, _∙_}
+use mathlib.Core.Bool.{Bool, true, false}
+use mathlib.Core.List.{List, [], _∷_}
+use mathlib.Core.Option.{Option, none, some, Option·none-ne-some, Option·some-injective}
+use lib.Dec.{eqb}
+use lib.ListN.{length, getD}
+use lib.IntN.{ℤ, pos, _+ℤ_, _-ℤ_, negℤ, +ℤ-assoc, +ℤ-negℤ-cancel}
+use lib.Ieee.{Float}
+use borrow.Author.Tests.{eqb-true}
+use Rattle.arithmetic.proofs.AllLaws.{and-left, and-right}
+use Rattle.sweep.specs.Sweep.{Sweep, Unfolded, unfolded}
+use Rattle.sweep.specs.Checks.{Question, Lent, Outcome, refused, accepted, gatesIn, inLength, ownLimits, firstNo, asked, asked9, outcome}
+use Rattle.sweep.specs.Call.{Memory, Answer, lengths, clearedFor, ending, call}
+use Rattle.locality.specs.Demand3.{Accepted, Apart, Alike, offset, MergeListsHold, TwoSweepsHold}
+use Rattle.locality.proofs.Echo.{ApartBy}
+use Rattle.locality.proofs.TwoSweeps.{same-counts, same-but-offset}
+use Rattle.locality.proofs.MergeLists.{every-list}
+use Rattle.arithmetic.specs.Seq.{All}
+
+-- a sweep with its own limits
+abbrev own : Sweep → Unfolded
+own s = unfolded s (ownLimits s)
+
+apart-by : (E : ℕ → Bool) (s : Sweep) (limits : List Float) → Apart E s limits → ApartBy E s limits
+apart-by E s limits a d g h p w = a g h (record { labelled = p; direction = d; seen = w })
+
+-- ---- what an accepted sweep has
+
+module _ (s : Sweep) (c : List ℤ) (a : Accepted s c) where
+  unrefused : (k : ℕ) → refused k ≡ accepted c (a .regions) (a .merges) → ⊥
+  unrefused k h = let z : _≡_ {A = ℕ} 0 1 = cc in omega arith
+
+  -- questions 1 to 8 and 9 got a yes
+  both : (asked s (a .lent) ≡ none) × (asked9 (own s) ≡ accepted c (a .regions) (a .merges))
+  unfolding outcome
+  both = go (asked s (a .lent)) refl (a .yes)
+    where
+      go : (o : Option ℕ) → asked s (a .lent) ≡ o → elim o [ none ↦ asked9 (unfolded s (ownLimits s)) | some k ↦ refused k ] ≡ accepted c (a .regions) (a .merges)
+          → (o ≡ none) × (asked9 (own s) ≡ accepted c (a .regions) (a .merges))
+      go none e h = (refl, h)
+      go (some k) e h = absurd (unrefused k h)
+
+  accepted-counts : c ≡ own s .counts
+  unfolding asked9
+  accepted-counts = go (own s .good) (both .1)
+    where
+      go : (b : Bool) → elim b [ true ↦ accepted (own s .counts) (own s .regions) (length (own s .merges)) | false ↦ refused 9 ] ≡ accepted c (a .regions) (a .merges) → c ≡ own s .counts
+      go true h = cc
+      go false h = absurd (unrefused 9 h)
+
+  passed : (q : Question) (qs : List Question) → firstNo (q ∷ qs) ≡ none → (q .yes ≡ true) × (firstNo qs ≡ none)
+  unfolding firstNo
+  passed q qs h = go (q .yes) h
+    where
+      go : (b : Bool) → _≡_ {A = Option ℕ} (elim b [ true ↦ firstNo qs | false ↦ some (q .number) ]) none → (b ≡ true) × (firstNo qs ≡ none)
+      go true h = (refl, h)
+      go false h = absurd (Option·none-ne-some (q .number) (sym h))
+
+  accepted-length : length (s .mask) ≡ gatesIn s
+  unfolding asked inLength
+  accepted-length =
+      let w : inLength s (a .lent) ≡ true = passed _ _ (passed _ _ (both .0) .1) .0 in
+      eqb-true (length (s .mask)) (gatesIn s) (and-right (eqb (length (s .vel)) (gatesIn s)) _ (and-left _ (eqb (a .lent .counts) (gatesIn s)) (and-left _ (eqb (a .lent .pair) 2) w)))
+
+-- ---- the statements
+
+pub merge-lists : MergeListsHold
+merge-lists E s c y a l m = every-list E s (ownLimits s) (apart-by E s (ownLimits s) a) l m
+
+module _ (E : ℕ → Bool) (s t : Sweep) (c d : List ℤ) (y : Accepted s c) (y′ : Accepted t d) (a : Alike E s t) (p : Apart E s (ownLimits s)) (q : Apart E t (ownLimits t)) where
+  long : length (s .mask) ≡ length (t .mask)
+  long = accepted-length s c y ∙ gates ∙ sym (accepted-length t d y′)
+    where
+      gates : gatesIn s ≡ gatesIn t
+      gates = unfold gatesIn in rw (a .shape) refl
+
+  p′ : ApartBy E s (ownLimits s)
+  p′ = apart-by E s (ownLimits s) p
+
+  q′ : ApartBy E t (ownLimits s)
+  q′ = rw (a .limits) (apart-by E t (ownLimits t) q)
+
+  off : s .centred ≡ 0 → (g : ℕ) → E g ≡ true → getD c g (pos 0) ≡ getD d g (pos 0)
+  off h g e =
+      ap (λ (x : List ℤ). getD x g (pos 0)) (accepted-counts s c y)
+      ∙ same-counts E s t a long (ownLimits s) p′ q′ h g e
+      ∙ ap (λ (x : List Float). getD (unfolded t x .counts) g (pos 0)) (a .limits)
+      ∙ ap (λ (x : List ℤ). getD x g (pos 0)) (sym (accepted-counts t d y′))
+
+  on : (g : ℕ) → E g ≡ true → getD (s .mask) g 0 ≡ 1 → getD c g (pos 0) +ℤ offset s ≡ getD d g (pos 0) +ℤ offset t
+  on g e v =
+      ap (λ (x : List ℤ). getD x g (pos 0) +ℤ offset s) (accepted-counts s c y)
+      ∙ same-but-offset E s t a long (ownLimits s) p′ q′ g e v
+      ∙ ap (λ (x : List Float). getD (unfolded t x .counts) g (pos 0) +ℤ unfolded t x .offset) (a .limits)
+      ∙ ap (λ (x : List ℤ). getD x g (pos 0) +ℤ offset t) (sym (accepted-counts t d y′))
+
+  apart-by-one : (g : ℕ) → E g ≡ true → getD (s .mask) g 0 ≡ 1 → getD c g (pos 0) ≡ getD d g (pos 0) +ℤ (offset t -ℤ offset s)
+  apart-by-one g e v =
+      sym (+ℤ-negℤ-cancel (getD c g (pos 0)) (offset s))
+      ∙ ap (λ (z : ℤ). z -ℤ offset s) (on g e v)
+      ∙ +ℤ-assoc (getD d g (pos 0)) (offset t) (negℤ (offset s))
+
+pub two-sweeps : TwoSweepsHold
+two-sweeps E s t c d y y′ a p q = record {
+  off = off E s t c d y y′ a p q;
+  on = on E s t c d y y′ a p q;
+  one = (offset t -ℤ offset s, apart-by-one E s t c d y y′ a p q);
+}
+
+-- ---- calls
+
+-- a question's number, where all numbers are above 0
+first-number : (qs : List Question) (k : ℕ) → All (λ q. 0 < q .number) qs → firstNo qs ≡ some k → 0 < k
+unfolding firstNo
+first-number [] k t h = absurd (Option·none-ne-some k h)
+first-number (q ∷ qs) k t h = go (q .yes) h (first-number qs k (t .1))
+  where
+    go : (b : Bool) → _≡_ {A = Option ℕ} (elim b [ true ↦ firstNo qs | false ↦ some (q .number) ]) (some k) → (firstNo qs ≡ some k → 0 < k) → 0 < k
+    go true h ih = ih h
+    go false h ih = rw (← (Option·some-injective (q .number) k h)) (t .0)
+
+pub asked-number : (s : Sweep) (l : Lent) (k : ℕ) → asked s l ≡ some k → 0 < k
+unfolding asked
+asked-number s l k h = first-number _ k (omega arith, (omega arith, (omega arith, (omega arith, (omega arith, (omega arith, (omega arith, (omega arith, tt)))))))) h
+
+-- A call that answers 0 has an accepted sweep, and the counts it leaves are the sweep's.
+pub call-accepts : (s : Sweep) (m : Memory) → call s m .number ≡ 0 → Accepted s (call s m .memory .counts)
+unfolding call ending
+call-accepts s m h = go (asked s (lengths m)) refl h
+  where
+    ends : Option ℕ → Answer
+    ends o = elim o [ none ↦ ending (asked9 (unfolded s (ownLimits s))) (clearedFor (gatesIn s) m) | some k ↦ record { number = k; memory = m } ]
+
+    nine : Bool → Outcome
+    nine b = elim b [ true ↦ accepted (own s .counts) (own s .regions) (length (own s .merges)) | false ↦ refused 9 ]
+
+    eight : Option ℕ → Outcome
+    eight o = elim o [ none ↦ asked9 (unfolded s (ownLimits s)) | some k ↦ refused k ]
+
+    at-nine : asked s (lengths m) ≡ none → (b : Bool) → own s .good ≡ b → ending (nine b) (clearedFor (gatesIn s) m) .number ≡ 0 → Accepted s (ending (nine b) (clearedFor (gatesIn s) m) .memory .counts)
+    at-nine e true w h = record { lent = lengths m; regions = own s .regions; merges = length (own s .merges); yes = unfold outcome asked9 in ap eight e ∙ ap nine w }
+    at-nine e false w h = absurd (omega arith)
+
+    go : (o : Option ℕ) → asked s (lengths m) ≡ o → ends o .number ≡ 0 → Accepted s (ends o .memory .counts)
+    go none e h = unfold asked9 in at-nine e (own s .good) refl h
+    go (some k) e h = absurd (omega (arith, asked-number s (lengths m) k e))

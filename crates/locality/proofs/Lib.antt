@@ -1,0 +1,17 @@
+pub mod Rename
+pub mod Embed
+pub mod Locality
+pub mod Accept
+pub mod Dead
+pub mod Once
+pub mod PairsEcho
+pub mod StartEcho
+pub mod AcceptEcho
+pub mod Echo
+pub mod GateCounts
+pub mod TwoSweeps
+pub mod MergeLists
+pub mod Question9
+pub mod ApartTest
+pub mod Demand3Laws
+pub mod EntryTheorems

@@ -1,0 +1,68 @@
+-- What a caller of `jivakkol_dealias_sweep` may rely on, from its contract alone: s is the sweep that the call's parameters are, m all memory
+-- lent at entry, a the answer and all memory lent at exit. EntryTheorems proves each. Statements only.
+use Prim.Native.Nat.{ℕ, _<_}
+use mathlib.Core.Path.{_≡_}
+use mathlib.Core.Bool.{Bool, true, false}
+use mathlib.Core.List.{List, [], _∷_}
+use mathlib.Core.Option.{Option, none, some}
+use lib.ListN.{length, getD}
+use lib.IntN.{pos, _+ℤ_}
+use Rattle.network.specs.Network.{replay}
+use Rattle.sweep.specs.Sweep.{Sweep, unfolded}
+use Rattle.sweep.specs.Checks.{Lent, gatesIn, asked, ownLimits}
+use Rattle.sweep.specs.Call.{Memory, Answer, lengths, clearedFor, call}
+use Rattle.sweep.specs.Entry.{answerOf}
+use Rattle.locality.specs.Demand3.{Apart, MergeList, Does, first, countAt, Alike, offset, Agree}
+
+-- the contract of the entry
+abbrev pub Called : Sweep → Memory → Answer → Type 0
+Called s m a = a ≡ call s m
+
+-- the first of the nine questions that gets a no
+unfoldable pub firstMissed : Sweep → Lent → Option ℕ
+firstMissed s l = elim (asked s l) [ none ↦ elim (unfolded s (ownLimits s) .good) [ true ↦ none | false ↦ some 9 ] | some k ↦ some k ]
+
+-- `number-is`: the answer is the number of the first question that gets a no, and 0 where none does
+abbrev pub NumberIs : Type 0
+NumberIs = (s : Sweep) (m : Memory) (a : Answer) → Called s m a → a .number ≡ answerOf (firstMissed s (lengths m))
+
+-- `refusal-keeps`: a refusal leaves counts and pair as they were, and one by questions 1 to 8 leaves all memory so
+pub record Kept (s : Sweep) (m : Memory) (a : Answer) : Type 0 where
+  pub counts : a .memory .counts ≡ m .counts
+  pub pair : a .memory .pair ≡ m .pair
+  pub all : (k : ℕ) → asked s (lengths m) ≡ some k → a .memory ≡ m
+
+abbrev pub RefusalKeeps : Type 0
+RefusalKeeps = (s : Sweep) (m : Memory) (a : Answer) → Called s m a → 0 < a .number → Kept s m a
+
+-- `counts-are`: a call that answers 0 leaves the definition's counts, and in the pair its regions and merges
+pub record Written (s : Sweep) (a : Answer) : Type 0 where
+  pub counts : a .memory .counts ≡ unfolded s (ownLimits s) .counts
+  pub pair : a .memory .pair ≡ unfolded s (ownLimits s) .regions ∷ length (unfolded s (ownLimits s) .merges) ∷ []
+
+abbrev pub CountsAre : Type 0
+CountsAre = (s : Sweep) (m : Memory) (a : Answer) → Called s m a → a .number ≡ 0 → Written s a
+
+-- `work-cleared`: a call that got past question 8 leaves the asked work memory zero and any further words as they were
+pub record Cleared (s : Sweep) (m : Memory) (a : Answer) : Type 0 where
+  pub words : a .memory .words ≡ clearedFor (gatesIn s) m .words
+  pub floats : a .memory .floats ≡ clearedFor (gatesIn s) m .floats
+
+abbrev pub WorkCleared : Type 0
+WorkCleared = (s : Sweep) (m : Memory) (a : Answer) → Called s m a → asked s (lengths m) ≡ none → Cleared s m a
+
+-- `echo-counts`: demand 3 for the counts that two calls leave
+abbrev pub EchoCounts : Type 0
+EchoCounts =
+    (E : ℕ → Bool) (s t : Sweep) (m n : Memory) (a b : Answer) → Called s m a → Called t n b → a .number ≡ 0 → b .number ≡ 0
+    → Alike E s t → Apart E s (ownLimits s) → Apart E t (ownLimits t) → Agree E s t (a .memory .counts) (b .memory .counts)
+
+-- `echo-lists`: demand 3 for the counts that a call leaves: at each valid gate every merge list gives the count plus the sweep's offset
+pub record ListGives (s : Sweep) (a : Answer) (l : List ℕ) : Type 0 where
+  pub does : Does s (ownLimits s) l
+  pub counts : (g : ℕ) → getD (s .mask) g 0 ≡ 1 → getD (a .memory .counts) g (pos 0) +ℤ offset s ≡ countAt s (ownLimits s) (replay (first s (ownLimits s)) l) g
+
+abbrev pub EchoLists : Type 0
+EchoLists =
+    (E : ℕ → Bool) (s : Sweep) (m : Memory) (a : Answer) → Called s m a → a .number ≡ 0 → Apart E s (ownLimits s)
+    → (l : List ℕ) → MergeList E s (ownLimits s) l → ListGives s a l

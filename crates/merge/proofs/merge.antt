@@ -1,0 +1,13 @@
+pub mod View
+pub mod Bias
+pub mod Leaf
+pub mod EndsIn
+pub mod SoundSet
+pub mod SpliceDoes
+pub mod SoundSteps
+pub mod Walks
+pub mod Frames
+pub mod Passing
+pub mod JoinDoes
+pub mod Counts
+pub mod MergeDoes

@@ -1,0 +1,48 @@
+-- `network::merge::join_edge` meets its contract. Assumes nothing.
+use Rattle.merge.specs.Mem.{view}
+use Rattle.merge.proofs.merge.JoinDoes.{join-apart, join-absorbs, join-attaches}
+use Prim.Native.Nat.{_-_}
+use borrow.Author.Needs.{needs}
+use Rattle.merge.proofs.merge.join_edge.Statement.{statement}
+use Rattle.merge.proofs.merge.join_edge.Tie as tie
+
+mate-requires : tie.Need-mate-requires
+mate-requires c κs = search needs
+
+absorb-requires : tie.Need-absorb-requires
+absorb-requires c κs = let a = c .before .before .before .before .before .before .before .before .args in let p = c .before .before .before .before .before .before .before .before .pre in (p .0, (p .1 .0, (join-apart (a .m) (a .n) (a .b) (view (a .m) (a .n) (a .w .now) (a .d .now)) (a .f) (a .c) (c .before .before .before .mate .result) (p .1 .1 .0) (c .before .before .before .mate .ensures) (c .before .before .if1 .taken), p .1 .1 .1)))
+
+same-length : tie.Need-same-length
+same-length c = search needs
+
+same-length-2 : tie.Need-same-length-2
+same-length-2 c = search needs
+
+returns : tie.Need-returns
+returns c = let a = c .before .before .before .before .before .before .before .before .before .before .before .before .before .args in join-absorbs (a .m) (a .n) (a .b) (view (a .m) (a .n) (a .w .now) (a .d .now)) (a .f) (a .c) (c .before .before .before .before .before .before .before .before .mate .result) (a .x) _ _ (c .before .before .before .before .before .before .before .before .mate .ensures) (c .before .before .before .before .before .before .before .if1 .taken) (c .before .before .before .before .absorb .ensures)
+
+attach-requires : tie.Need-attach-requires
+attach-requires c κs = search needs
+
+same-length-3 : tie.Need-same-length-3
+same-length-3 c = search needs
+
+same-length-4 : tie.Need-same-length-4
+same-length-4 c = search needs
+
+returns-2 : tie.Need-returns-2
+returns-2 c = let a = c .before .before .before .before .before .before .before .before .before .before .before .before .before .args in join-attaches (a .m) (a .n) (a .b) (view (a .m) (a .n) (a .w .now) (a .d .now)) (a .f) (a .c) (c .before .before .before .before .before .before .before .before .mate .result) (a .x) _ _ (c .before .before .before .before .before .before .before .before .mate .ensures) (c .before .before .before .before .before .before .before .if1 .left) (c .before .before .before .before .attach .ensures)
+
+pub join-edge-spec : {M : Type 1} → statement M
+join-edge-spec =
+    tie.close
+    (tie.spec
+    mate-requires
+    absorb-requires
+    same-length
+    same-length-2
+    returns
+    attach-requires
+    same-length-3
+    same-length-4
+    returns-2)

@@ -1,0 +1,4 @@
+pub mod Mem
+pub mod Steps
+pub mod Does
+pub mod Chain

@@ -1,0 +1,154 @@
+-- What each function of the merging code does to the tables, step by step as the code goes. Definitions only.
+use mathlib.Core.Bool.{Bool, true, false, _&&_, cond}
+use mathlib.Core.Option.{Option, none, some}
+use Prim.Native.Nat.{ℕ, zero, suc, _+_, _*_, _-_, _/_}
+use lib.Dec.{eqb, ltb, leb}
+use lib.IntN.{ℤ, pos, negsuc, _+ℤ_}
+use lib.ListN.{getD}
+use lib.Ieee.{nan, Float, neg, binary32, add}
+use Rattle.merge.specs.Mem.{Mem, weight-set, first-set, second-set, enext-set, rnext-set, mark-set, size-set, elen-set, rlen-set, count-set, diff-set}
+use Rattle.arithmetic.specs.Rounding.{scale}
+
+-- numbers from -1000 to 1000 are kept as words from 0 to 2000
+unfoldable pub unbias : ℕ → ℤ
+unbias g = pos g +ℤ negsuc 999
+
+-- the word of a whole number, or 2001 where question 9 says no
+unfoldable pub numberOf : ℤ → ℕ
+numberOf (pos k) = cond (leb k 1000) (k + 1000) 2001
+numberOf (negsuc k) = cond (ltb k 1000) (999 - k) 2001
+
+-- edge f turned
+unfoldable pub turnAt : Mem → ℕ → Mem
+turnAt s f = diff-set (second-set (first-set s f (getD (s .second) f 0)) f (getD (s .first) f 0)) f (neg (getD (s .diff) f nan))
+
+-- edge f, if it is live and base b's, turned to b, and marked at its other end
+unfoldable pub baseEdge : ℕ → ℕ → Mem → ℕ → Mem
+baseEdge m b s f =
+    cond (ltb f m)
+    (cond (eqb (getD (s .weight) f 0) 0) s
+    (cond (eqb (getD (s .second) f 0) b) (mark-set (turnAt s f) (getD (s .first) f 0) f)
+    (cond (eqb (getD (s .first) f 0) b) (mark-set s (getD (s .second) f 0) f) s)))
+    s
+
+-- a slot that no walk needs: the header of a node that is merged, or a slot of a dead edge
+unfoldable pub spent : ℕ → Mem → ℕ → Bool
+spent m s x = cond (ltb (x / 2) m) (eqb (getD (s .weight) (x / 2) 0) 0) true
+
+-- slot x, the next after p in b's chain, becomes a circle of its own
+unfoldable pub dropAt : ℕ → Mem → ℕ → ℕ → Mem
+dropAt b s p x = elen-set (enext-set (enext-set s p (getD (s .enext) x 0)) x x) b (getD (s .elen) b 0 - 1)
+
+-- slot x of b's chain: dropped where it is spent, else f is done to its edge
+unfoldable pub passed : (Mem → ℕ → Mem) → ℕ → ℕ → Mem → ℕ → ℕ → Mem
+passed f m b s p x = cond (spent m s x) (dropAt b s p x) (f s (x / 2))
+
+-- the last slot kept: p before x
+unfoldable pub kept : ℕ → Mem → ℕ → ℕ → ℕ
+kept m s p x = cond (spent m s x) p x
+
+-- the next k slots of b's chain from slot x on, which comes after p
+unfoldable pub along : (Mem → ℕ → Mem) → ℕ → ℕ → ℕ → Mem → ℕ → ℕ → Mem
+along f zero m b s p x = s
+along f (suc k) m b s p x = along f k m b (passed f m b s p x) (kept m s p x) (getD (s .enext) x 0)
+
+-- all slots of b's chain
+unfoldable pub through : (Mem → ℕ → Mem) → ℕ → ℕ → Mem → Mem
+through f m b s = along f (getD (s .elen) b 0 - 1) m b s (2 * m + b) (getD (s .enext) (2 * m + b) 0)
+
+unfoldable pub walkBase : ℕ → ℕ → Mem → Mem
+walkBase m b s = through (baseEdge m b) m b s
+
+-- the edge stays as it is
+unfoldable pub still : Mem → ℕ → Mem
+still s f = s
+
+-- b's chain without its spent slots
+unfoldable pub pruned : ℕ → ℕ → Mem → Mem
+pruned m b s = through still m b s
+
+-- the number of the base's live edge to c, or m: what is marked there, if it is that
+unfoldable pub mate : ℕ → ℕ → Mem → ℕ → ℕ
+mate m b s c =
+    cond (ltb (getD (s .mark) c 0) m)
+    (cond (eqb (getD (s .weight) (getD (s .mark) c 0) 0) 0) m
+    (cond (eqb (getD (s .first) (getD (s .mark) c 0) 0) b)
+    (cond (eqb (getD (s .second) (getD (s .mark) c 0) 0) c) (getD (s .mark) c 0) m) m))
+    m
+
+-- edge q takes up edge f, whose difference is x
+unfoldable pub absorbAt : Mem → ℕ → ℕ → Float → Mem
+absorbAt s q f x = weight-set (weight-set (diff-set s q (add binary32 (getD (s .diff) q nan) x)) q (getD (s .weight) q 0 + getD (s .weight) f 0)) f 0
+
+-- edge f becomes the base's edge to c
+unfoldable pub attachAt : ℕ → Mem → ℕ → ℕ → Float → Mem
+attachAt b s f c x = mark-set (diff-set (second-set (first-set s f b) f c) f x) c f
+
+unfoldable pub joinEdge : ℕ → ℕ → Mem → ℕ → ℕ → Float → Mem
+joinEdge m b s f c x = cond (ltb (mate m b s c) m) (absorbAt s (mate m b s c) f x) (attachAt b s f c x)
+
+-- a difference that follows a gain
+unfoldable pub shift : Bool → ℕ → ℕ → Float → Float
+shift minus g w d = cond (eqb g 1000) d (add binary32 d (cond minus (neg (scale w (unbias g))) (scale w (unbias g))))
+
+-- edge f, if it is live and moved node v's, goes to base b
+unfoldable pub movedEdge : ℕ → ℕ → ℕ → ℕ → Mem → ℕ → Mem
+movedEdge m b v g s f =
+    cond (ltb f m)
+    (cond (eqb (getD (s .weight) f 0) 0) s
+    (cond (eqb (getD (s .first) f 0) v) (joinEdge m b s f (getD (s .second) f 0) (shift false g (getD (s .weight) f 0) (getD (s .diff) f nan)))
+    (cond (eqb (getD (s .second) f 0) v) (joinEdge m b s f (getD (s .first) f 0) (neg (shift true g (getD (s .weight) f 0) (getD (s .diff) f nan)))) s)))
+    s
+
+unfoldable pub walkMoved : ℕ → ℕ → ℕ → ℕ → ℕ → Mem → ℕ → Mem
+walkMoved zero m b v g s x = s
+walkMoved (suc k) m b v g s x = walkMoved k m b v g (movedEdge m b v g s (x / 2)) (getD (s .enext) x 0)
+
+-- a new count, not yet taken back by 1000, that question 9 accepts
+unfoldable pub accepts : ℕ → Bool
+accepts t = leb 1000 t && leb t 3000
+
+-- the counts of the next k regions from region x on
+unfoldable pub walkRaise : ℕ → ℕ → Mem → ℕ → Option Mem
+walkRaise zero g s x = some s
+walkRaise (suc k) g s x = cond (accepts (getD (s .count) x 0 + g)) (walkRaise k g (count-set s x (getD (s .count) x 0 + g - 1000)) (getD (s .rnext) x 0)) none
+
+-- the chains of v are joined to those of b
+unfoldable pub splice : ℕ → ℕ → ℕ → Mem → Mem
+splice m b v s =
+    rnext-set
+    (rnext-set
+    (enext-set
+    (enext-set s (2 * m + b) (getD (s .enext) (2 * m + v) 0))
+    (2 * m + v) (getD (s .enext) (2 * m + b) 0))
+    b (getD (s .rnext) v 0))
+    v (getD (s .rnext) b 0)
+
+-- b's size and lengths grow by v's
+unfoldable pub grow : ℕ → ℕ → Mem → Mem
+grow b v s =
+    rlen-set
+    (elen-set
+    (size-set s b (getD (s .size) b 0 + getD (s .size) v 0))
+    b (getD (s .elen) b 0 + getD (s .elen) v 0))
+    b (getD (s .rlen) b 0 + getD (s .rlen) v 0)
+
+-- the base's edges turned to it and marked, unless they are since the last merge
+unfoldable pub readied : ℕ → ℕ → ℕ → Mem → Mem
+readied m b last s = cond (eqb b last) s (walkBase m b s)
+
+-- v's edges go to b, along the whole of v's chain
+unfoldable pub movedAll : ℕ → ℕ → ℕ → ℕ → Mem → Mem
+movedAll m b v g s = walkMoved (getD (s .elen) v 0 - 1) m b v g s (getD (s .enext) (2 * m + v) 0)
+
+-- v's edges and regions go to b
+unfoldable pub handed : ℕ → ℕ → ℕ → ℕ → Mem → Mem
+handed m b v g s = grow b v (splice m b v (movedAll m b v g (pruned m v s)))
+
+unfoldable pub then : Option Mem → (Mem → Mem) → Option Mem
+then none f = none
+then (some s) f = some (f s)
+
+-- the merge of edge e, base b, moved node v, gain g
+unfoldable pub merged : ℕ → ℕ → ℕ → ℕ → ℕ → ℕ → Mem → Option Mem
+merged m last e b v g s = then (walkRaise (getD (s .rlen) v 0) g (readied m b last (weight-set s e 0)) v) (handed m b v g)

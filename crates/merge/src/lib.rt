@@ -1,0 +1,2 @@
+// One merge of the network, over its tables in the lent words.
+pub mod merge;

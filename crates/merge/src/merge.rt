@@ -1,0 +1,415 @@
+// One merge of the network, over lent words and lent differences. specs/Layout.antt says where each table lies, specs/Steps.antt what each
+// function does to the tables.
+ghost use mathlib.Core.Path.{_≡_};
+ghost use mathlib.Core.Bool.{Bool};
+ghost use Prim.Native.Nat.{_+_, _*_, _-_, _/_, _≤_, _<_};
+ghost use lib.Dec.{T};
+ghost use lib.Ieee.{binary32, fits, add};
+ghost use Rattle.arithmetic.specs.Rounding.{scale};
+ghost use lib.ListN.{getD};
+ghost use Rattle.merge.specs.Mem.{Mem, view, Room, Sound};
+ghost use Rattle.merge.specs.Steps.{unbias, spent, passed, kept, still, dropAt, pruned, baseEdge, walkBase, mate, absorbAt, attachAt, joinEdge, shift, movedEdge, movedAll, walkRaise, splice, grow, readied, handed, merged};
+ghost use Rattle.merge.specs.Does.{Does, Raised, Passes, Slots, Apart, Joins, Gains, Fit};
+
+// The f32 that an f64 is.
+fn single(x: f64) -> f32
+    requires { ⌜ T (fits binary32 x) ⌝ }
+    ensures { λ r. ⌜ r ≡ x ⌝ }
+{
+    if x != x {
+        return 0.0 / 0.0;
+    }
+    x as f32
+}
+
+// The sum in f32.
+fn plus(x: f64, y: f64) -> f64
+    requires { ⌜ T (fits binary32 x) ⌝ }
+    requires { ⌜ T (fits binary32 y) ⌝ }
+    ensures { λ r. ⌜ r ≡ add binary32 x y ⌝ }
+{
+    let a = single(x);
+    let b = single(y);
+    std::num::f32_to_f64_with_nan(a + b)
+}
+
+// weight times number, rounded to f32; the number is kept with 1000 added.
+fn scaled(w: u32, g: u32) -> f64
+    requires { ⌜ g ≤ 2000 ⌝ }
+    ensures { λ r. ⌜ r ≡ scale w (unbias g) ⌝ }
+{
+    let k = (g as i64) - 1000;
+    let p = (w as i64) * k;
+    let y = arithmetic::whole::nearest_i64_to_f32(p);
+    std::num::f32_to_f64_with_nan(y)
+}
+
+// A difference that follows a gain.
+fn shift_up(d: f64, w: u32, g: u32) -> f64
+    requires { ⌜ T (fits binary32 d) ⌝ }
+    requires { ⌜ g ≤ 2000 ⌝ }
+    ensures { λ r. ⌜ r ≡ shift Bool.false g w d ⌝ }
+{
+    if g == 1000 {
+        return d;
+    }
+    let gain = scaled(w, g);
+    plus(d, gain)
+}
+
+fn shift_down(d: f64, w: u32, g: u32) -> f64
+    requires { ⌜ T (fits binary32 d) ⌝ }
+    requires { ⌜ g ≤ 2000 ⌝ }
+    ensures { λ r. ⌜ r ≡ shift Bool.true g w d ⌝ }
+{
+    if g == 1000 {
+        return d;
+    }
+    let k = scaled(w, g);
+    plus(d, -k)
+}
+
+// Edge f, if it is live and base b's, is turned to b, and marked at its other end.
+fn base_edge(w: &mut [u32], d: &mut [f64], m: usize, n: usize, b: u32, f: usize)
+    requires { ⌜ Room m n (now w) (now d) ⌝ }
+    requires { ⌜ Sound m n (view m n (now w) (now d)) ⌝ }
+    ensures { λ _. ⌜ Does m n (now (w .exit)) (now (d .exit)) (baseEdge m b (view m n (now (w .entry)) (now (d .entry))) f) ⌝ }
+{
+    if f >= m {
+        return;
+    }
+    if w[f] == 0 {
+        return;
+    }
+    let x = w[3 * m + f];
+    let y = w[4 * m + f];
+    if y == b {
+        w[3 * m + f] = y;
+        w[4 * m + f] = x;
+        w[7 * m + 2 * n + x as usize] = f as u32;
+        let z = d[f];
+        d[f] = -z;
+        return;
+    }
+    if x == b {
+        w[7 * m + 2 * n + y as usize] = f as u32;
+        return;
+    }
+}
+
+// Whether slot x is needed by no walk: an old header, or a slot of a dead edge.
+fn is_spent(w: &[u32], d: &[f64], m: usize, n: usize, x: u32) -> bool
+    requires { ⌜ Room m n (now w) (now d) ⌝ }
+    ensures { λ r. ⌜ r ≡ spent m (view m n (now (w .entry)) (now (d .entry))) x ⌝ }
+{
+    let f = (x / 2) as usize;
+    if f >= m {
+        return true;
+    }
+    w[f] == 0
+}
+
+// Slot x, the next after p in node b's chain, becomes a circle of its own.
+fn drop_slot(w: &mut [u32], d: &mut [f64], m: usize, n: usize, b: u32, p: u32, x: u32)
+    requires { ⌜ Room m n (now w) (now d) ⌝ }
+    requires { ⌜ Slots m n b p x (view m n (now w) (now d)) ⌝ }
+    ensures { λ _. ⌜ Does m n (now (w .exit)) (now (d .exit)) (dropAt b (view m n (now (w .entry)) (now (d .entry))) p x) ⌝ }
+{
+    let t = w[5 * m + x as usize];
+    let l = w[7 * m + 4 * n + b as usize];
+    w[5 * m + p as usize] = t;
+    w[5 * m + x as usize] = x;
+    w[7 * m + 4 * n + b as usize] = l - 1;
+}
+
+// Slot x of node b's chain is dropped where it is spent; the last slot kept is returned.
+fn pass_slot(w: &mut [u32], d: &mut [f64], m: usize, n: usize, b: u32, p: u32, x: u32) -> u32
+    requires { ⌜ Room m n (now w) (now d) ⌝ }
+    requires { ⌜ Slots m n b p x (view m n (now w) (now d)) ⌝ }
+    ensures { λ r. ⌜ Passes m n (now (w .exit)) (now (d .exit)) (passed still m b (view m n (now (w .entry)) (now (d .entry))) p x) (kept m (view m n (now (w .entry)) (now (d .entry))) p x) r ⌝ }
+{
+    let gone = is_spent(w, d, m, n, x);
+    if gone {
+        drop_slot(w, d, m, n, b, p, x);
+        return p;
+    }
+    x
+}
+
+// The spent slots of node b's chain are dropped.
+fn prune(w: &mut [u32], d: &mut [f64], m: usize, n: usize, b: u32)
+    requires { ⌜ Room m n (now w) (now d) ⌝ }
+    requires { ⌜ Sound m n (view m n (now w) (now d)) ⌝ }
+    requires { ⌜ b < n ⌝ }
+    ensures { λ _. ⌜ Does m n (now (w .exit)) (now (d .exit)) (pruned m b (view m n (now (w .entry)) (now (d .entry)))) ⌝ }
+{
+    let l = w[7 * m + 4 * n + b as usize] as usize;
+    let mut p = (2 * m + b as usize) as u32;
+    let mut x = w[5 * m + (2 * m + b as usize)];
+    let mut i = 1;
+    while i < l {
+        let t = w[5 * m + x as usize];
+        p = pass_slot(w, d, m, n, b, p, x);
+        x = t;
+        i += 1;
+    }
+}
+
+// Slot x of the base's chain: dropped where it is spent, else its edge is turned and marked; the last slot kept is returned.
+fn base_slot(w: &mut [u32], d: &mut [f64], m: usize, n: usize, b: u32, p: u32, x: u32) -> u32
+    requires { ⌜ Room m n (now w) (now d) ⌝ }
+    requires { ⌜ Sound m n (view m n (now w) (now d)) ⌝ }
+    requires { ⌜ Slots m n b p x (view m n (now w) (now d)) ⌝ }
+    ensures { λ r. ⌜ Passes m n (now (w .exit)) (now (d .exit)) (passed (baseEdge m b) m b (view m n (now (w .entry)) (now (d .entry))) p x) (kept m (view m n (now (w .entry)) (now (d .entry))) p x) r ⌝ }
+{
+    let gone = is_spent(w, d, m, n, x);
+    if gone {
+        drop_slot(w, d, m, n, b, p, x);
+        return p;
+    }
+    base_edge(w, d, m, n, b, (x / 2) as usize);
+    x
+}
+
+// The base's edges are turned to it and marked, and the spent slots of its chain are dropped.
+fn walk_base(w: &mut [u32], d: &mut [f64], m: usize, n: usize, b: u32)
+    requires { ⌜ Room m n (now w) (now d) ⌝ }
+    requires { ⌜ Sound m n (view m n (now w) (now d)) ⌝ }
+    requires { ⌜ b < n ⌝ }
+    ensures { λ _. ⌜ Does m n (now (w .exit)) (now (d .exit)) (walkBase m b (view m n (now (w .entry)) (now (d .entry)))) ⌝ }
+{
+    let l = w[7 * m + 4 * n + b as usize] as usize;
+    let mut p = (2 * m + b as usize) as u32;
+    let mut x = w[5 * m + (2 * m + b as usize)];
+    let mut i = 1;
+    while i < l {
+        let t = w[5 * m + x as usize];
+        p = base_slot(w, d, m, n, b, p, x);
+        x = t;
+        i += 1;
+    }
+}
+
+// The number of the base's live edge to c, or m.
+fn mate(w: &[u32], d: &[f64], m: usize, n: usize, b: u32, c: u32) -> usize
+    requires { ⌜ Room m n (now w) (now d) ⌝ }
+    requires { ⌜ c < n ⌝ }
+    ensures { λ r. ⌜ r ≡ mate m b (view m n (now (w .entry)) (now (d .entry))) c ⌝ }
+{
+    let q = w[7 * m + 2 * n + c as usize] as usize;
+    if q >= m {
+        return m;
+    }
+    if w[q] == 0 {
+        return m;
+    }
+    if w[3 * m + q] != b {
+        return m;
+    }
+    if w[4 * m + q] != c {
+        return m;
+    }
+    q
+}
+
+// Edge q takes up edge f, whose difference is x.
+fn absorb(w: &mut [u32], d: &mut [f64], m: usize, n: usize, q: usize, f: usize, x: f64)
+    requires { ⌜ Room m n (now w) (now d) ⌝ }
+    requires { ⌜ Sound m n (view m n (now w) (now d)) ⌝ }
+    requires { ⌜ Apart m q f ⌝ }
+    requires { ⌜ T (fits binary32 x) ⌝ }
+    ensures { λ _. ⌜ Does m n (now (w .exit)) (now (d .exit)) (absorbAt (view m n (now (w .entry)) (now (d .entry))) q f x) ⌝ }
+{
+    let y = d[q];
+    let z = plus(y, x);
+    d[q] = z;
+    let t = w[q] + w[f];
+    memory::tree::weigh(w, m, q, t);
+    memory::tree::weigh(w, m, f, 0);
+}
+
+// Edge f becomes the base's edge to c.
+fn attach(w: &mut [u32], d: &mut [f64], m: usize, n: usize, b: u32, f: usize, c: u32, x: f64)
+    requires { ⌜ Room m n (now w) (now d) ⌝ }
+    requires { ⌜ (f < m) × (c < n) ⌝ }
+    ensures { λ _. ⌜ Does m n (now (w .exit)) (now (d .exit)) (attachAt b (view m n (now (w .entry)) (now (d .entry))) f c x) ⌝ }
+{
+    w[3 * m + f] = b;
+    w[4 * m + f] = c;
+    w[7 * m + 2 * n + c as usize] = f as u32;
+    d[f] = x;
+}
+
+// Edge f, of the moved node, becomes the base's edge to c, or goes into the one that the base has.
+fn join_edge(w: &mut [u32], d: &mut [f64], m: usize, n: usize, b: u32, f: usize, c: u32, x: f64)
+    requires { ⌜ Room m n (now w) (now d) ⌝ }
+    requires { ⌜ Sound m n (view m n (now w) (now d)) ⌝ }
+    requires { ⌜ Joins m n b (view m n (now w) (now d)) f c ⌝ }
+    requires { ⌜ T (fits binary32 x) ⌝ }
+    ensures { λ _. ⌜ Does m n (now (w .exit)) (now (d .exit)) (joinEdge m b (view m n (now (w .entry)) (now (d .entry))) f c x) ⌝ }
+{
+    let q = mate(w, d, m, n, b, c);
+    if q < m {
+        absorb(w, d, m, n, q, f, x);
+        return;
+    }
+    attach(w, d, m, n, b, f, c, x);
+}
+
+// Edge f, if it is live and moved node v's, goes to base b.
+fn moved_edge(w: &mut [u32], d: &mut [f64], m: usize, n: usize, b: u32, v: u32, g: u32, f: usize)
+    requires { ⌜ Room m n (now w) (now d) ⌝ }
+    requires { ⌜ Sound m n (view m n (now w) (now d)) ⌝ }
+    requires { ⌜ Gains n b v g ⌝ }
+    ensures { λ _. ⌜ Does m n (now (w .exit)) (now (d .exit)) (movedEdge m b v g (view m n (now (w .entry)) (now (d .entry))) f) ⌝ }
+{
+    if f >= m {
+        return;
+    }
+    let t = w[f];
+    if t == 0 {
+        return;
+    }
+    let x = w[3 * m + f];
+    let y = w[4 * m + f];
+    let z = d[f];
+    if x == v {
+        let up = shift_up(z, t, g);
+        join_edge(w, d, m, n, b, f, y, up);
+        return;
+    }
+    if y == v {
+        let down = shift_down(z, t, g);
+        join_edge(w, d, m, n, b, f, x, -down);
+        return;
+    }
+}
+
+// All of v's edges go to b.
+fn walk_moved(w: &mut [u32], d: &mut [f64], m: usize, n: usize, b: u32, v: u32, g: u32)
+    requires { ⌜ Room m n (now w) (now d) ⌝ }
+    requires { ⌜ Sound m n (view m n (now w) (now d)) ⌝ }
+    requires { ⌜ Gains n b v g ⌝ }
+    ensures { λ _. ⌜ Does m n (now (w .exit)) (now (d .exit)) (movedAll m b v g (view m n (now (w .entry)) (now (d .entry)))) ⌝ }
+{
+    let l = w[7 * m + 4 * n + v as usize] as usize;
+    let mut x = w[5 * m + (2 * m + v as usize)];
+    let mut i = 1;
+    while i < l {
+        let t = w[5 * m + x as usize];
+        moved_edge(w, d, m, n, b, v, g, (x / 2) as usize);
+        x = t;
+        i += 1;
+    }
+}
+
+// The counts of v's regions gain g - 1000; false where one of them leaves -1000 to 1000.
+fn walk_raise(w: &mut [u32], d: &mut [f64], m: usize, n: usize, v: u32, g: u32) -> bool
+    requires { ⌜ Room m n (now w) (now d) ⌝ }
+    requires { ⌜ Sound m n (view m n (now w) (now d)) ⌝ }
+    requires { ⌜ (v < n) × (g ≤ 2000) ⌝ }
+    ensures { λ r. ⌜ Raised m n (now (w .exit)) (now (d .exit)) (walkRaise (getD (view m n (now (w .entry)) (now (d .entry)) .rlen) v 0) g (view m n (now (w .entry)) (now (d .entry))) v) r ⌝ }
+{
+    let l = w[7 * m + 5 * n + v as usize];
+    let mut x = v;
+    let mut i = 0;
+    while i < l {
+        let t = w[7 * m + 6 * n + x as usize] + g;
+        if t < 1000 {
+            return false;
+        }
+        if t > 3000 {
+            return false;
+        }
+        w[7 * m + 6 * n + x as usize] = t - 1000;
+        x = w[7 * m + n + x as usize];
+        i += 1;
+    }
+    true
+}
+
+// v's chains are joined to b's: each of the two first links becomes the other's.
+fn splice(w: &mut [u32], d: &mut [f64], m: usize, n: usize, b: u32, v: u32)
+    requires { ⌜ Room m n (now w) (now d) ⌝ }
+    requires { ⌜ (b < n) × (v < n) ⌝ }
+    ensures { λ _. ⌜ Does m n (now (w .exit)) (now (d .exit)) (splice m b v (view m n (now (w .entry)) (now (d .entry)))) ⌝ }
+{
+    let eb = w[5 * m + (2 * m + b as usize)];
+    let ev = w[5 * m + (2 * m + v as usize)];
+    let rb = w[7 * m + n + b as usize];
+    let rv = w[7 * m + n + v as usize];
+    w[5 * m + (2 * m + b as usize)] = ev;
+    w[5 * m + (2 * m + v as usize)] = eb;
+    w[7 * m + n + b as usize] = rv;
+    w[7 * m + n + v as usize] = rb;
+}
+
+// The base's size and the lengths of its chains grow by v's.
+fn grow(w: &mut [u32], d: &mut [f64], m: usize, n: usize, b: u32, v: u32)
+    requires { ⌜ Room m n (now w) (now d) ⌝ }
+    requires { ⌜ Fit n b v (view m n (now w) (now d)) ⌝ }
+    ensures { λ _. ⌜ Does m n (now (w .exit)) (now (d .exit)) (grow b v (view m n (now (w .entry)) (now (d .entry)))) ⌝ }
+{
+    let s = w[7 * m + 3 * n + b as usize] + w[7 * m + 3 * n + v as usize];
+    let e = w[7 * m + 4 * n + b as usize] + w[7 * m + 4 * n + v as usize];
+    let r = w[7 * m + 5 * n + b as usize] + w[7 * m + 5 * n + v as usize];
+    w[7 * m + 3 * n + b as usize] = s;
+    w[7 * m + 4 * n + b as usize] = e;
+    w[7 * m + 5 * n + b as usize] = r;
+}
+
+// The base's edges are turned to it and marked, unless they are since the last merge.
+fn ready(w: &mut [u32], d: &mut [f64], m: usize, n: usize, b: u32, last: u32)
+    requires { ⌜ Room m n (now w) (now d) ⌝ }
+    requires { ⌜ Sound m n (view m n (now w) (now d)) ⌝ }
+    requires { ⌜ b < n ⌝ }
+    ensures { λ _. ⌜ Does m n (now (w .exit)) (now (d .exit)) (readied m b last (view m n (now (w .entry)) (now (d .entry)))) ⌝ }
+{
+    if b == last {
+        return;
+    }
+    walk_base(w, d, m, n, b);
+}
+
+// v's edges and regions go to b, the spent slots of its chain dropped before.
+fn hand(w: &mut [u32], d: &mut [f64], m: usize, n: usize, b: u32, v: u32, g: u32)
+    requires { ⌜ Room m n (now w) (now d) ⌝ }
+    requires { ⌜ Sound m n (view m n (now w) (now d)) ⌝ }
+    requires { ⌜ Gains n b v g ⌝ }
+    requires { ⌜ Fit n b v (view m n (now w) (now d)) ⌝ }
+    ensures { λ _. ⌜ Does m n (now (w .exit)) (now (d .exit)) (handed m b v g (view m n (now (w .entry)) (now (d .entry)))) ⌝ }
+{
+    prune(w, d, m, n, v);
+    walk_moved(w, d, m, n, b, v, g);
+    splice(w, d, m, n, b, v);
+    grow(w, d, m, n, b, v);
+}
+
+// The merge of edge e; false where question 9 says no.
+pub fn merge(
+    w: &mut [u32],
+    d: &mut [f64],
+    m: usize,
+    n: usize,
+    e: usize,
+    b: u32,
+    v: u32,
+    g: u32,
+    last: u32,
+) -> bool
+    requires { ⌜ Room m n (now w) (now d) ⌝ }
+    requires { ⌜ Sound m n (view m n (now w) (now d)) ⌝ }
+    requires { ⌜ Gains n b v g ⌝ }
+    requires { ⌜ Fit n b v (view m n (now w) (now d)) ⌝ }
+    requires { ⌜ e < m ⌝ }
+    ensures { λ r. ⌜ Raised m n (now (w .exit)) (now (d .exit)) (merged m last e b v g (view m n (now (w .entry)) (now (d .entry)))) r ⌝ }
+{
+    memory::tree::weigh(w, m, e, 0);
+    ready(w, d, m, n, b, last);
+    let ok = walk_raise(w, d, m, n, v, g);
+    if !ok {
+        return false;
+    }
+    hand(w, d, m, n, b, v, g);
+    true
+}

@@ -1,0 +1,50 @@
+/* The exported entries of Jivakkol: fold counts of a radar sweep, and its unfolded velocities.
+ *
+ * Every slice is a pointer and a length. No slice that a call writes may overlap another that it is given.
+ * For each input the answer and all memory lent are what crates/sweep/specs/Call.antt (`call`) and Velocity.antt (`callVelocity`) say.
+ */
+#ifndef JIVAKKOL_H
+#define JIVAKKOL_H
+
+#include <stddef.h>
+#include <stdint.h>
+
+#ifdef __cplusplus
+extern "C" {
+#endif
+
+/* Work memory that a sweep of n gates asks for. */
+#define JIVAKKOL_WORK_WORDS(n) (96 * (size_t)(n) + 64)
+#define JIVAKKOL_WORK_FLOATS(n) (16 * (size_t)(n) + 16)
+
+/* The fold count of each gate; pair gets the number of regions and the number of merges.
+ *
+ * velocity, valid (1 where a gate has a velocity, 0 where it is masked) and folds have rays * gates elements, ray by ray; pair has 2.
+ * interval_splits is 1 to 9,999; both skips are 0 to 1,000; centered and rays_wrap_around are 0 or 1.
+ * Answers 0, or the number of the first question that got a no, with folds and pair unchanged:
+ *   1 rays above 720 or gates above 2,000      2 a slice of another length      3 a mask byte other than 0 and 1
+ *   4 too little work memory                   5 Nyquist not 0.125 to 1,024     6 an option out of its range
+ *   7 a valid velocity not -16,384 to 16,384   8 more than 10,000 limits        9 a count beyond 1,000 in a merge
+ * After 0 and 9 the asked words of work memory are zero and any further ones unchanged; after 1 to 8 all are unchanged. */
+uint32_t jivakkol_dealias_sweep(
+    uint32_t rays, uint32_t gates, float nyquist,
+    uint32_t interval_splits, uint32_t skip_between_rays, uint32_t skip_along_ray,
+    uint32_t centered, uint32_t rays_wrap_around,
+    const float *velocity, size_t velocity_len, const uint8_t *valid, size_t valid_len,
+    int32_t *folds, size_t folds_len, uint32_t *pair, size_t pair_len,
+    uint32_t *work, size_t work_len, double *work_f64, size_t work_f64_len);
+
+/* velocity + folds * 2 * nyquist at each valid gate, 0 at a masked one.
+ *
+ * Answers 0, or 1, 2 (four slices of rays * gates), 3, 5, 7 as above, or 10 where a valid gate's count is not -2,000 to 2,000;
+ * a refusal leaves unfolded unchanged. */
+uint32_t jivakkol_unfold_velocity(
+    uint32_t rays, uint32_t gates, float nyquist,
+    const float *velocity, size_t velocity_len, const uint8_t *valid, size_t valid_len,
+    const int32_t *folds, size_t folds_len, double *unfolded, size_t unfolded_len);
+
+#ifdef __cplusplus
+}
+#endif
+
+#endif
