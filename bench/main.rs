@@ -7,13 +7,12 @@ use radish_oracle::Sweep;
 use std::hint::black_box;
 use std::time::Instant;
 
+#[path = "../include/jivakkol.rs"]
+#[allow(dead_code)]
+mod jivakkol;
+use jivakkol::jivakkol_dealias_sweep;
+
 extern "C" {
-    fn jivakkol_dealias_sweep(
-        rays: u32, gates: u32, nyquist: f32, interval_splits: u32, skip_between_rays: u32, skip_along_ray: u32,
-        centered: u32, rays_wrap_around: u32, velocity: *const f32, velocity_len: usize, valid: *const u8, valid_len: usize,
-        folds: *mut i32, folds_len: usize, pair: *mut u32, pair_len: usize, work: *mut u32, work_len: usize,
-        work_f64: *mut f64, work_f64_len: usize,
-    ) -> u32;
     fn stage_questions(
         rays: u32, gates: u32, nyquist: f32, splits: u32, skip_rays: u32, skip_gates: u32, centred: u32, wrap: u32,
         velocity: *const f32, velocity_len: usize, valid: *const u8, valid_len: usize, words: usize, floats: usize,

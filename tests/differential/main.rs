@@ -4,18 +4,9 @@ extern crate radish_oracle;
 use radish_oracle::make::{small, weather, Rng};
 use radish_oracle::Sweep;
 
-extern "C" {
-    fn jivakkol_dealias_sweep(
-        rays: u32, gates: u32, nyquist: f32, interval_splits: u32, skip_between_rays: u32, skip_along_ray: u32,
-        centered: u32, rays_wrap_around: u32, velocity: *const f32, velocity_len: usize, valid: *const u8, valid_len: usize,
-        folds: *mut i32, folds_len: usize, pair: *mut u32, pair_len: usize, work: *mut u32, work_len: usize,
-        work_f64: *mut f64, work_f64_len: usize,
-    ) -> u32;
-    fn jivakkol_unfold_velocity(
-        rays: u32, gates: u32, nyquist: f32, velocity: *const f32, velocity_len: usize, valid: *const u8, valid_len: usize,
-        folds: *const i32, folds_len: usize, unfolded: *mut f64, unfolded_len: usize,
-    ) -> u32;
-}
+#[path = "../../include/jivakkol.rs"]
+mod jivakkol;
+use jivakkol::{jivakkol_dealias_sweep, jivakkol_unfold_velocity};
 
 /// What a call is lent; filled with values that a call must not leave where it clears, and must leave where it does not.
 struct Lent {
@@ -74,17 +65,19 @@ fn compare(s: &Sweep, l: &mut Lent, expected: u32) -> Result<u32, String> {
     Ok(number)
 }
 
-/// A sweep whose lengths are off, or whose work memory is short: the number of the first question missed.
+/// A sweep whose size or lengths are off, or whose work memory is short: the number of the first question missed.
 fn off(r: &mut Rng, s: &mut Sweep, l: &mut Lent) -> u32 {
     let first = s.refused_before_merging();
     let early = |q: u32| if first != 0 && first < q { first } else { q };
-    match r.below(6) {
+    match r.below(8) {
         0 => { s.velocities.push(1.0); early(2) }
         1 => { s.mask.push(1); early(2) }
         2 => { l.folds.push(0); early(2) }
         3 => { l.pair.push(0); early(2) }
         4 => { l.words.truncate(96 * s.rays * s.gates + 63); early(4) }
-        _ => { l.floats.truncate(16 * s.rays * s.gates + 15); early(4) }
+        5 => { l.floats.truncate(16 * s.rays * s.gates + 15); early(4) }
+        6 => { s.rays += 721; 1 }
+        _ => { s.gates += 2001; 1 }
     }
 }
 
@@ -124,11 +117,17 @@ fn velocity(r: &mut Rng, s: &Sweep, folds: &[i32]) -> Result<(), String> {
     Ok(())
 }
 
+/// Rays, gates and roughness of the weather sweeps.
+const WEATHER: [(usize, usize, f64); 9] = [
+    (90, 250, 0.0), (90, 250, 2.0), (360, 500, 0.0), (360, 500, 2.0), (180, 500, 8.0), (360, 1000, 0.0), (360, 1000, 2.0),
+    (720, 2000, 0.0), (720, 2000, 2.0),
+];
+
 fn main() {
     let count: u64 = std::env::args().nth(1).map_or(20_000, |x| x.parse().unwrap());
     let mut r = Rng(0x9E37_79B9_7F4A_7C15);
     let mut seen = [0u64; 11];
-    let mut fail = |what: &str, line: String, e: String| {
+    let fail = |what: &str, line: String, e: String| {
         println!("DIFFERENT {what}: {e}\n{line}");
         std::process::exit(1)
     };
@@ -153,18 +152,16 @@ fn main() {
         let expected = off(&mut r, &mut s, &mut l);
         match compare(&s, &mut l, expected) {
             Ok(k) => offs[k as usize] += 1,
-            Err(e) => fail("lengths off", s.line(), e),
+            Err(e) => fail("sizes or lengths off", s.line(), e),
         }
     }
-    println!("lengths off: {}, by answer {offs:?}", count / 10);
-    for (rays, gates) in [(90, 250), (360, 500), (360, 1000), (720, 2000)] {
-        for rough in [0.0, 2.0] {
-            let s = weather(7, rays, gates, rough);
-            let mut l = lent(&mut r, rays * gates);
-            if let Err(e) = compare(&s, &mut l, 0) {
-                fail("weather", format!("{rays} x {gates} roughness {rough}"), e);
-            }
-            println!("weather {rays} x {gates}, roughness {rough}: {} regions, {} merges, equal", l.pair[0], l.pair[1]);
+    println!("sizes or lengths off: {}, by answer {offs:?}", count / 10);
+    for (rays, gates, rough) in WEATHER {
+        let s = weather(7, rays, gates, rough);
+        let mut l = lent(&mut r, rays * gates);
+        if let Err(e) = compare(&s, &mut l, 0) {
+            fail("weather", format!("{rays} x {gates} roughness {rough}"), e);
         }
+        println!("weather {rays} x {gates}, roughness {rough}: {} regions, {} merges, equal", l.pair[0], l.pair[1]);
     }
 }
