@@ -29,7 +29,9 @@ masks-yes : (c : tie.Else3) → inMask (c .before .before .before .before .befor
 masks-yes c = answer-yes (c .before .all-masks .ensures) (c .if3 .left)
 
 room-yes : (c : tie.Else4) → inRoom (sweepAt (c .before .before .before .before .before .before .before .before .before .before .before)) (lentAt (c .before .before .before .before .before .before .before .before .before .before .before)) ≡ true
-room-yes c = answer-yes (room-is (sweepAt (c .before .before .before .before .before .before .before .before .before .before .before)) (lentAt (c .before .before .before .before .before .before .before .before .before .before .before)) _ _ (c .before .in-room .ensures) (c .before .before .before .before .before .before .gates-in .ensures)) (c .if4 .left)
+room-yes c =
+    let b = c .before .before .before .before .before .before .before .before .before .before .before in
+    answer-yes (room-is (sweepAt (b)) (lentAt (b)) _ _ (c .before .in-room .ensures) (c .before .before .before .before .before .before .gates-in .ensures)) (c .if4 .left)
 
 nyquist-yes : (c : tie.Else5) → sized (c .before .before .before .before .before .before .before .before .before .before .before .before .before .args .nyquist) ≡ true
 nyquist-yes c = answer-yes (c .before .nyquist-sized .ensures) (c .if5 .left)

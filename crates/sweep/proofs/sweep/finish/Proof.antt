@@ -29,7 +29,10 @@ same-length-2 : tie.Need-same-length-2
 same-length-2 c = search needs
 
 returns : tie.Need-returns
-returns c = answer (c .before .before .before .before .before .no-folds .last .0) (tabulate (length (c .before .before .before .before .before .before .before .before .before .before .before .before .before .args .folds .now)) (λ g. pos 0)) (c .before .before .write-pair .last .0) (c .before .before .before .before .before .before .before .before .before .before .before .before .before .args .k ∷ 0 ∷ []) (c .before .before .before .before .before .no-folds .ensures) (c .before .before .write-pair .ensures) ∙ closed-early (c .before .before .before .before .before .before .before .before .before .before .before .before .before .args .f) (c .before .before .before .before .before .before .before .before .before .before .before .before .before .args .work .now) (c .before .before .before .before .before .before .before .before .before .before .before .before .before .args .velocity .now) (c .before .before .before .before .before .before .before .before .before .before .before .before .before .args .valid .now) (c .before .before .before .before .before .before .before .before .before .before .before .before .before .args .n) (c .before .before .before .before .before .before .before .before .before .before .before .before .before .args .k) (c .before .before .before .before .before .before .before .before .before .before .before .before .before .args .nyquist) (c .before .before .before .before .before .before .before .before .before .before .before .before .before .args .centred) (c .before .before .before .before .before .before .before .before .before .before .before .before .before .args .folds .now) (c .before .before .before .before .before .before .before .before .before .before .before .before .before .args .pair .now) (c .before .before .before .before .before .before .before .if1 .taken) (c .before .before .before .before .before .before .before .before .before .before .before .before .before .pre .masks)
+returns c =
+    let a = c .before .before .before .before .before .before .before .before .before .before .before .before .before .args in
+    let n′ = c .before .before .before .before .before .no-folds in
+    answer (n′ .last .0) (tabulate (length (a .folds .now)) (λ g. pos 0)) (c .before .before .write-pair .last .0) (a .k ∷ 0 ∷ []) (n′ .ensures) (c .before .before .write-pair .ensures) ∙ closed-early (a .f) (a .work .now) (a .velocity .now) (a .valid .now) (a .n) (a .k) (a .nyquist) (a .centred) (a .folds .now) (a .pair .now) (c .before .before .before .before .before .before .before .if1 .taken) (c .before .before .before .before .before .before .before .before .before .before .before .before .before .pre .masks)
 
 merge-regions-requires : tie.Need-merge-regions-requires
 merge-regions-requires c κs = c .before .before .before .before .before .before .before .before .before .before .pre .merges (c .before .before .before .before .if1 .left)
@@ -47,7 +50,9 @@ same-length-6 : tie.Need-same-length-6
 same-length-6 c = search needs
 
 returns-2 : tie.Need-returns-2
-returns-2 c = c .before .before .before .before .before .before .before .merge-regions .ensures ∙ closed-late (c .before .before .before .before .before .before .before .before .before .before .before .before .before .before .before .before .before .before .args .f) (c .before .before .before .before .before .before .before .before .before .before .before .before .before .before .before .before .before .before .args .work .now) (c .before .before .before .before .before .before .before .before .before .before .before .before .before .before .before .before .before .before .args .velocity .now) (c .before .before .before .before .before .before .before .before .before .before .before .before .before .before .before .before .before .before .args .valid .now) (c .before .before .before .before .before .before .before .before .before .before .before .before .before .before .before .before .before .before .args .n) (c .before .before .before .before .before .before .before .before .before .before .before .before .before .before .before .before .before .before .args .k) (c .before .before .before .before .before .before .before .before .before .before .before .before .before .before .before .before .before .before .args .nyquist) (c .before .before .before .before .before .before .before .before .before .before .before .before .before .before .before .before .before .before .args .centred) (c .before .before .before .before .before .before .before .before .before .before .before .before .before .before .before .before .before .before .args .folds .now) (c .before .before .before .before .before .before .before .before .before .before .before .before .before .before .before .before .before .before .args .pair .now)
+returns-2 c =
+    let a = c .before .before .before .before .before .before .before .before .before .before .before .before .before .before .before .before .before .before .args in
+    c .before .before .before .before .before .before .before .merge-regions .ensures ∙ closed-late (a .f) (a .work .now) (a .velocity .now) (a .valid .now) (a .n) (a .k) (a .nyquist) (a .centred) (a .folds .now) (a .pair .now)
 
 pub finish-spec : {M : Type 1} → statement M
 finish-spec =

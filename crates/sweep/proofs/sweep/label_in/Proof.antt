@@ -50,7 +50,12 @@ part-find-regions-start : tie.Need-part-find-regions-start
 part-find-regions-start c = search needs
 
 part-find-regions-end : tie.Need-part-find-regions-end
-part-find-regions-end c = subst (λ (l : List Float). c .before .how-many .result ≤ length l) (sym (written (c .before .before .before .before .before .before .before .before .before .before) (c .before .before .before .before .limits .last .1 .1 .1 .1 .1 .0) (c .before .before .before .before .limits .ensures))) (limits-room (c .before .before .before .before .before .before .before .before .before .before .args .nyquist) (c .before .before .before .before .before .before .before .before .before .before .args .splits) (c .before .before .before .before .before .before .before .before .before .before .args .a) (c .before .before .before .before .before .before .before .before .before .before .args .b) (c .before .before .before .before .before .before .before .before .before .before .args .number) (c .before .before .before .before .before .before .before .before .before .before .args .gates) (c .before .before .before .before .before .before .before .before .before .before .args .velocity .now) (c .before .before .before .before .before .before .before .before .before .before .args .valid .now) (c .before .before .before .before .before .before .before .before .before .before .args .work .now) (c .before .before .before .before .before .before .before .before .before .before .pre .0) (c .before .before .before .before .before .before .before .before .before .before .args .limits .now) (c .before .how-many .result) (many (c .before .before .before .before .before .before .before .before .before .before) (c .before .how-many .result) (c .before .how-many .ensures)) (c .before .before .before .before .before .before .before .before .before .before .pre .1))
+part-find-regions-end c =
+    let a′ = c .before .before .before .before .before .before .before .before .before .before .args in
+    let b′ = c .before .before .before .before .before .before .before .before .before .before in
+    let l′ = c .before .before .before .before .limits in
+    let p = c .before .before .before .before .before .before .before .before .before .before .pre in
+    subst (λ (l : List Float). c .before .how-many .result ≤ length l) (sym (written (b′) (l′ .last .1 .1 .1 .1 .1 .0) (l′ .ensures))) (limits-room (a′ .nyquist) (a′ .splits) (a′ .a) (a′ .b) (a′ .number) (a′ .gates) (a′ .velocity .now) (a′ .valid .now) (a′ .work .now) (p .0) (a′ .limits .now) (c .before .how-many .result) (many (b′) (c .before .how-many .result) (c .before .how-many .ensures)) (p .1))
 
 sub-find-regions-2 : tie.Need-sub-find-regions-2
 sub-find-regions-2 c = search needs
@@ -62,7 +67,12 @@ part-find-regions-end-2 : tie.Need-part-find-regions-end-2
 part-find-regions-end-2 c = search needs
 
 find-regions-requires : tie.Need-find-regions-requires
-find-regions-requires c κs = subst (λ (l : List Float). Sheet.Sweep (c .before .before .before .before .before .before .before .before .before .before .before .before .args .gates) (c .before .before .before .before .before .before .before .before .before .before .before .before .args .velocity .now) (c .before .before .before .before .before .before .before .before .before .before .before .before .args .valid .now) (take (c .before .before .before .how-many .result - 0) l) (take (3 * length (c .before .before .before .before .before .before .before .before .before .before .before .before .args .velocity .now) + 64 - 0) (c .before .before .before .before .before .before .before .before .before .before .before .before .args .work .now))) (sym (written (c .before .before .before .before .before .before .before .before .before .before .before .before) (c .before .before .before .before .before .before .limits .last .1 .1 .1 .1 .1 .0) (c .before .before .before .before .before .before .limits .ensures))) (regions-ask (c .before .before .before .before .before .before .before .before .before .before .before .before .args .nyquist) (c .before .before .before .before .before .before .before .before .before .before .before .before .args .splits) (c .before .before .before .before .before .before .before .before .before .before .before .before .args .a) (c .before .before .before .before .before .before .before .before .before .before .before .before .args .b) (c .before .before .before .before .before .before .before .before .before .before .before .before .args .number) (c .before .before .before .before .before .before .before .before .before .before .before .before .args .gates) (c .before .before .before .before .before .before .before .before .before .before .before .before .args .velocity .now) (c .before .before .before .before .before .before .before .before .before .before .before .before .args .valid .now) (c .before .before .before .before .before .before .before .before .before .before .before .before .args .work .now) (c .before .before .before .before .before .before .before .before .before .before .before .before .pre .0) (c .before .before .before .before .before .before .before .before .before .before .before .before .args .limits .now) (c .before .before .before .how-many .result) (many (c .before .before .before .before .before .before .before .before .before .before .before .before) (c .before .before .before .how-many .result) (c .before .before .before .how-many .ensures)))
+find-regions-requires c κs =
+    let a′ = c .before .before .before .before .before .before .before .before .before .before .before .before .args in
+    let h = c .before .before .before .how-many in
+    let b′ = c .before .before .before .before .before .before .before .before .before .before .before .before in
+    let l′ = c .before .before .before .before .before .before .limits in
+    subst (λ (l : List Float). Sheet.Sweep (a′ .gates) (a′ .velocity .now) (a′ .valid .now) (take (h .result - 0) l) (take (3 * length (a′ .velocity .now) + 64 - 0) (a′ .work .now))) (sym (written (b′) (l′ .last .1 .1 .1 .1 .1 .0) (l′ .ensures))) (regions-ask (a′ .nyquist) (a′ .splits) (a′ .a) (a′ .b) (a′ .number) (a′ .gates) (a′ .velocity .now) (a′ .valid .now) (a′ .work .now) (b′ .pre .0) (a′ .limits .now) (h .result) (many (b′) (h .result) (h .ensures)))
 
 same-length : tie.Need-same-length
 same-length c = search needs
@@ -71,7 +81,13 @@ same-length-2 : tie.Need-same-length-2
 same-length-2 c = search needs
 
 returns : tie.Need-returns
-returns c = regions-left (c .before .before .before .before .before .before .before .before .before .before .before .before .before .before .before .args .nyquist) (c .before .before .before .before .before .before .before .before .before .before .before .before .before .before .before .args .splits) (c .before .before .before .before .before .before .before .before .before .before .before .before .before .before .before .args .a) (c .before .before .before .before .before .before .before .before .before .before .before .before .before .before .before .args .b) (c .before .before .before .before .before .before .before .before .before .before .before .before .before .before .before .args .number) (c .before .before .before .before .before .before .before .before .before .before .before .before .before .before .before .args .gates) (c .before .before .before .before .before .before .before .before .before .before .before .before .before .before .before .args .velocity .now) (c .before .before .before .before .before .before .before .before .before .before .before .before .before .before .before .args .valid .now) (c .before .before .before .before .before .before .before .before .before .before .before .before .before .before .before .args .work .now) (c .before .before .before .before .before .before .before .before .before .before .before .before .before .before .before .pre .0) (c .before .before .before .before .before .before .before .before .before .before .before .before .before .before .before .args .limits .now) (c .before .before .before .before .before .before .how-many .result) (many (c .before .before .before .before .before .before .before .before .before .before .before .before .before .before .before) (c .before .before .before .before .before .before .how-many .result) (c .before .before .before .before .before .before .how-many .ensures)) (c .before .before .find-regions .result) (c .before .before .find-regions .last .1 .1 .1 .1 .0) (take (c .before .before .before .before .before .before .how-many .result - 0) (c .before .before .before .before .before .before .before .before .before .limits .last .1 .1 .1 .1 .1 .0)) (ap (take (c .before .before .before .before .before .before .how-many .result - 0)) (written (c .before .before .before .before .before .before .before .before .before .before .before .before .before .before .before) (c .before .before .before .before .before .before .before .before .before .limits .last .1 .1 .1 .1 .1 .0) (c .before .before .before .before .before .before .before .before .before .limits .ensures))) (c .before .before .find-regions .ensures .0) (c .before .before .find-regions .ensures .1)
+returns c =
+    let a′ = c .before .before .before .before .before .before .before .before .before .before .before .before .before .before .before .args in
+    let h = c .before .before .before .before .before .before .how-many in
+    let f = c .before .before .find-regions in
+    let l = c .before .before .before .before .before .before .before .before .before .limits in
+    let b′ = c .before .before .before .before .before .before .before .before .before .before .before .before .before .before .before in
+    regions-left (a′ .nyquist) (a′ .splits) (a′ .a) (a′ .b) (a′ .number) (a′ .gates) (a′ .velocity .now) (a′ .valid .now) (a′ .work .now) (b′ .pre .0) (a′ .limits .now) (h .result) (many (b′) (h .result) (h .ensures)) (f .result) (f .last .1 .1 .1 .1 .0) (take (h .result - 0) (l .last .1 .1 .1 .1 .1 .0)) (ap (take (h .result - 0)) (written (b′) (l .last .1 .1 .1 .1 .1 .0) (l .ensures))) (f .ensures .0) (f .ensures .1)
 
 pub label-in-spec : {M : Type 1} → statement M
 label-in-spec =

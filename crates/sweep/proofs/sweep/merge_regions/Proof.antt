@@ -47,10 +47,20 @@ enum-known-j : tie.Need-enum-known-j
 enum-known-j c = search needs
 
 settle-requires : tie.Need-settle-requires
-settle-requires c κs = merged-asks (c .before .before .before .before .before .before .before .before .before .before .before .before .before .before .before .before .before .before .args .f) (c .before .before .before .before .before .before .before .before .before .before .before .before .before .before .before .before .before .before .args .work .now) (c .before .before .before .before .before .before .before .before .before .reduce .last .0) (c .before .before .before .before .before .before .before .before .before .before .before .before .before .before .before .before .before .before .args .floats .now) (c .before .before .before .before .before .before .before .before .before .before .before .before .before .before .before .before .before .before .args .velocity .now) (c .before .before .before .before .before .before .before .before .before .before .before .before .before .before .before .before .before .before .args .valid .now) (c .before .before .before .before .before .before .before .before .before .before .before .before .before .before .before .before .before .before .args .n) (c .before .before .before .before .before .before .before .before .before .before .before .before .before .before .before .before .before .before .args .k) (c .before .before .before .before .before .before .before .before .before .before .before .before .before .before .before .before .before .before .args .nyquist) (c .before .before .before .before .before .before .before .before .before .before .before .before .before .before .before .before .before .before .args .centred) (length (c .before .before .before .before .before .before .before .before .before .before .before .before .before .before .before .before .before .before .args .folds .now)) (length (c .before .before .before .before .before .before .before .before .before .before .before .before .before .before .before .before .before .before .args .pair .now)) (c .before .before .before .before .before .before .before .before .before .reduce .result) (c .before .before .before .before .before .before .before .before .before .before .before .before .before .before .before .before .before .before .pre) (c .before .before .before .before .before .before .before .before .before .reduce .kept .0) (left (c .before .before .before .before .before .before .before .before .before)) ((run-settled (networkBy (folded (c .before .before .before .before .before .before .before .before .before .before .before .before .before .before .before .before .before .before .args .nyquist)) (shape (c .before .before .before .before .before .before .before .before .before .before .before .before .before .before .before .before .before .before .args .f)) (c .before .before .before .before .before .before .before .before .before .before .before .before .before .before .before .before .before .before .args .k) (seg (c .before .before .before .before .before .before .before .before .before .before .before .before .before .before .before .before .before .before .args .work .now) 0 (c .before .before .before .before .before .before .before .before .before .before .before .before .before .before .before .before .before .before .args .n)) (c .before .before .before .before .before .before .before .before .before .before .before .before .before .before .before .before .before .before .args .velocity .now)) (c .before .before .before .before .before .before .before .before .before .before .before .before .before .before .before .before .before .before .args .n) (c .before .before .before .before .before .before .before .before .before .before .before .before .before .before .before .before .before .before .args .k) (c .before .before .before .before .before .before .before .before .before .before .before .before .before .before .before .before .before .before .args .work .now) (c .before .before .before .before .before .before .before .before .before .reduce .last .0) (c .before .before .before .before .before .before .before .before .before .reduce .result) (c .before .before .before .j .given .0 .0) (left (c .before .before .before .before .before .before .before .before .before)) (c .before .before .before .j .given .1)) .0)
+settle-requires c κs =
+    let a = c .before .before .before .before .before .before .before .before .before .before .before .before .before .before .before .before .before .before .args in
+    let r = c .before .before .before .before .before .before .before .before .before .reduce in
+    let b = c .before .before .before .before .before .before .before .before .before in
+    merged-asks (a .f) (a .work .now) (r .last .0) (a .floats .now) (a .velocity .now) (a .valid .now) (a .n) (a .k) (a .nyquist) (a .centred) (length (a .folds .now)) (length (a .pair .now)) (r .result) (b .before .before .before .before .before .before .before .before .before .pre) (r .kept .0) (left (b)) ((run-settled (networkBy (folded (a .nyquist)) (shape (a .f)) (a .k) (seg (a .work .now) 0 (a .n)) (a .velocity .now)) (a .n) (a .k) (a .work .now) (r .last .0) (r .result) (c .before .before .before .j .given .0 .0) (left (b)) (c .before .before .before .j .given .1)) .0)
 
 write-pair-requires : tie.Need-write-pair-requires
-write-pair-requires c κs = (c .before .before .before .before .before .before .before .before .before .before .before .before .before .before .before .before .before .before .before .before .before .pre .pair, (omega (arith, c .before .before .before .before .before .before .before .before .before .before .before .before .before .before .before .before .before .before .before .before .before .pre .reduces .few, c .before .before .before .before .before .before .before .before .before .before .before .before .before .before .before .before .before .before .before .before .before .pre .reduces .small), subst (λ (x : ℕ). x < 4294967296) (sym ((run-settled (networkBy (folded (c .before .before .before .before .before .before .before .before .before .before .before .before .before .before .before .before .before .before .before .before .before .args .nyquist)) (shape (c .before .before .before .before .before .before .before .before .before .before .before .before .before .before .before .before .before .before .before .before .before .args .f)) (c .before .before .before .before .before .before .before .before .before .before .before .before .before .before .before .before .before .before .before .before .before .args .k) (seg (c .before .before .before .before .before .before .before .before .before .before .before .before .before .before .before .before .before .before .before .before .before .args .work .now) 0 (c .before .before .before .before .before .before .before .before .before .before .before .before .before .before .before .before .before .before .before .before .before .args .n)) (c .before .before .before .before .before .before .before .before .before .before .before .before .before .before .before .before .before .before .before .before .before .args .velocity .now)) (c .before .before .before .before .before .before .before .before .before .before .before .before .before .before .before .before .before .before .before .before .before .args .n) (c .before .before .before .before .before .before .before .before .before .before .before .before .before .before .before .before .before .before .before .before .before .args .k) (c .before .before .before .before .before .before .before .before .before .before .before .before .before .before .before .before .before .before .before .before .before .args .work .now) (c .before .before .before .before .before .before .before .before .before .before .before .before .reduce .last .0) (c .before .before .before .before .before .before .before .before .before .before .before .before .reduce .result) (c .before .before .before .before .before .before .j .given .0 .0) (left (c .before .before .before .before .before .before .before .before .before .before .before .before)) (c .before .before .before .before .before .before .j .given .1)) .1)) (merges-few (c .before .before .before .before .before .before .before .before .before .before .before .before .before .before .before .before .before .before .before .before .before .args .f) (c .before .before .before .before .before .before .before .before .before .before .before .before .before .before .before .before .before .before .before .before .before .args .work .now) (c .before .before .before .before .before .before .before .before .before .before .before .before .reduce .last .0) (c .before .before .before .before .before .before .before .before .before .before .before .before .before .before .before .before .before .before .before .before .before .args .floats .now) (c .before .before .before .before .before .before .before .before .before .before .before .before .before .before .before .before .before .before .before .before .before .args .velocity .now) (c .before .before .before .before .before .before .before .before .before .before .before .before .before .before .before .before .before .before .before .before .before .args .valid .now) (c .before .before .before .before .before .before .before .before .before .before .before .before .before .before .before .before .before .before .before .before .before .args .n) (c .before .before .before .before .before .before .before .before .before .before .before .before .before .before .before .before .before .before .before .before .before .args .k) (c .before .before .before .before .before .before .before .before .before .before .before .before .before .before .before .before .before .before .before .before .before .args .nyquist) (c .before .before .before .before .before .before .before .before .before .before .before .before .before .before .before .before .before .before .before .before .before .args .centred) (length (c .before .before .before .before .before .before .before .before .before .before .before .before .before .before .before .before .before .before .before .before .before .args .folds .now)) (length (c .before .before .before .before .before .before .before .before .before .before .before .before .before .before .before .before .before .before .before .before .before .args .pair .now)) (c .before .before .before .before .before .before .before .before .before .before .before .before .reduce .result) (c .before .before .before .before .before .before .before .before .before .before .before .before .before .before .before .before .before .before .before .before .before .pre) (c .before .before .before .before .before .before .before .before .before .before .before .before .reduce .kept .0) (left (c .before .before .before .before .before .before .before .before .before .before .before .before)))))
+write-pair-requires c κs =
+    let a = c .before .before .before .before .before .before .before .before .before .before .before .before .before .before .before .before .before .before .before .before .before .args in
+    let r = c .before .before .before .before .before .before .before .before .before .before .before .before .reduce in
+    let p = c .before .before .before .before .before .before .before .before .before .before .before .before .before .before .before .before .before .before .before .before .before .pre in
+    let j′ = c .before .before .before .before .before .before .j in
+    let b = c .before .before .before .before .before .before .before .before .before .before .before .before in
+    (p .pair, (omega (arith, p .reduces .few, p .reduces .small), subst (λ (x : ℕ). x < 4294967296) (sym ((run-settled (networkBy (folded (a .nyquist)) (shape (a .f)) (a .k) (seg (a .work .now) 0 (a .n)) (a .velocity .now)) (a .n) (a .k) (a .work .now) (r .last .0) (r .result) (j′ .given .0 .0) (left (b)) (j′ .given .1)) .1)) (merges-few (a .f) (a .work .now) (r .last .0) (a .floats .now) (a .velocity .now) (a .valid .now) (a .n) (a .k) (a .nyquist) (a .centred) (length (a .folds .now)) (length (a .pair .now)) (r .result) (p) (r .kept .0) (left (b)))))
 
 enum-told : tie.Need-enum-told
 enum-told c = search needs
@@ -68,7 +78,13 @@ same-length-4 : tie.Need-same-length-4
 same-length-4 c = search needs
 
 returns : tie.Need-returns
-returns c = answer (c .before .before .before .before .before .settle .last .1 .1 .1 .1 .1 .0) (countsBy (c .before .before .before .before .before .before .before .before .before .before .before .before .before .before .before .reduce .last .0) (c .before .before .before .before .before .before .before .before .before .before .before .before .before .before .before .before .before .before .before .before .before .before .before .before .args .n) (c .before .before .before .before .before .before .before .before .before .before .before .before .before .before .before .before .before .before .before .before .before .before .before .before .args .k) (c .before .before .before .before .before .before .before .before .before .before .before .before .before .before .before .before .before .before .before .before .before .before .before .before .args .valid .now) (c .before .before .before .before .before .before .before .before .before .before .before .before .before .before .before .before .before .before .before .before .before .before .before .before .args .centred)) (c .before .before .write-pair .last .0) (c .before .before .before .before .before .before .before .before .before .before .before .before .before .before .before .before .before .before .before .before .before .before .before .before .args .k) (c .before .before .before .before .before .before .before .before .before .j .given .0 .0) (length (merges (networkBy (folded (c .before .before .before .before .before .before .before .before .before .before .before .before .before .before .before .before .before .before .before .before .before .before .before .before .args .nyquist)) (shape (c .before .before .before .before .before .before .before .before .before .before .before .before .before .before .before .before .before .before .before .before .before .before .before .before .args .f)) (c .before .before .before .before .before .before .before .before .before .before .before .before .before .before .before .before .before .before .before .before .before .before .before .before .args .k) (seg (c .before .before .before .before .before .before .before .before .before .before .before .before .before .before .before .before .before .before .before .before .before .before .before .before .args .work .now) 0 (c .before .before .before .before .before .before .before .before .before .before .before .before .before .before .before .before .before .before .before .before .before .before .before .before .args .n)) (c .before .before .before .before .before .before .before .before .before .before .before .before .before .before .before .before .before .before .before .before .before .before .before .before .args .velocity .now)))) (c .before .before .before .before .before .settle .ensures) (c .before .before .write-pair .ensures) ((run-settled (networkBy (folded (c .before .before .before .before .before .before .before .before .before .before .before .before .before .before .before .before .before .before .before .before .before .before .before .before .args .nyquist)) (shape (c .before .before .before .before .before .before .before .before .before .before .before .before .before .before .before .before .before .before .before .before .before .before .before .before .args .f)) (c .before .before .before .before .before .before .before .before .before .before .before .before .before .before .before .before .before .before .before .before .before .before .before .before .args .k) (seg (c .before .before .before .before .before .before .before .before .before .before .before .before .before .before .before .before .before .before .before .before .before .before .before .before .args .work .now) 0 (c .before .before .before .before .before .before .before .before .before .before .before .before .before .before .before .before .before .before .before .before .before .before .before .before .args .n)) (c .before .before .before .before .before .before .before .before .before .before .before .before .before .before .before .before .before .before .before .before .before .before .before .before .args .velocity .now)) (c .before .before .before .before .before .before .before .before .before .before .before .before .before .before .before .before .before .before .before .before .before .before .before .before .args .n) (c .before .before .before .before .before .before .before .before .before .before .before .before .before .before .before .before .before .before .before .before .before .before .before .before .args .k) (c .before .before .before .before .before .before .before .before .before .before .before .before .before .before .before .before .before .before .before .before .before .before .before .before .args .work .now) (c .before .before .before .before .before .before .before .before .before .before .before .before .before .before .before .reduce .last .0) (c .before .before .before .before .before .before .before .before .before .before .before .before .before .before .before .reduce .result) (c .before .before .before .before .before .before .before .before .before .j .given .0 .0) (left (c .before .before .before .before .before .before .before .before .before .before .before .before .before .before .before)) (c .before .before .before .before .before .before .before .before .before .j .given .1)) .1) ∙ merged-good (c .before .before .before .before .before .before .before .before .before .before .before .before .before .before .before .before .before .before .before .before .before .before .before .before .args .f) (c .before .before .before .before .before .before .before .before .before .before .before .before .before .before .before .before .before .before .before .before .before .before .before .before .args .work .now) (c .before .before .before .before .before .before .before .before .before .before .before .before .before .before .before .reduce .last .0) (c .before .before .before .before .before .before .before .before .before .before .before .before .before .before .before .before .before .before .before .before .before .before .before .before .args .floats .now) (c .before .before .before .before .before .before .before .before .before .before .before .before .before .before .before .before .before .before .before .before .before .before .before .before .args .velocity .now) (c .before .before .before .before .before .before .before .before .before .before .before .before .before .before .before .before .before .before .before .before .before .before .before .before .args .valid .now) (c .before .before .before .before .before .before .before .before .before .before .before .before .before .before .before .before .before .before .before .before .before .before .before .before .args .n) (c .before .before .before .before .before .before .before .before .before .before .before .before .before .before .before .before .before .before .before .before .before .before .before .before .args .k) (c .before .before .before .before .before .before .before .before .before .before .before .before .before .before .before .before .before .before .before .before .before .before .before .before .args .nyquist) (c .before .before .before .before .before .before .before .before .before .before .before .before .before .before .before .before .before .before .before .before .before .before .before .before .args .centred) (length (c .before .before .before .before .before .before .before .before .before .before .before .before .before .before .before .before .before .before .before .before .before .before .before .before .args .folds .now)) (length (c .before .before .before .before .before .before .before .before .before .before .before .before .before .before .before .before .before .before .before .before .before .before .before .before .args .pair .now)) (c .before .before .before .before .before .before .before .before .before .before .before .before .before .before .before .reduce .result) (c .before .before .before .before .before .before .before .before .before .before .before .before .before .before .before .before .before .before .before .before .before .before .before .before .pre) (c .before .before .before .before .before .before .before .before .before .before .before .before .before .before .before .reduce .kept .0) (left (c .before .before .before .before .before .before .before .before .before .before .before .before .before .before .before)) ((run-settled (networkBy (folded (c .before .before .before .before .before .before .before .before .before .before .before .before .before .before .before .before .before .before .before .before .before .before .before .before .args .nyquist)) (shape (c .before .before .before .before .before .before .before .before .before .before .before .before .before .before .before .before .before .before .before .before .before .before .before .before .args .f)) (c .before .before .before .before .before .before .before .before .before .before .before .before .before .before .before .before .before .before .before .before .before .before .before .before .args .k) (seg (c .before .before .before .before .before .before .before .before .before .before .before .before .before .before .before .before .before .before .before .before .before .before .before .before .args .work .now) 0 (c .before .before .before .before .before .before .before .before .before .before .before .before .before .before .before .before .before .before .before .before .before .before .before .before .args .n)) (c .before .before .before .before .before .before .before .before .before .before .before .before .before .before .before .before .before .before .before .before .before .before .before .before .args .velocity .now)) (c .before .before .before .before .before .before .before .before .before .before .before .before .before .before .before .before .before .before .before .before .before .before .before .before .args .n) (c .before .before .before .before .before .before .before .before .before .before .before .before .before .before .before .before .before .before .before .before .before .before .before .before .args .k) (c .before .before .before .before .before .before .before .before .before .before .before .before .before .before .before .before .before .before .before .before .before .before .before .before .args .work .now) (c .before .before .before .before .before .before .before .before .before .before .before .before .before .before .before .reduce .last .0) (c .before .before .before .before .before .before .before .before .before .before .before .before .before .before .before .reduce .result) (c .before .before .before .before .before .before .before .before .before .j .given .0 .0) (left (c .before .before .before .before .before .before .before .before .before .before .before .before .before .before .before)) (c .before .before .before .before .before .before .before .before .before .j .given .1)) .0) (c .before .before .before .before .before .before .before .before .before .before .before .before .before .before .before .before .before .before .before .before .before .before .before .before .args .folds .now) (c .before .before .before .before .before .before .before .before .before .before .before .before .before .before .before .before .before .before .before .before .before .before .before .before .args .pair .now)
+returns c =
+    let a = c .before .before .before .before .before .before .before .before .before .before .before .before .before .before .before .before .before .before .before .before .before .before .before .before .args in
+    let r = c .before .before .before .before .before .before .before .before .before .before .before .before .before .before .before .reduce in
+    let j′ = c .before .before .before .before .before .before .before .before .before .j in
+    let b = c .before .before .before .before .before .before .before .before .before .before .before .before .before .before .before in
+    let s = c .before .before .before .before .before .settle in
+    answer (s .last .1 .1 .1 .1 .1 .0) (countsBy (r .last .0) (a .n) (a .k) (a .valid .now) (a .centred)) (c .before .before .write-pair .last .0) (a .k) (j′ .given .0 .0) (length (merges (networkBy (folded (a .nyquist)) (shape (a .f)) (a .k) (seg (a .work .now) 0 (a .n)) (a .velocity .now)))) (s .ensures) (c .before .before .write-pair .ensures) ((run-settled (networkBy (folded (a .nyquist)) (shape (a .f)) (a .k) (seg (a .work .now) 0 (a .n)) (a .velocity .now)) (a .n) (a .k) (a .work .now) (r .last .0) (r .result) (j′ .given .0 .0) (left (b)) (j′ .given .1)) .1) ∙ merged-good (a .f) (a .work .now) (r .last .0) (a .floats .now) (a .velocity .now) (a .valid .now) (a .n) (a .k) (a .nyquist) (a .centred) (length (a .folds .now)) (length (a .pair .now)) (r .result) (b .before .before .before .before .before .before .before .before .before .pre) (r .kept .0) (left (b)) ((run-settled (networkBy (folded (a .nyquist)) (shape (a .f)) (a .k) (seg (a .work .now) 0 (a .n)) (a .velocity .now)) (a .n) (a .k) (a .work .now) (r .last .0) (r .result) (j′ .given .0 .0) (left (b)) (j′ .given .1)) .0) (a .folds .now) (a .pair .now)
 
 same-length-5 : tie.Need-same-length-5
 same-length-5 c = search needs
@@ -77,7 +93,11 @@ same-length-6 : tie.Need-same-length-6
 same-length-6 c = search needs
 
 returns-2 : tie.Need-returns-2
-returns-2 c = merged-bad (c .before .before .before .before .before .before .before .before .before .before .before .before .before .before .before .args .f) (c .before .before .before .before .before .before .before .before .before .before .before .before .before .before .before .args .work .now) (c .before .before .before .before .before .before .reduce .last .0) (c .before .before .before .before .before .before .before .before .before .before .before .before .before .before .before .args .floats .now) (c .before .before .before .before .before .before .before .before .before .before .before .before .before .before .before .args .velocity .now) (c .before .before .before .before .before .before .before .before .before .before .before .before .before .before .before .args .valid .now) (c .before .before .before .before .before .before .before .before .before .before .before .before .before .before .before .args .n) (c .before .before .before .before .before .before .before .before .before .before .before .before .before .before .before .args .k) (c .before .before .before .before .before .before .before .before .before .before .before .before .before .before .before .args .nyquist) (c .before .before .before .before .before .before .before .before .before .before .before .before .before .before .before .args .centred) (length (c .before .before .before .before .before .before .before .before .before .before .before .before .before .before .before .args .folds .now)) (length (c .before .before .before .before .before .before .before .before .before .before .before .before .before .before .before .args .pair .now)) (c .before .before .before .before .before .before .reduce .result) (c .before .before .before .before .before .before .before .before .before .before .before .before .before .before .before .pre) (c .before .before .before .before .before .before .reduce .kept .0) (left (c .before .before .before .before .before .before)) (run-denied (networkBy (folded (c .before .before .before .before .before .before .before .before .before .before .before .before .before .before .before .args .nyquist)) (shape (c .before .before .before .before .before .before .before .before .before .before .before .before .before .before .before .args .f)) (c .before .before .before .before .before .before .before .before .before .before .before .before .before .before .before .args .k) (seg (c .before .before .before .before .before .before .before .before .before .before .before .before .before .before .before .args .work .now) 0 (c .before .before .before .before .before .before .before .before .before .before .before .before .before .before .before .args .n)) (c .before .before .before .before .before .before .before .before .before .before .before .before .before .before .before .args .velocity .now)) (c .before .before .before .before .before .before .before .before .before .before .before .before .before .before .before .args .n) (c .before .before .before .before .before .before .before .before .before .before .before .before .before .before .before .args .k) (c .before .before .before .before .before .before .before .before .before .before .before .before .before .before .before .args .work .now) (c .before .before .before .before .before .before .reduce .last .0) (c .before .before .before .before .before .before .reduce .result) (left (c .before .before .before .before .before .before)) (c .enum-told .given .1)) (c .before .before .before .before .before .before .before .before .before .before .before .before .before .before .before .args .folds .now) (c .before .before .before .before .before .before .before .before .before .before .before .before .before .before .before .args .pair .now)
+returns-2 c =
+    let a = c .before .before .before .before .before .before .before .before .before .before .before .before .before .before .before .args in
+    let r = c .before .before .before .before .before .before .reduce in
+    let b = c .before .before .before .before .before .before in
+    merged-bad (a .f) (a .work .now) (r .last .0) (a .floats .now) (a .velocity .now) (a .valid .now) (a .n) (a .k) (a .nyquist) (a .centred) (length (a .folds .now)) (length (a .pair .now)) (r .result) (b .before .before .before .before .before .before .before .before .before .pre) (r .kept .0) (left (b)) (run-denied (networkBy (folded (a .nyquist)) (shape (a .f)) (a .k) (seg (a .work .now) 0 (a .n)) (a .velocity .now)) (a .n) (a .k) (a .work .now) (r .last .0) (r .result) (left (b)) (c .enum-told .given .1)) (a .folds .now) (a .pair .now)
 
 pub merge-regions-spec : {M : Type 1} → statement M
 merge-regions-spec =

@@ -30,7 +30,10 @@ cast-finish : tie.Need-cast-finish
 cast-finish c = search needs
 
 finish-requires : tie.Need-finish-requires
-finish-requires c κs = finish-asks (c .before .before .before .before .before .before .before .before .before .before .before .before .before .args .f) (c .before .before .before .before .before .before .before .before .before .before .before .before .before .args .gates) (c .before .before .before .before .before .before .before .before .before .before .before .before .before .args .nyquist) (c .before .before .before .before .before .before .before .before .before .before .before .before .before .args .splits) (c .before .before .before .before .before .before .before .before .before .before .before .before .before .args .a) (c .before .before .before .before .before .before .before .before .before .before .before .before .before .args .b) (c .before .before .before .before .before .before .before .before .before .before .before .before .before .args .number) (c .before .before .before .before .before .before .before .before .before .before .before .before .before .args .centred) (c .before .before .before .before .before .before .before .before .before .before .before .before .before .args .velocity .now) (c .before .before .before .before .before .before .before .before .before .before .before .before .before .args .valid .now) (length (c .before .before .before .before .before .before .before .before .before .before .before .before .before .args .folds .now)) (length (c .before .before .before .before .before .before .before .before .before .before .before .before .before .args .pair .now)) (length (c .before .before .before .before .before .before .before .before .before .before .before .before .before .args .work .now)) (length (c .before .before .before .before .before .before .before .before .before .before .before .before .before .args .floats .now)) (c .before .before .before .before .before .before .before .before .before .before .before .before .before .pre) (c .before .before .before .before .before .before .label-sweep .result) (c .before .before .before .before .before .before .label-sweep .last .1 .1 .1 .1 .1 .1 .1 .1 .0) (c .before .before .before .before .before .before .before .before .before .before .before .before .before .args .floats .now) (found (c .before .before .before .before .before .before)) (c .before .before .before .before .before .before .label-sweep .kept .1 .1 .1 .1 .1 .1 .1 .1 .0) refl
+finish-requires c κs =
+    let a′ = c .before .before .before .before .before .before .before .before .before .before .before .before .before .args in
+    let l = c .before .before .before .before .before .before .label-sweep in
+    finish-asks (a′ .f) (a′ .gates) (a′ .nyquist) (a′ .splits) (a′ .a) (a′ .b) (a′ .number) (a′ .centred) (a′ .velocity .now) (a′ .valid .now) (length (a′ .folds .now)) (length (a′ .pair .now)) (length (a′ .work .now)) (length (a′ .floats .now)) (c .before .before .before .before .before .before .before .before .before .before .before .before .before .pre) (l .result) (l .last .1 .1 .1 .1 .1 .1 .1 .1 .0) (a′ .floats .now) (found (c .before .before .before .before .before .before)) (l .kept .1 .1 .1 .1 .1 .1 .1 .1 .0) refl
 
 clear-words-requires : tie.Need-clear-words-requires
 clear-words-requires c κs = search needs
@@ -51,7 +54,13 @@ same-length-4 : tie.Need-same-length-4
 same-length-4 c = search needs
 
 returns : tie.Need-returns
-returns c = solved-is (c .before .before .before .before .before .before .before .before .before .before .before .before .before .before .before .before .before .before .before .before .before .before .before .before .before .before .before .before .before .args .f) (c .before .before .before .before .before .before .before .before .before .before .before .before .before .before .before .before .before .before .before .before .before .before .before .before .before .before .before .before .before .args .gates) (c .before .before .before .before .before .before .before .before .before .before .before .before .before .before .before .before .before .before .before .before .before .before .before .before .before .before .before .before .before .args .nyquist) (c .before .before .before .before .before .before .before .before .before .before .before .before .before .before .before .before .before .before .before .before .before .before .before .before .before .before .before .before .before .args .splits) (c .before .before .before .before .before .before .before .before .before .before .before .before .before .before .before .before .before .before .before .before .before .before .before .before .before .before .before .before .before .args .a) (c .before .before .before .before .before .before .before .before .before .before .before .before .before .before .before .before .before .before .before .before .before .before .before .before .before .before .before .before .before .args .b) (c .before .before .before .before .before .before .before .before .before .before .before .before .before .before .before .before .before .before .before .before .before .before .before .before .before .before .before .before .before .args .number) (c .before .before .before .before .before .before .before .before .before .before .before .before .before .before .before .before .before .before .before .before .before .before .before .before .before .before .before .before .before .args .centred) (c .before .before .before .before .before .before .before .before .before .before .before .before .before .before .before .before .before .before .before .before .before .before .before .before .before .before .before .before .before .args .velocity .now) (c .before .before .before .before .before .before .before .before .before .before .before .before .before .before .before .before .before .before .before .before .before .before .before .before .before .before .before .before .before .args .valid .now) (length (c .before .before .before .before .before .before .before .before .before .before .before .before .before .before .before .before .before .before .before .before .before .before .before .before .before .before .before .before .before .args .folds .now)) (length (c .before .before .before .before .before .before .before .before .before .before .before .before .before .before .before .before .before .before .before .before .before .before .before .before .before .before .before .before .before .args .pair .now)) (length (c .before .before .before .before .before .before .before .before .before .before .before .before .before .before .before .before .before .before .before .before .before .before .before .before .before .before .before .before .before .args .work .now)) (length (c .before .before .before .before .before .before .before .before .before .before .before .before .before .before .before .before .before .before .before .before .before .before .before .before .before .before .before .before .before .args .floats .now)) (c .before .before .before .before .before .before .before .before .before .before .before .before .before .before .before .before .before .before .before .before .before .before .before .before .before .before .before .before .before .pre) (c .before .before .before .before .before .before .before .before .before .before .before .before .before .before .before .before .before .before .before .before .before .before .label-sweep .result) (c .before .before .before .before .before .before .before .before .before .before .before .before .before .before .before .before .before .before .before .before .before .before .label-sweep .last .1 .1 .1 .1 .1 .1 .1 .1 .0) (c .before .before .before .before .before .before .before .before .before .before .before .before .before .before .before .before .before .before .before .before .before .before .before .before .before .before .before .before .before .args .floats .now) (found (c .before .before .before .before .before .before .before .before .before .before .before .before .before .before .before .before .before .before .before .before .before .before)) (c .before .before .before .before .before .before .before .before .before .before .before .before .before .before .before .finish .result) (c .before .before .before .before .before .before .before .before .before .before .before .before .before .before .before .before .before .before .before .before .before .before .before .before .before .before .before .before .before .args .folds .now) (c .before .before .before .before .before .before .before .before .before .before .before .before .before .before .before .finish .last .1 .1 .1 .1 .1 .1 .1 .0) (c .before .before .before .before .before .before .before .before .before .before .before .before .before .before .before .before .before .before .before .before .before .before .before .before .before .before .before .before .before .args .pair .now) (c .before .before .before .before .before .before .before .before .before .before .before .before .before .before .before .finish .last .1 .1 .1 .1 .1 .1 .1 .1 .0) (c .before .before .before .before .before .before .clear-words .last .0) (c .before .before .clear-floats .last .0) (c .before .before .before .before .before .before .before .before .before .before .before .before .before .before .before .finish .ensures) (c .before .before .before .before .before .before .clear-words .ensures ∙ all-cleared 0 (length (c .before .before .before .before .before .before .before .before .before .before .before .before .before .before .before .finish .last .1 .1 .1 .1 .1 .1 .1 .1 .1 .0)) (length (c .before .before .before .before .before .before .before .before .before .before .before .before .before .before .before .before .before .before .before .before .before .before .before .before .before .before .before .before .before .args .work .now)) (c .before .before .before .before .before .before .before .before .before .before .before .before .before .before .before .finish .last .1 .1 .1 .1 .1 .1 .1 .1 .1 .0) refl (c .before .before .before .before .before .before .before .before .before .before .before .before .before .before .before .finish .kept .1 .1 .1 .1 .1 .1 .1 .1 .1 .0 ∙ c .before .before .before .before .before .before .before .before .before .before .before .before .before .before .before .before .before .before .before .before .before .before .label-sweep .kept .1 .1 .1 .1 .1 .1 .1 .1 .0)) (c .before .before .clear-floats .ensures ∙ all-cleared (real (pos 0)) (length (c .before .before .before .before .before .before .before .before .before .before .before .before .before .before .before .finish .last .1 .1 .1 .1 .1 .1 .1 .1 .1 .1 .0)) (length (c .before .before .before .before .before .before .before .before .before .before .before .before .before .before .before .before .before .before .before .before .before .before .before .before .before .before .before .before .before .args .floats .now)) (c .before .before .before .before .before .before .before .before .before .before .before .before .before .before .before .finish .last .1 .1 .1 .1 .1 .1 .1 .1 .1 .1 .0) refl (c .before .before .before .before .before .before .before .before .before .before .before .before .before .before .before .finish .kept .1 .1 .1 .1 .1 .1 .1 .1 .1 .1 .0))
+returns c =
+    let a′ = c .before .before .before .before .before .before .before .before .before .before .before .before .before .before .before .before .before .before .before .before .before .before .before .before .before .before .before .before .before .args in
+    let f′ = c .before .before .before .before .before .before .before .before .before .before .before .before .before .before .before .finish in
+    let l = c .before .before .before .before .before .before .before .before .before .before .before .before .before .before .before .before .before .before .before .before .before .before .label-sweep in
+    let c′ = c .before .before .before .before .before .before .clear-words in
+    let c″ = c .before .before .clear-floats in
+    solved-is (a′ .f) (a′ .gates) (a′ .nyquist) (a′ .splits) (a′ .a) (a′ .b) (a′ .number) (a′ .centred) (a′ .velocity .now) (a′ .valid .now) (length (a′ .folds .now)) (length (a′ .pair .now)) (length (a′ .work .now)) (length (a′ .floats .now)) (c .before .before .before .before .before .before .before .before .before .before .before .before .before .before .before .before .before .before .before .before .before .before .before .before .before .before .before .before .before .pre) (l .result) (l .last .1 .1 .1 .1 .1 .1 .1 .1 .0) (a′ .floats .now) (found (c .before .before .before .before .before .before .before .before .before .before .before .before .before .before .before .before .before .before .before .before .before .before)) (f′ .result) (a′ .folds .now) (f′ .last .1 .1 .1 .1 .1 .1 .1 .0) (a′ .pair .now) (f′ .last .1 .1 .1 .1 .1 .1 .1 .1 .0) (c′ .last .0) (c″ .last .0) (f′ .ensures) (c′ .ensures ∙ all-cleared 0 (length (f′ .last .1 .1 .1 .1 .1 .1 .1 .1 .1 .0)) (length (a′ .work .now)) (f′ .last .1 .1 .1 .1 .1 .1 .1 .1 .1 .0) refl (f′ .kept .1 .1 .1 .1 .1 .1 .1 .1 .1 .0 ∙ l .kept .1 .1 .1 .1 .1 .1 .1 .1 .0)) (c″ .ensures ∙ all-cleared (real (pos 0)) (length (f′ .last .1 .1 .1 .1 .1 .1 .1 .1 .1 .1 .0)) (length (a′ .floats .now)) (f′ .last .1 .1 .1 .1 .1 .1 .1 .1 .1 .1 .0) refl (f′ .kept .1 .1 .1 .1 .1 .1 .1 .1 .1 .1 .0))
 
 pub solve-spec : {M : Type 1} → statement M
 solve-spec =

@@ -54,7 +54,11 @@ shared-slice-read-fold-of c = omega (arith, c .before .before .before .loop-test
 
 fold-of-requires : tie.Need-fold-of-requires Inv-loop μ-loop
 unfolding countsAt
-fold-of-requires c κs = (c .before .before .before .before .before .before .before .pre .most (getD (c .before .before .before .before .before .before .before .args .w .now) (c .before .before .before .before .loop .g) 0) (c .before .before .before .before .before .before .before .pre .label (c .before .before .before .before .loop .g) (c .before .before .before .loop-test .taken)), subst (λ (z : ℤ). natAbs z ≤ 2 ^ 30) (sym (toZ-ofZ w32 (c .before .before .before .before .before .before .before .args .offset) (c .before .before .before .before .before .before .before .fits .offset))) (c .before .before .before .before .before .before .before .pre .near))
+fold-of-requires c κs =
+    let p = c .before .before .before .before .before .before .before .pre in
+    let a = c .before .before .before .before .before .before .before .args in
+    let l = c .before .before .before .before .loop in
+    (p .most (getD (a .w .now) (l .g) 0) (p .label (l .g) (c .before .before .before .loop-test .taken)), subst (λ (z : ℤ). natAbs z ≤ 2 ^ 30) (sym (toZ-ofZ w32 (a .offset) (c .before .before .before .before .before .before .before .fits .offset))) (p .near))
 
 mul-t11 : tie.Need-mul-t11 Inv-loop μ-loop
 mul-t11 c = omega arith
@@ -70,13 +74,18 @@ loop-less c = omega (arith, c .before .before .before .before .loop-test .taken)
 
 loop-again : tie.Need-loop-again Inv-loop μ-loop
 unfolding countsAt
-loop-again c = (omega (arith, c .before .before .before .before .loop-test .taken), (fill-on (λ g. gateCount (toZ w32 (ofZ w32 (c .before .before .before .before .before .before .before .before .args .offset))) (getD (c .before .before .before .before .before .before .before .before .args .valid .now) g 0) (unbias (getD (c .before .before .before .before .before .before .before .before .args .w .now) (countsAt (c .before .before .before .before .before .before .before .before .args .n) (c .before .before .before .before .before .before .before .before .args .k) + getD (c .before .before .before .before .before .before .before .before .args .w .now) g 0) 0))) (c .before .before .before .before .before .before .before .before .args .folds .now) (c .before .before .before .before .before .loop .folds) (c .before .before .before .before .before .loop .g) (toZ w32 (ofZ w32 (c .fold-of .result))) (c .before .before .before .before .before .loop .inv .1 .0) (toZ-ofZ w32 (c .fold-of .result) (record { sfits = c .fold-of .ok }) ∙ c .fold-of .ensures), simp length-set (c .before .before .before .before .before .loop .inv .1 .1)))
+loop-again c =
+    let a = c .before .before .before .before .before .before .before .before .args in
+    let l = c .before .before .before .before .before .loop in
+    (omega (arith, c .before .before .before .before .loop-test .taken), (fill-on (λ g. gateCount (toZ w32 (ofZ w32 (a .offset))) (getD (a .valid .now) g 0) (unbias (getD (a .w .now) (countsAt (a .n) (a .k) + getD (a .w .now) g 0) 0))) (a .folds .now) (l .folds) (l .g) (toZ w32 (ofZ w32 (c .fold-of .result))) (l .inv .1 .0) (toZ-ofZ w32 (c .fold-of .result) (record { sfits = c .fold-of .ok }) ∙ c .fold-of .ensures), simp length-set (l .inv .1 .1)))
 
 same-length : tie.Need-same-length Inv-loop μ-loop
 same-length c = c .before .loop .inv .1 .1
 
 returns : tie.Need-returns Inv-loop μ-loop
-returns c = fill-all (λ g. gateCount (toZ w32 (ofZ w32 (c .before .before .before .before .args .offset))) (getD (c .before .before .before .before .args .valid .now) g 0) (unbias (getD (c .before .before .before .before .args .w .now) (countsAt (c .before .before .before .before .args .n) (c .before .before .before .before .args .k) + getD (c .before .before .before .before .args .w .now) g 0) 0))) (c .before .before .before .before .args .folds .now) (c .before .loop .folds) (c .before .loop .g) (c .before .before .before .before .args .n) (c .before .loop .inv .1 .0) (omega (arith, c .before .loop .inv .0, c .loop-test .left)) (c .before .before .before .before .pre .counts) ∙ ap (λ (z : ℤ). tabulate (c .before .before .before .before .args .n) (λ g. gateCount z (getD (c .before .before .before .before .args .valid .now) g 0) (unbias (getD (c .before .before .before .before .args .w .now) (countsAt (c .before .before .before .before .args .n) (c .before .before .before .before .args .k) + getD (c .before .before .before .before .args .w .now) g 0) 0)))) (toZ-ofZ w32 (c .before .before .before .before .args .offset) (c .before .before .before .before .fits .offset))
+returns c =
+    let a = c .before .before .before .before .args in
+    fill-all (λ g. gateCount (toZ w32 (ofZ w32 (a .offset))) (getD (a .valid .now) g 0) (unbias (getD (a .w .now) (countsAt (a .n) (a .k) + getD (a .w .now) g 0) 0))) (a .folds .now) (c .before .loop .folds) (c .before .loop .g) (a .n) (c .before .loop .inv .1 .0) (omega (arith, c .before .loop .inv .0, c .loop-test .left)) (c .before .before .before .before .pre .counts) ∙ ap (λ (z : ℤ). tabulate (a .n) (λ g. gateCount z (getD (a .valid .now) g 0) (unbias (getD (a .w .now) (countsAt (a .n) (a .k) + getD (a .w .now) g 0) 0)))) (toZ-ofZ w32 (a .offset) (c .before .before .before .before .fits .offset))
 
 pub write-folds-spec : {M : Type 1} → statement M
 write-folds-spec =

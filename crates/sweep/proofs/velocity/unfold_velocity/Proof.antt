@@ -52,19 +52,25 @@ four-long-requires : tie.Need-four-long-requires
 four-long-requires c κs = search needs
 
 returns-2 : tie.Need-returns-2
-returns-2 c = refused _ (c .before .before .before .before .before .before .before .before .args .unfolded .now) (refused-2 _ (c .before .before .before .before .before .before .before .before .args .unfolded .now) (size-yes (c .before .before .before)) (answer-no (four-is _ (c .before .before .before .before .before .before .before .before .args .unfolded .now) _ _ (c .before .four-long .ensures) (c .before .before .gates-in .ensures)) (c .if2 .taken)))
+returns-2 c =
+    let a = c .before .before .before .before .before .before .before .before .args in
+    refused _ (a .unfolded .now) (refused-2 _ (a .unfolded .now) (size-yes (c .before .before .before)) (answer-no (four-is _ (a .unfolded .now) _ _ (c .before .four-long .ensures) (c .before .before .gates-in .ensures)) (c .if2 .taken)))
 
 all-masks-requires : tie.Need-all-masks-requires
 all-masks-requires c κs = search needs
 
 returns-3 : tie.Need-returns-3
-returns-3 c = refused _ (c .before .before .before .before .before .before .before .before .before .before .args .unfolded .now) (refused-3 _ (c .before .before .before .before .before .before .before .before .before .before .args .unfolded .now) (size-yes (c .before .before .before .before .before)) (long-yes (c .before .before)) (answer-no (c .before .all-masks .ensures) (c .if3 .taken)))
+returns-3 c =
+    let a = c .before .before .before .before .before .before .before .before .before .before .args in
+    refused _ (a .unfolded .now) (refused-3 _ (a .unfolded .now) (size-yes (c .before .before .before .before .before)) (long-yes (c .before .before)) (answer-no (c .before .all-masks .ensures) (c .if3 .taken)))
 
 nyquist-sized-requires : tie.Need-nyquist-sized-requires
 nyquist-sized-requires c κs = search needs
 
 returns-4 : tie.Need-returns-4
-returns-4 c = refused _ (c .before .before .before .before .before .before .before .before .before .before .before .before .args .unfolded .now) (refused-5 _ (c .before .before .before .before .before .before .before .before .before .before .before .before .args .unfolded .now) (size-yes (c .before .before .before .before .before .before .before)) (long-yes (c .before .before .before .before)) (masks-yes (c .before .before)) (answer-no (c .before .nyquist-sized .ensures) (c .if4 .taken)))
+returns-4 c =
+    let a = c .before .before .before .before .before .before .before .before .before .before .before .before .args in
+    refused _ (a .unfolded .now) (refused-5 _ (a .unfolded .now) (size-yes (c .before .before .before .before .before .before .before)) (long-yes (c .before .before .before .before)) (masks-yes (c .before .before)) (answer-no (c .before .nyquist-sized .ensures) (c .if4 .taken)))
 
 all-speeds-requires : tie.Need-all-speeds-requires
 all-speeds-requires c κs =
@@ -72,7 +78,9 @@ all-speeds-requires c κs =
     q .1 ∙ sym (q .0)
 
 returns-5 : tie.Need-returns-5
-returns-5 c = refused _ (c .before .before .before .before .before .before .before .before .before .before .before .before .before .before .args .unfolded .now) (refused-7 _ (c .before .before .before .before .before .before .before .before .before .before .before .before .before .before .args .unfolded .now) (size-yes (c .before .before .before .before .before .before .before .before .before)) (long-yes (c .before .before .before .before .before .before)) (masks-yes (c .before .before .before .before)) (nyquist-yes (c .before .before)) (answer-no (c .before .all-speeds .ensures) (c .if5 .taken)))
+returns-5 c =
+    let a = c .before .before .before .before .before .before .before .before .before .before .before .before .before .before .args in
+    refused _ (a .unfolded .now) (refused-7 _ (a .unfolded .now) (size-yes (c .before .before .before .before .before .before .before .before .before)) (long-yes (c .before .before .before .before .before .before)) (masks-yes (c .before .before .before .before)) (nyquist-yes (c .before .before)) (answer-no (c .before .all-speeds .ensures) (c .if5 .taken)))
 
 all-counts-requires : tie.Need-all-counts-requires
 all-counts-requires c κs =
@@ -80,7 +88,11 @@ all-counts-requires c κs =
     q .2 ∙ sym (q .1)
 
 returns-6 : tie.Need-returns-6
-returns-6 c = refused _ (c .before .before .before .before .before .before .before .before .before .before .before .before .before .before .before .before .args .unfolded .now) (refused-10 _ (c .before .before .before .before .before .before .before .before .before .before .before .before .before .before .before .before .args .unfolded .now) (size-yes (c .before .before .before .before .before .before .before .before .before .before .before)) (long-yes (c .before .before .before .before .before .before .before .before)) (masks-yes (c .before .before .before .before .before .before)) (nyquist-yes (c .before .before .before .before)) (speeds-yes (c .before .before)) (answer-no (counts-are _ (c .before .before .before .before .before .before .before .before .before .before .before .before .before .before .before .before .args .unfolded .now) (size-yes (c .before .before .before .before .before .before .before .before .before .before .before)) (long-yes (c .before .before .before .before .before .before .before .before)) (c .before .all-counts .ensures)) (c .if6 .taken)))
+returns-6 c =
+    let a = c .before .before .before .before .before .before .before .before .before .before .before .before .before .before .before .before .args in
+    let b = c .before .before .before .before .before .before .before .before .before .before .before in
+    let b′ = c .before .before .before .before .before .before .before .before in
+    refused _ (a .unfolded .now) (refused-10 _ (a .unfolded .now) (size-yes (b)) (long-yes (b′)) (masks-yes (c .before .before .before .before .before .before)) (nyquist-yes (c .before .before .before .before)) (speeds-yes (c .before .before)) (answer-no (counts-are _ (a .unfolded .now) (size-yes (b)) (long-yes (b′)) (c .before .all-counts .ensures)) (c .if6 .taken)))
 
 unfold-gates-requires : tie.Need-unfold-gates-requires
 unfold-gates-requires c κs = same-lengths (c .before .before .before .before .before .before .before .before .before)
