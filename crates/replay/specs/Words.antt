@@ -1,0 +1,30 @@
+-- The words of a recorded list: eight hexadecimal digits, then a space or a line end. Definitions only.
+use Prim.Native.Nat.{ℕ, zero, suc, _+_, _-_, _*_, _<_}
+use mathlib.Core.Path.{_≡_}
+use mathlib.Core.Bool.{Bool, cond, _||_}
+use mathlib.Core.List.{List}
+use lib.Dec.{ltb, eqb}
+use lib.ListN.{length, getD}
+use Rattle.replay.specs.declared.words.Word.{Word}
+use Rattle.replay.specs.declared.words.Word.the-variants.{Number, Malformed}
+
+-- the value of a digit in ASCII, 0 to 9 and a to f, and 16 of any other byte
+abbrev pub digitOf : ℕ → ℕ
+digitOf b = cond (ltb b 48) 16 (cond (ltb b 58) (b - 48) (cond (ltb b 97) 16 (cond (ltb b 103) (b - 87) 16)))
+
+-- the word of a value so far and the k digits from a place on
+unfoldable pub digitsFrom : List ℕ → ℕ → ℕ → ℕ → Word
+digitsFrom s at zero value = Number value
+digitsFrom s at (suc k) value = cond (ltb (digitOf (getD s at 0)) 16) (digitsFrom s (at + 1) k (value * 16 + digitOf (getD s at 0))) Malformed
+
+-- whether a byte ends a word: a space or a line end
+abbrev pub endsWord : ℕ → Bool
+endsWord b = eqb b 32 || eqb b 10
+
+-- the word at a place: eight digits and a byte that ends it
+unfoldable pub wordAt : List ℕ → ℕ → Word
+wordAt s at = cond (endsWord (getD s (at + 8) 0)) (digitsFrom s at 8 0) Malformed
+
+-- each number of a list is the value of its word, nine bytes a word
+abbrev pub Words : List ℕ → List ℕ → Type 0
+Words s l = (k : ℕ) → k < length l → wordAt s (9 * k) ≡ Number (getD l k 0)

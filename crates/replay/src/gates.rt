@@ -1,0 +1,97 @@
+// One recorded sweep: nine numbers that set it, then two numbers a gate.
+// The nine: rays, gates, Nyquist's bits, splits, the skip between rays and along a ray, centring, wrap, gates recorded.
+ghost use mathlib.Core.Path.{_≡_};
+ghost use mathlib.Core.Bool.{true};
+ghost use Prim.Native.Nat.{_*_, _≤_};
+ghost use lib.ListN.{length};
+ghost use lib.Ieee.{binary32, ofBits};
+ghost use Rattle.replay.specs.Gates.{Gates};
+use crate::words;
+
+// What a sweep is called with, but for its gates.
+pub struct Setting {
+    pub rays: u32,
+    pub gates: u32,
+    pub nyquist: f32,
+    pub splits: u32,
+    pub skip_rays: u32,
+    pub skip_gates: u32,
+    pub centred: u32,
+    pub wrap: u32,
+    pub recorded: u32,
+}
+
+// The start of a sweep, the end of the list, or text that is neither.
+pub enum Start {
+    Sweep(Setting),
+    End,
+    Malformed,
+}
+
+// The f32 of a bit pattern. A NaN's pattern is tested for, since from_bits is not defined there.
+fn float_of(bits: u32) -> f32
+    ensures { λ r. ⌜ r ≡ ofBits binary32 bits ⌝ }
+{
+    if bits % 2147483648 / 8388608 != 255 {
+        return f32::from_bits(bits);
+    }
+    if bits % 8388608 == 0 {
+        return f32::from_bits(bits);
+    }
+    0.0 / 0.0
+}
+
+// The setting of a sweep.
+pub fn read_start() -> Start {
+    let mut text = [0u8; 81];
+    let mut n = [0u32; 9];
+    match words::read(&mut text, &mut n) {
+        words::Got::Numbers => Start::Sweep(Setting {
+            rays: n[0],
+            gates: n[1],
+            nyquist: float_of(n[2]),
+            splits: n[3],
+            skip_rays: n[4],
+            skip_gates: n[5],
+            centred: n[6],
+            wrap: n[7],
+            recorded: n[8],
+        }),
+        words::Got::End => Start::End,
+        words::Got::Malformed => Start::Malformed,
+    }
+}
+
+// Mask bytes and velocities from their numbers; false where a number is no byte.
+fn gates_of(numbers: &[u32], velocity: &mut [f32], valid: &mut [u8]) -> bool
+    requires { ⌜ (length (now numbers) ≡ 2 * length (now velocity)) × (length (now valid) ≡ length (now velocity)) ⌝ }
+    ensures { λ r. ⌜ (r ≡ true → Gates (now (numbers .entry)) (now (velocity .exit)) (now (valid .exit))) ⌝ }
+{
+    let mut i = 0;
+    while i < velocity.len() {
+        let mask = numbers[2 * i];
+        if mask > 255 {
+            return false;
+        }
+        valid[i] = mask as u8;
+        velocity[i] = float_of(numbers[2 * i + 1]);
+        i += 1;
+    }
+    true
+}
+
+// Reads a sweep's gates; false where the text is cut short or malformed.
+pub fn read_gates(velocity: &mut [f32], valid: &mut [u8]) -> bool
+    requires { ⌜ (length (now velocity) ≤ 128) × (length (now valid) ≡ length (now velocity)) ⌝ }
+{
+    let n = velocity.len();
+    let t = 18 * n;
+    let w = 2 * n;
+    let mut text = crate::arrays::text();
+    let mut numbers = crate::arrays::numbers();
+    match words::read(&mut text[..t], &mut numbers[..w]) {
+        words::Got::Numbers => gates_of(&numbers[..w], velocity, valid),
+        words::Got::End => false,
+        words::Got::Malformed => false,
+    }
+}
