@@ -119,15 +119,23 @@ fn soil(l: &mut Lent) {
     l.folds.fill(7);
 }
 
+/// The Rust's counts and its seconds. `dealias_region_based` refuses skips beyond the number of rays; there `dealias_sweep` itself is called,
+/// with the copies of the arrays that its caller makes.
+fn run_rust(s: &Sweep) -> (Vec<i32>, f64) {
+    let (v, m, o) = (s.velocity(), s.valid(), s.options());
+    let from = Instant::now();
+    let refused = s.skip_between_rays as usize > s.rays;
+    let counts = if refused { s.counts() } else { dealias_region_based(&v, &m, s.nyquist, s.wrap == 1, o).unwrap().iter().copied().collect() };
+    (counts, from.elapsed().as_secs_f64())
+}
+
 /// The least seconds of the Rust, whose counts must be these.
 fn beside_rust(s: &Sweep, ours: &[i32]) -> f64 {
-    let (v, m, o) = (s.velocity(), s.valid(), s.options());
     let mut best = f64::MAX;
     for _ in 0..5 {
-        let from = Instant::now();
-        let counts = dealias_region_based(&v, &m, s.nyquist, s.wrap == 1, o).unwrap();
-        best = best.min(from.elapsed().as_secs_f64());
-        assert!(counts.iter().eq(ours), "{} x {}: the counts differ from the Rust's", s.rays, s.gates);
+        let (counts, seconds) = run_rust(s);
+        assert!(counts == ours, "{} x {}: the counts differ from the Rust's", s.rays, s.gates);
+        best = best.min(seconds);
         if best > 5.0 {
             break;
         }
