@@ -4,6 +4,7 @@ pub mod Leaf
 pub mod EndsIn
 pub mod SoundSet
 pub mod SpliceDoes
+pub mod Mates
 pub mod SoundSteps
 pub mod Walks
 pub mod Frames

@@ -41,6 +41,7 @@ pub record Apart (m q f : ℕ) : Type 0 where
 -- edge f goes to node c from base b
 pub record Joins (m n b : ℕ) (s : Mem) (f c : ℕ) : Type 0 where
   pub f-in : f < m
+  pub b-in : b < n
   pub c-in : c < n
   pub other : mate m b s c ≡ f → ⊥
 

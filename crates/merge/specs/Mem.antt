@@ -9,13 +9,14 @@ use Rattle.arithmetic.specs.Seg.{seg}
 use Rattle.memory.specs.Tree.{Tree}
 use Rattle.memory.specs.Layout.{weightAt, firstAt, secondAt, enextAt, rnextAt, markAt, nodeSizeAt, elenAt, rlenAt, nodeCountAt, tableWords}
 
+-- stamp holds the number of the merge in which a node was the base last, 0 if in none
 pub record Mem : Type 0 where
   pub weight : List ℕ
   pub first : List ℕ
   pub second : List ℕ
   pub enext : List ℕ
   pub rnext : List ℕ
-  pub mark : List ℕ
+  pub stamp : List ℕ
   pub size : List ℕ
   pub elen : List ℕ
   pub rlen : List ℕ
@@ -30,7 +31,7 @@ view m n w d = record {
   second = seg w (secondAt m) m;
   enext = seg w (enextAt m) (2 * m + n);
   rnext = seg w (rnextAt m n) n;
-  mark = seg w (markAt m n) n;
+  stamp = seg w (markAt m n) n;
   size = seg w (nodeSizeAt m n) n;
   elen = seg w (elenAt m n) n;
   rlen = seg w (rlenAt m n) n;
@@ -56,7 +57,7 @@ pub record Sound (m n : ℕ) (s : Mem) : Type 0 where
   pub l-second : length (s .second) ≡ m
   pub l-enext : length (s .enext) ≡ 2 * m + n
   pub l-rnext : length (s .rnext) ≡ n
-  pub l-mark : length (s .mark) ≡ n
+  pub l-stamp : length (s .stamp) ≡ n
   pub l-size : length (s .size) ≡ n
   pub l-elen : length (s .elen) ≡ n
   pub l-rlen : length (s .rlen) ≡ n
@@ -72,44 +73,44 @@ pub record Sound (m n : ℕ) (s : Mem) : Type 0 where
 
 -- table weight with x at j
 unfoldable pub weight-set : Mem → ℕ → ℕ → Mem
-weight-set s j x = record { weight = set (s .weight) j x; first = s .first; second = s .second; enext = s .enext; rnext = s .rnext; mark = s .mark; size = s .size; elen = s .elen; rlen = s .rlen; count = s .count; diff = s .diff }
+weight-set s j x = record { weight = set (s .weight) j x; first = s .first; second = s .second; enext = s .enext; rnext = s .rnext; stamp = s .stamp; size = s .size; elen = s .elen; rlen = s .rlen; count = s .count; diff = s .diff }
 
 -- table first with x at j
 unfoldable pub first-set : Mem → ℕ → ℕ → Mem
-first-set s j x = record { weight = s .weight; first = set (s .first) j x; second = s .second; enext = s .enext; rnext = s .rnext; mark = s .mark; size = s .size; elen = s .elen; rlen = s .rlen; count = s .count; diff = s .diff }
+first-set s j x = record { weight = s .weight; first = set (s .first) j x; second = s .second; enext = s .enext; rnext = s .rnext; stamp = s .stamp; size = s .size; elen = s .elen; rlen = s .rlen; count = s .count; diff = s .diff }
 
 -- table second with x at j
 unfoldable pub second-set : Mem → ℕ → ℕ → Mem
-second-set s j x = record { weight = s .weight; first = s .first; second = set (s .second) j x; enext = s .enext; rnext = s .rnext; mark = s .mark; size = s .size; elen = s .elen; rlen = s .rlen; count = s .count; diff = s .diff }
+second-set s j x = record { weight = s .weight; first = s .first; second = set (s .second) j x; enext = s .enext; rnext = s .rnext; stamp = s .stamp; size = s .size; elen = s .elen; rlen = s .rlen; count = s .count; diff = s .diff }
 
 -- table enext with x at j
 unfoldable pub enext-set : Mem → ℕ → ℕ → Mem
-enext-set s j x = record { weight = s .weight; first = s .first; second = s .second; enext = set (s .enext) j x; rnext = s .rnext; mark = s .mark; size = s .size; elen = s .elen; rlen = s .rlen; count = s .count; diff = s .diff }
+enext-set s j x = record { weight = s .weight; first = s .first; second = s .second; enext = set (s .enext) j x; rnext = s .rnext; stamp = s .stamp; size = s .size; elen = s .elen; rlen = s .rlen; count = s .count; diff = s .diff }
 
 -- table rnext with x at j
 unfoldable pub rnext-set : Mem → ℕ → ℕ → Mem
-rnext-set s j x = record { weight = s .weight; first = s .first; second = s .second; enext = s .enext; rnext = set (s .rnext) j x; mark = s .mark; size = s .size; elen = s .elen; rlen = s .rlen; count = s .count; diff = s .diff }
+rnext-set s j x = record { weight = s .weight; first = s .first; second = s .second; enext = s .enext; rnext = set (s .rnext) j x; stamp = s .stamp; size = s .size; elen = s .elen; rlen = s .rlen; count = s .count; diff = s .diff }
 
--- table mark with x at j
-unfoldable pub mark-set : Mem → ℕ → ℕ → Mem
-mark-set s j x = record { weight = s .weight; first = s .first; second = s .second; enext = s .enext; rnext = s .rnext; mark = set (s .mark) j x; size = s .size; elen = s .elen; rlen = s .rlen; count = s .count; diff = s .diff }
+-- table stamp with x at j
+unfoldable pub stamp-set : Mem → ℕ → ℕ → Mem
+stamp-set s j x = record { weight = s .weight; first = s .first; second = s .second; enext = s .enext; rnext = s .rnext; stamp = set (s .stamp) j x; size = s .size; elen = s .elen; rlen = s .rlen; count = s .count; diff = s .diff }
 
 -- table size with x at j
 unfoldable pub size-set : Mem → ℕ → ℕ → Mem
-size-set s j x = record { weight = s .weight; first = s .first; second = s .second; enext = s .enext; rnext = s .rnext; mark = s .mark; size = set (s .size) j x; elen = s .elen; rlen = s .rlen; count = s .count; diff = s .diff }
+size-set s j x = record { weight = s .weight; first = s .first; second = s .second; enext = s .enext; rnext = s .rnext; stamp = s .stamp; size = set (s .size) j x; elen = s .elen; rlen = s .rlen; count = s .count; diff = s .diff }
 
 -- table elen with x at j
 unfoldable pub elen-set : Mem → ℕ → ℕ → Mem
-elen-set s j x = record { weight = s .weight; first = s .first; second = s .second; enext = s .enext; rnext = s .rnext; mark = s .mark; size = s .size; elen = set (s .elen) j x; rlen = s .rlen; count = s .count; diff = s .diff }
+elen-set s j x = record { weight = s .weight; first = s .first; second = s .second; enext = s .enext; rnext = s .rnext; stamp = s .stamp; size = s .size; elen = set (s .elen) j x; rlen = s .rlen; count = s .count; diff = s .diff }
 
 -- table rlen with x at j
 unfoldable pub rlen-set : Mem → ℕ → ℕ → Mem
-rlen-set s j x = record { weight = s .weight; first = s .first; second = s .second; enext = s .enext; rnext = s .rnext; mark = s .mark; size = s .size; elen = s .elen; rlen = set (s .rlen) j x; count = s .count; diff = s .diff }
+rlen-set s j x = record { weight = s .weight; first = s .first; second = s .second; enext = s .enext; rnext = s .rnext; stamp = s .stamp; size = s .size; elen = s .elen; rlen = set (s .rlen) j x; count = s .count; diff = s .diff }
 
 -- table count with x at j
 unfoldable pub count-set : Mem → ℕ → ℕ → Mem
-count-set s j x = record { weight = s .weight; first = s .first; second = s .second; enext = s .enext; rnext = s .rnext; mark = s .mark; size = s .size; elen = s .elen; rlen = s .rlen; count = set (s .count) j x; diff = s .diff }
+count-set s j x = record { weight = s .weight; first = s .first; second = s .second; enext = s .enext; rnext = s .rnext; stamp = s .stamp; size = s .size; elen = s .elen; rlen = s .rlen; count = set (s .count) j x; diff = s .diff }
 
 -- table diff with x at j
 unfoldable pub diff-set : Mem → ℕ → Float → Mem
-diff-set s j x = record { weight = s .weight; first = s .first; second = s .second; enext = s .enext; rnext = s .rnext; mark = s .mark; size = s .size; elen = s .elen; rlen = s .rlen; count = s .count; diff = set (s .diff) j x }
+diff-set s j x = record { weight = s .weight; first = s .first; second = s .second; enext = s .enext; rnext = s .rnext; stamp = s .stamp; size = s .size; elen = s .elen; rlen = s .rlen; count = s .count; diff = set (s .diff) j x }

@@ -6,7 +6,7 @@ use lib.Dec.{eqb, ltb, leb}
 use lib.IntN.{ℤ, pos, negsuc, _+ℤ_}
 use lib.ListN.{getD}
 use lib.Ieee.{nan, Float, neg, binary32, add}
-use Rattle.merge.specs.Mem.{Mem, weight-set, first-set, second-set, enext-set, rnext-set, mark-set, size-set, elen-set, rlen-set, count-set, diff-set}
+use Rattle.merge.specs.Mem.{Mem, weight-set, first-set, second-set, enext-set, rnext-set, stamp-set, size-set, elen-set, rlen-set, count-set, diff-set}
 use Rattle.arithmetic.specs.Rounding.{scale}
 
 -- numbers from -1000 to 1000 are kept as words from 0 to 2000
@@ -22,14 +22,13 @@ numberOf (negsuc k) = cond (ltb k 1000) (999 - k) 2001
 unfoldable pub turnAt : Mem → ℕ → Mem
 turnAt s f = diff-set (second-set (first-set s f (getD (s .second) f 0)) f (getD (s .first) f 0)) f (neg (getD (s .diff) f nan))
 
--- edge f, if it is live and base b's, turned to b, and marked at its other end
-unfoldable pub baseEdge : ℕ → ℕ → Mem → ℕ → Mem
-baseEdge m b s f =
-    cond (ltb f m)
-    (cond (eqb (getD (s .weight) f 0) 0) s
-    (cond (eqb (getD (s .second) f 0) b) (mark-set (turnAt s f) (getD (s .first) f 0) f)
-    (cond (eqb (getD (s .first) f 0) b) (mark-set s (getD (s .second) f 0) f) s)))
-    s
+-- edge f stands the other way round than it is stored: its second end was a base later than its first
+unfoldable pub turned : Mem → ℕ → Bool
+turned s f = ltb (getD (s .stamp) (getD (s .first) f 0) 0) (getD (s .stamp) (getD (s .second) f 0) 0)
+
+-- edge f stored as it stands
+unfoldable pub faceAt : Mem → ℕ → Mem
+faceAt s f = cond (turned s f) (turnAt s f) s
 
 -- a slot that no walk needs: the header of a node that is merged, or a slot of a dead edge
 unfoldable pub spent : ℕ → Mem → ℕ → Bool
@@ -56,9 +55,6 @@ along f (suc k) m b s p x = along f k m b (passed f m b s p x) (kept m s p x) (g
 unfoldable pub through : (Mem → ℕ → Mem) → ℕ → ℕ → Mem → Mem
 through f m b s = along f (getD (s .elen) b 0 - 1) m b s (2 * m + b) (getD (s .enext) (2 * m + b) 0)
 
-unfoldable pub walkBase : ℕ → ℕ → Mem → Mem
-walkBase m b s = through (baseEdge m b) m b s
-
 -- the edge stays as it is
 unfoldable pub still : Mem → ℕ → Mem
 still s f = s
@@ -67,14 +63,27 @@ still s f = s
 unfoldable pub pruned : ℕ → ℕ → Mem → Mem
 pruned m b s = through still m b s
 
--- the number of the base's live edge to c, or m: what is marked there, if it is that
+-- edge f is live and joins b and c, in whatever order it is stored
+unfoldable pub joinsAt : ℕ → ℕ → ℕ → Mem → ℕ → Bool
+joinsAt m b c s f =
+    cond (ltb f m)
+    (cond (eqb (getD (s .weight) f 0) 0) false
+    (cond (eqb (getD (s .first) f 0) b) (eqb (getD (s .second) f 0) c)
+    (cond (eqb (getD (s .first) f 0) c) (eqb (getD (s .second) f 0) b) false)))
+    false
+
+-- the first edge that joins b and c among those of the next k slots from slot x on, or m
+unfoldable pub hunt : ℕ → ℕ → ℕ → ℕ → Mem → ℕ → ℕ
+hunt zero m b c s x = m
+hunt (suc k) m b c s x = cond (joinsAt m b c s (x / 2)) (x / 2) (hunt k m b c s (getD (s .enext) x 0))
+
+-- the same along the whole of node h's chain
+unfoldable pub huntAll : ℕ → ℕ → ℕ → Mem → ℕ → ℕ
+huntAll m b c s h = hunt (getD (s .elen) h 0 - 1) m b c s (getD (s .enext) (2 * m + h) 0)
+
+-- the number of the base's live edge to c, or m: looked for along the shorter of their chains
 unfoldable pub mate : ℕ → ℕ → Mem → ℕ → ℕ
-mate m b s c =
-    cond (ltb (getD (s .mark) c 0) m)
-    (cond (eqb (getD (s .weight) (getD (s .mark) c 0) 0) 0) m
-    (cond (eqb (getD (s .first) (getD (s .mark) c 0) 0) b)
-    (cond (eqb (getD (s .second) (getD (s .mark) c 0) 0) c) (getD (s .mark) c 0) m) m))
-    m
+mate m b s c = cond (ltb (getD (s .elen) b 0) (getD (s .elen) c 0)) (huntAll m b c s b) (huntAll m b c s c)
 
 -- edge q takes up edge f, whose difference is x
 unfoldable pub absorbAt : Mem → ℕ → ℕ → Float → Mem
@@ -82,10 +91,10 @@ absorbAt s q f x = weight-set (weight-set (diff-set s q (add binary32 (getD (s .
 
 -- edge f becomes the base's edge to c
 unfoldable pub attachAt : ℕ → Mem → ℕ → ℕ → Float → Mem
-attachAt b s f c x = mark-set (diff-set (second-set (first-set s f b) f c) f x) c f
+attachAt b s f c x = diff-set (second-set (first-set s f b) f c) f x
 
 unfoldable pub joinEdge : ℕ → ℕ → Mem → ℕ → ℕ → Float → Mem
-joinEdge m b s f c x = cond (ltb (mate m b s c) m) (absorbAt s (mate m b s c) f x) (attachAt b s f c x)
+joinEdge m b s f c x = cond (ltb (mate m b s c) m) (absorbAt (faceAt s (mate m b s c)) (mate m b s c) f x) (attachAt b s f c x)
 
 -- a difference that follows a gain
 unfoldable pub shift : Bool → ℕ → ℕ → Float → Float
@@ -94,15 +103,17 @@ shift minus g w d = cond (eqb g 1000) d (add binary32 d (cond minus (neg (scale 
 -- edge f, if it is live and moved node v's, goes to base b
 unfoldable pub movedEdge : ℕ → ℕ → ℕ → ℕ → Mem → ℕ → Mem
 movedEdge m b v g s f =
-    cond (ltb f m)
-    (cond (eqb (getD (s .weight) f 0) 0) s
+    cond (eqb (getD (s .weight) f 0) 0) s
     (cond (eqb (getD (s .first) f 0) v) (joinEdge m b s f (getD (s .second) f 0) (shift false g (getD (s .weight) f 0) (getD (s .diff) f nan)))
-    (cond (eqb (getD (s .second) f 0) v) (joinEdge m b s f (getD (s .first) f 0) (neg (shift true g (getD (s .weight) f 0) (getD (s .diff) f nan)))) s)))
-    s
+    (cond (eqb (getD (s .second) f 0) v) (joinEdge m b s f (getD (s .first) f 0) (neg (shift true g (getD (s .weight) f 0) (getD (s .diff) f nan)))) s))
+
+-- the same, stored as it stands before
+unfoldable pub takeEdge : ℕ → ℕ → ℕ → ℕ → Mem → ℕ → Mem
+takeEdge m b v g s f = cond (ltb f m) (movedEdge m b v g (faceAt s f) f) s
 
 unfoldable pub walkMoved : ℕ → ℕ → ℕ → ℕ → ℕ → Mem → ℕ → Mem
 walkMoved zero m b v g s x = s
-walkMoved (suc k) m b v g s x = walkMoved k m b v g (movedEdge m b v g s (x / 2)) (getD (s .enext) x 0)
+walkMoved (suc k) m b v g s x = walkMoved k m b v g (takeEdge m b v g s (x / 2)) (getD (s .enext) x 0)
 
 -- a new count, not yet taken back by 1000, that question 9 accepts
 unfoldable pub accepts : ℕ → Bool
@@ -133,10 +144,6 @@ grow b v s =
     b (getD (s .elen) b 0 + getD (s .elen) v 0))
     b (getD (s .rlen) b 0 + getD (s .rlen) v 0)
 
--- the base's edges turned to it and marked, unless they are since the last merge
-unfoldable pub readied : ℕ → ℕ → ℕ → Mem → Mem
-readied m b last s = cond (eqb b last) s (walkBase m b s)
-
 -- v's edges go to b, along the whole of v's chain
 unfoldable pub movedAll : ℕ → ℕ → ℕ → ℕ → Mem → Mem
 movedAll m b v g s = walkMoved (getD (s .elen) v 0 - 1) m b v g s (getD (s .enext) (2 * m + v) 0)
@@ -149,6 +156,6 @@ unfoldable pub then : Option Mem → (Mem → Mem) → Option Mem
 then none f = none
 then (some s) f = some (f s)
 
--- the merge of edge e, base b, moved node v, gain g
+-- merge number k, of edge e: base b, moved node v, gain g
 unfoldable pub merged : ℕ → ℕ → ℕ → ℕ → ℕ → ℕ → Mem → Option Mem
-merged m last e b v g s = then (walkRaise (getD (s .rlen) v 0) g (readied m b last (weight-set s e 0)) v) (handed m b v g)
+merged m k e b v g s = then (walkRaise (getD (s .rlen) v 0) g (stamp-set (weight-set s e 0) b k) v) (handed m b v g)

@@ -7,8 +7,8 @@ ghost use lib.Dec.{T};
 ghost use lib.Ieee.{binary32, fits, add};
 ghost use Rattle.arithmetic.specs.Rounding.{scale};
 ghost use lib.ListN.{getD};
-ghost use Rattle.merge.specs.Mem.{Mem, view, Room, Sound};
-ghost use Rattle.merge.specs.Steps.{unbias, spent, passed, kept, still, dropAt, pruned, baseEdge, walkBase, mate, absorbAt, attachAt, joinEdge, shift, movedEdge, movedAll, walkRaise, splice, grow, readied, handed, merged};
+ghost use Rattle.merge.specs.Mem.{Mem, view, Room, Sound, stamp-set};
+ghost use Rattle.merge.specs.Steps.{unbias, spent, passed, kept, still, dropAt, pruned, faceAt, joinsAt, huntAll, mate, absorbAt, attachAt, joinEdge, shift, movedEdge, takeEdge, movedAll, walkRaise, splice, grow, handed, merged};
 ghost use Rattle.merge.specs.Does.{Does, Raised, Passes, Slots, Apart, Joins, Gains, Fit};
 
 // The f32 that an f64 is.
@@ -69,32 +69,24 @@ fn shift_down(d: f64, w: u32, g: u32) -> f64
     plus(d, -k)
 }
 
-// Edge f, if it is live and base b's, is turned to b, and marked at its other end.
-fn base_edge(w: &mut [u32], d: &mut [f64], m: usize, n: usize, b: u32, f: usize)
+// Edge f is stored as it stands: from the end that was a base later.
+fn face(w: &mut [u32], d: &mut [f64], m: usize, n: usize, f: usize)
     requires { ⌜ Room m n (now w) (now d) ⌝ }
     requires { ⌜ Sound m n (view m n (now w) (now d)) ⌝ }
-    ensures { λ _. ⌜ Does m n (now (w .exit)) (now (d .exit)) (baseEdge m b (view m n (now (w .entry)) (now (d .entry))) f) ⌝ }
+    requires { ⌜ f < m ⌝ }
+    ensures { λ _. ⌜ Does m n (now (w .exit)) (now (d .exit)) (faceAt (view m n (now (w .entry)) (now (d .entry))) f) ⌝ }
 {
-    if f >= m {
-        return;
-    }
-    if w[f] == 0 {
-        return;
-    }
     let x = w[3 * m + f];
     let y = w[4 * m + f];
-    if y == b {
-        w[3 * m + f] = y;
-        w[4 * m + f] = x;
-        w[7 * m + 2 * n + x as usize] = f as u32;
-        let z = d[f];
-        d[f] = -z;
+    let p = w[7 * m + 2 * n + x as usize];
+    let q = w[7 * m + 2 * n + y as usize];
+    if q <= p {
         return;
     }
-    if x == b {
-        w[7 * m + 2 * n + y as usize] = f as u32;
-        return;
-    }
+    w[3 * m + f] = y;
+    w[4 * m + f] = x;
+    let z = d[f];
+    d[f] = -z;
 }
 
 // Whether slot x is needed by no walk: an old header, or a slot of a dead edge.
@@ -155,61 +147,63 @@ fn prune(w: &mut [u32], d: &mut [f64], m: usize, n: usize, b: u32)
     }
 }
 
-// Slot x of the base's chain: dropped where it is spent, else its edge is turned and marked; the last slot kept is returned.
-fn base_slot(w: &mut [u32], d: &mut [f64], m: usize, n: usize, b: u32, p: u32, x: u32) -> u32
+// Whether edge f is live and joins b and c.
+fn joins(w: &[u32], d: &[f64], m: usize, n: usize, b: u32, c: u32, f: usize) -> bool
     requires { ⌜ Room m n (now w) (now d) ⌝ }
-    requires { ⌜ Sound m n (view m n (now w) (now d)) ⌝ }
-    requires { ⌜ Slots m n b p x (view m n (now w) (now d)) ⌝ }
-    ensures { λ r. ⌜ Passes m n (now (w .exit)) (now (d .exit)) (passed (baseEdge m b) m b (view m n (now (w .entry)) (now (d .entry))) p x) (kept m (view m n (now (w .entry)) (now (d .entry))) p x) r ⌝ }
+    ensures { λ r. ⌜ r ≡ joinsAt m b c (view m n (now (w .entry)) (now (d .entry))) f ⌝ }
 {
-    let gone = is_spent(w, d, m, n, x);
-    if gone {
-        drop_slot(w, d, m, n, b, p, x);
-        return p;
+    if f >= m {
+        return false;
     }
-    base_edge(w, d, m, n, b, (x / 2) as usize);
-    x
+    if w[f] == 0 {
+        return false;
+    }
+    let x = w[3 * m + f];
+    let y = w[4 * m + f];
+    if x == b {
+        return y == c;
+    }
+    if x == c {
+        return y == b;
+    }
+    false
 }
 
-// The base's edges are turned to it and marked, and the spent slots of its chain are dropped.
-fn walk_base(w: &mut [u32], d: &mut [f64], m: usize, n: usize, b: u32)
+// The first edge of node h's chain that joins b and c, or m.
+fn hunt(w: &[u32], d: &[f64], m: usize, n: usize, b: u32, c: u32, h: u32) -> usize
     requires { ⌜ Room m n (now w) (now d) ⌝ }
     requires { ⌜ Sound m n (view m n (now w) (now d)) ⌝ }
-    requires { ⌜ b < n ⌝ }
-    ensures { λ _. ⌜ Does m n (now (w .exit)) (now (d .exit)) (walkBase m b (view m n (now (w .entry)) (now (d .entry)))) ⌝ }
+    requires { ⌜ h < n ⌝ }
+    ensures { λ r. ⌜ r ≡ huntAll m b c (view m n (now (w .entry)) (now (d .entry))) h ⌝ }
 {
-    let l = w[7 * m + 4 * n + b as usize] as usize;
-    let mut p = (2 * m + b as usize) as u32;
-    let mut x = w[5 * m + (2 * m + b as usize)];
+    let l = w[7 * m + 4 * n + h as usize];
+    let mut x = w[5 * m + (2 * m + h as usize)];
     let mut i = 1;
     while i < l {
-        let t = w[5 * m + x as usize];
-        p = base_slot(w, d, m, n, b, p, x);
-        x = t;
+        let f = (x / 2) as usize;
+        let hit = joins(w, d, m, n, b, c, f);
+        if hit {
+            return f;
+        }
+        x = w[5 * m + x as usize];
         i += 1;
     }
+    m
 }
 
-// The number of the base's live edge to c, or m.
+// The number of the base's live edge to c, or m: looked for along the shorter of their chains.
 fn mate(w: &[u32], d: &[f64], m: usize, n: usize, b: u32, c: u32) -> usize
     requires { ⌜ Room m n (now w) (now d) ⌝ }
-    requires { ⌜ c < n ⌝ }
+    requires { ⌜ Sound m n (view m n (now w) (now d)) ⌝ }
+    requires { ⌜ (b < n) × (c < n) ⌝ }
     ensures { λ r. ⌜ r ≡ mate m b (view m n (now (w .entry)) (now (d .entry))) c ⌝ }
 {
-    let q = w[7 * m + 2 * n + c as usize] as usize;
-    if q >= m {
-        return m;
+    let p = w[7 * m + 4 * n + b as usize];
+    let q = w[7 * m + 4 * n + c as usize];
+    if p < q {
+        return hunt(w, d, m, n, b, c, b);
     }
-    if w[q] == 0 {
-        return m;
-    }
-    if w[3 * m + q] != b {
-        return m;
-    }
-    if w[4 * m + q] != c {
-        return m;
-    }
-    q
+    hunt(w, d, m, n, b, c, c)
 }
 
 // Edge q takes up edge f, whose difference is x.
@@ -231,12 +225,11 @@ fn absorb(w: &mut [u32], d: &mut [f64], m: usize, n: usize, q: usize, f: usize, 
 // Edge f becomes the base's edge to c.
 fn attach(w: &mut [u32], d: &mut [f64], m: usize, n: usize, b: u32, f: usize, c: u32, x: f64)
     requires { ⌜ Room m n (now w) (now d) ⌝ }
-    requires { ⌜ (f < m) × (c < n) ⌝ }
+    requires { ⌜ f < m ⌝ }
     ensures { λ _. ⌜ Does m n (now (w .exit)) (now (d .exit)) (attachAt b (view m n (now (w .entry)) (now (d .entry))) f c x) ⌝ }
 {
     w[3 * m + f] = b;
     w[4 * m + f] = c;
-    w[7 * m + 2 * n + c as usize] = f as u32;
     d[f] = x;
 }
 
@@ -250,6 +243,7 @@ fn join_edge(w: &mut [u32], d: &mut [f64], m: usize, n: usize, b: u32, f: usize,
 {
     let q = mate(w, d, m, n, b, c);
     if q < m {
+        face(w, d, m, n, q);
         absorb(w, d, m, n, q, f, x);
         return;
     }
@@ -261,11 +255,9 @@ fn moved_edge(w: &mut [u32], d: &mut [f64], m: usize, n: usize, b: u32, v: u32, 
     requires { ⌜ Room m n (now w) (now d) ⌝ }
     requires { ⌜ Sound m n (view m n (now w) (now d)) ⌝ }
     requires { ⌜ Gains n b v g ⌝ }
+    requires { ⌜ f < m ⌝ }
     ensures { λ _. ⌜ Does m n (now (w .exit)) (now (d .exit)) (movedEdge m b v g (view m n (now (w .entry)) (now (d .entry))) f) ⌝ }
 {
-    if f >= m {
-        return;
-    }
     let t = w[f];
     if t == 0 {
         return;
@@ -285,6 +277,20 @@ fn moved_edge(w: &mut [u32], d: &mut [f64], m: usize, n: usize, b: u32, v: u32, 
     }
 }
 
+// The same, stored as it stands before.
+fn take_edge(w: &mut [u32], d: &mut [f64], m: usize, n: usize, b: u32, v: u32, g: u32, f: usize)
+    requires { ⌜ Room m n (now w) (now d) ⌝ }
+    requires { ⌜ Sound m n (view m n (now w) (now d)) ⌝ }
+    requires { ⌜ Gains n b v g ⌝ }
+    ensures { λ _. ⌜ Does m n (now (w .exit)) (now (d .exit)) (takeEdge m b v g (view m n (now (w .entry)) (now (d .entry))) f) ⌝ }
+{
+    if f >= m {
+        return;
+    }
+    face(w, d, m, n, f);
+    moved_edge(w, d, m, n, b, v, g, f);
+}
+
 // All of v's edges go to b.
 fn walk_moved(w: &mut [u32], d: &mut [f64], m: usize, n: usize, b: u32, v: u32, g: u32)
     requires { ⌜ Room m n (now w) (now d) ⌝ }
@@ -297,7 +303,7 @@ fn walk_moved(w: &mut [u32], d: &mut [f64], m: usize, n: usize, b: u32, v: u32, 
     let mut i = 1;
     while i < l {
         let t = w[5 * m + x as usize];
-        moved_edge(w, d, m, n, b, v, g, (x / 2) as usize);
+        take_edge(w, d, m, n, b, v, g, (x / 2) as usize);
         x = t;
         i += 1;
     }
@@ -358,17 +364,13 @@ fn grow(w: &mut [u32], d: &mut [f64], m: usize, n: usize, b: u32, v: u32)
     w[7 * m + 5 * n + b as usize] = r;
 }
 
-// The base's edges are turned to it and marked, unless they are since the last merge.
-fn ready(w: &mut [u32], d: &mut [f64], m: usize, n: usize, b: u32, last: u32)
+// Node b is the base of merge number k.
+fn stamp(w: &mut [u32], d: &mut [f64], m: usize, n: usize, b: u32, k: u32)
     requires { ⌜ Room m n (now w) (now d) ⌝ }
-    requires { ⌜ Sound m n (view m n (now w) (now d)) ⌝ }
     requires { ⌜ b < n ⌝ }
-    ensures { λ _. ⌜ Does m n (now (w .exit)) (now (d .exit)) (readied m b last (view m n (now (w .entry)) (now (d .entry)))) ⌝ }
+    ensures { λ _. ⌜ Does m n (now (w .exit)) (now (d .exit)) (stamp-set (view m n (now (w .entry)) (now (d .entry))) b k) ⌝ }
 {
-    if b == last {
-        return;
-    }
-    walk_base(w, d, m, n, b);
+    w[7 * m + 2 * n + b as usize] = k;
 }
 
 // v's edges and regions go to b, the spent slots of its chain dropped before.
@@ -385,7 +387,7 @@ fn hand(w: &mut [u32], d: &mut [f64], m: usize, n: usize, b: u32, v: u32, g: u32
     grow(w, d, m, n, b, v);
 }
 
-// The merge of edge e; false where question 9 says no.
+// Merge number k, of edge e; false where question 9 says no.
 pub fn merge(
     w: &mut [u32],
     d: &mut [f64],
@@ -395,17 +397,17 @@ pub fn merge(
     b: u32,
     v: u32,
     g: u32,
-    last: u32,
+    k: u32,
 ) -> bool
     requires { ⌜ Room m n (now w) (now d) ⌝ }
     requires { ⌜ Sound m n (view m n (now w) (now d)) ⌝ }
     requires { ⌜ Gains n b v g ⌝ }
     requires { ⌜ Fit n b v (view m n (now w) (now d)) ⌝ }
     requires { ⌜ e < m ⌝ }
-    ensures { λ r. ⌜ Raised m n (now (w .exit)) (now (d .exit)) (merged m last e b v g (view m n (now (w .entry)) (now (d .entry)))) r ⌝ }
+    ensures { λ r. ⌜ Raised m n (now (w .exit)) (now (d .exit)) (merged m k e b v g (view m n (now (w .entry)) (now (d .entry)))) r ⌝ }
 {
     memory::tree::weigh(w, m, e, 0);
-    ready(w, d, m, n, b, last);
+    stamp(w, d, m, n, b, k);
     let ok = walk_raise(w, d, m, n, v, g);
     if !ok {
         return false;

@@ -1,8 +1,8 @@
 pub mod Rows
 pub mod TableEdges
+pub mod Facing
 pub mod Moved
 pub mod MovedWalk
-pub mod BaseWalk
 pub mod Prepared
 pub mod Circles
 pub mod Split

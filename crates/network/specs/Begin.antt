@@ -7,7 +7,7 @@ use lib.IntN.{pos}
 use lib.Ieee.{nan, binary32, fits, Float}
 use lib.ListN.{length, getD}
 use Rattle.network.specs.Network.{Region, State, gatesOf}
-use Rattle.merge.specs.Mem.{Mem, view, Room, total, enext-set, rnext-set, elen-set, rlen-set, count-set}
+use Rattle.merge.specs.Mem.{Mem, view, Room, total, enext-set, rnext-set, stamp-set, elen-set, rlen-set, count-set}
 use Rattle.memory.specs.Layout.{tableWords}
 use Rattle.network.specs.Net.{rows, edgeOf}
 use Rattle.network.specs.Rep.{Rep}
@@ -21,10 +21,10 @@ unfoldable pub slotsFrom : ℕ → Mem → ℕ → Mem
 slotsFrom zero s i = s
 slotsFrom (suc k) s i = slotsFrom k (enext-set s i i) (i + 1)
 
--- each region a circle of its own, with count 0
+-- each region a circle of its own, with count 0, that was never a base
 unfoldable pub regionsFrom : ℕ → Mem → ℕ → Mem
 regionsFrom zero s x = s
-regionsFrom (suc k) s x = regionsFrom k (count-set (elen-set (rlen-set (rnext-set s x x) x 1) x 1) x 1000) (x + 1)
+regionsFrom (suc k) s x = regionsFrom k (stamp-set (count-set (elen-set (rlen-set (rnext-set s x x) x 1) x 1) x 1000) x 0) (x + 1)
 
 -- slot i into the circle of node a
 unfoldable pub linkAt : ℕ → ℕ → ℕ → Mem → Mem
@@ -65,7 +65,7 @@ pub record Raw (m n : ℕ) (s : Mem) : Type 0 where
 -- what is then known of the words
 pub record Begun (m n : ℕ) (s : Mem) (w : List ℕ) (d : List Float) : Type 0 where
   pub room : Room m n w d
-  pub rep : Rep m n (gatesIn (view m n w d)) n (view m n w d) (firstOf m n (view m n w d))
+  pub rep : Rep m n (gatesIn (view m n w d)) 0 (view m n w d) (firstOf m n (view m n w d))
   pub net : firstOf m n (view m n w d) ≡ rawNet m n s
   pub sizes : gatesIn (view m n w d) ≡ gatesIn s
 

@@ -6,16 +6,16 @@ use Prim.Native.Nat.{ℕ, zero, suc}
 use lib.Dec.{eqb}
 use lib.Ieee.{nan}
 use lib.ListN.{getD}
-use Rattle.network.specs.Network.{Edge, Region, State}
+use Rattle.network.specs.Network.{Edge, Region, State, turnIf}
 use Rattle.merge.specs.Mem.{Mem}
-use Rattle.merge.specs.Steps.{unbias}
+use Rattle.merge.specs.Steps.{unbias, turned}
 
 -- f k, f (k + 1), .. of n numbers
 unfoldable pub rows : {A : Type 0} → (ℕ → A) → ℕ → ℕ → List A
 rows f k zero = []
 rows f k (suc n) = f k ∷ rows f (suc k) n
 
--- edge j: live where its weight is not 0
+-- edge j as it is stored: live where its weight is not 0
 unfoldable pub edgeOf : Mem → ℕ → Edge
 edgeOf s j = record {
   num = j;
@@ -25,6 +25,10 @@ edgeOf s j = record {
   weight = getD (s .weight) j 0;
   diff = getD (s .diff) j nan;
 }
+
+-- edge j as it stands: turned where its second end was a base later than its first
+unfoldable pub edgeNow : Mem → ℕ → Edge
+edgeNow s j = turnIf (turned s j) (edgeOf s j)
 
 -- region r, of a size and a node that no table holds
 unfoldable pub regionOf : (ℕ → ℕ) → (ℕ → ℕ) → Mem → ℕ → Region

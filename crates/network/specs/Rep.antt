@@ -2,11 +2,11 @@
 use mathlib.Core.Path.{_≡_}
 use mathlib.Core.Logic.{_⊎_}
 use mathlib.Core.Bool.{true}
-use Prim.Native.Nat.{ℕ, _+_, _*_, _<_, _^_}
+use Prim.Native.Nat.{ℕ, _+_, _*_, _≤_, _<_, _^_}
 use lib.ListN.{getD}
 use Rattle.network.specs.Network.{Edge, State, sizeOf, gatesOf}
 use Rattle.merge.specs.Mem.{Mem, Sound}
-use Rattle.network.specs.Net.{rows, edgeOf, regionOf, Like}
+use Rattle.network.specs.Net.{rows, edgeNow, regionOf, Like}
 use Rattle.merge.specs.Chain.{Chains}
 use Rattle.network.specs.Simple.{Simple}
 
@@ -24,8 +24,8 @@ pub record Circled (m n : ℕ) (node : ℕ → ℕ) (E : ℕ → Edge) (s : Mem)
   pub lengths : (x : ℕ) → x < n → node x ≡ x → elens (2 * m + x) ≡ getD (s .elen) x 0
   pub ends : (j : ℕ) → j < m → E j .live ≡ true → Ends m eown j (E j)
 
--- m edges, n regions; last is the last merge's base, or n
-pub record Rep (m n : ℕ) (gates : ℕ → ℕ) (last : ℕ) (s : Mem) (t : State) : Type 0 where
+-- m edges, n regions, k merges done
+pub record Rep (m n : ℕ) (gates : ℕ → ℕ) (k : ℕ) (s : Mem) (t : State) : Type 0 where
   -- edges, each region's node, the places of regions and of slots in their chains, the lengths of the chains of slots
   pub E : ℕ → Edge
   pub node : ℕ → ℕ
@@ -42,12 +42,12 @@ pub record Rep (m n : ℕ) (gates : ℕ → ℕ) (last : ℕ) (s : Mem) (t : Sta
   -- the tables
   pub sound : Sound m n s
   pub small : 2 * m + n < 2 ^ 32
-  pub like : (j : ℕ) → j < m → Like (edgeOf s j) (E j)
+  pub like : (j : ℕ) → j < m → Like (edgeNow s j) (E j)
   pub sizes : (x : ℕ) → x < n → node x ≡ x → getD (s .size) x 0 ≡ sizeOf (rows (regionOf gates node s) 0 n) x
   -- the chains
   pub rchains : Chains (s .rnext) n node rpos (λ x. getD (s .rlen) x 0)
   pub circled : Circled m n node E s eown epos elens
   -- a live edge's ends lead their regions
   pub leading : (j : ℕ) → j < m → E j .live ≡ true → (node (E j .first) ≡ E j .first) × (node (E j .second) ≡ E j .second)
-  -- the last base's edges are turned to it and marked
-  pub marks : (j : ℕ) → j < m → E j .live ≡ true → (E j .first ≡ last) ⊎ (E j .second ≡ last) → (E j .first ≡ last) × (getD (s .mark) (E j .second) 0 ≡ j)
+  -- no node was a base in a merge that is yet to come
+  pub stamps : (x : ℕ) → getD (s .stamp) x 0 ≤ k

@@ -5,7 +5,7 @@ ghost use Rattle.arithmetic.specs.Rounding.{roundEven};
 ghost use Rattle.network.specs.Network.{whole};
 ghost use Rattle.network.specs.Popped.{Pops, AnyPop};
 ghost use lib.ListN.{getD};
-ghost use Rattle.merge.specs.Mem.{view, Room};
+ghost use Rattle.merge.specs.Mem.{view, Room, Sound};
 ghost use Rattle.merge.specs.Steps.{numberOf};
 ghost use Rattle.network.specs.Rep.{Rep};
 ghost use Rattle.network.specs.Settle.{settle};
@@ -27,11 +27,12 @@ pub enum Popped {
     Nothing,
 }
 
-// Chooses the heaviest live edge, the lowest number among equals: the tree's winner.
+// Chooses the heaviest live edge, the lowest number among equals: the tree's winner, as it stands.
 pub fn pop_edge(w: &[u32], d: &[f64], m: usize, n: usize) -> Popped
     requires { ⌜ Room m n (now w) (now d) ⌝ }
+    requires { ⌜ Sound m n (view m n (now w) (now d)) ⌝ }
     requires { ⌜ 0 < m ⌝ }
-    ensures { λ r. ⌜ Pops m (now (w .entry)) (now (d .entry)) r ⌝ }
+    ensures { λ r. ⌜ Pops m n (now (w .entry)) (now (d .entry)) r ⌝ }
     ensures { λ r. ⌜ AnyPop m n (view m n (now (w .entry)) (now (d .entry))) r ⌝ }
 {
     let e = memory::tree::best(w, m);
@@ -39,10 +40,25 @@ pub fn pop_edge(w: &[u32], d: &[f64], m: usize, n: usize) -> Popped
     if t == 0 {
         return Popped::Nothing;
     }
+    let x = w[3 * m + e as usize];
+    let y = w[4 * m + e as usize];
+    let z = d[e as usize];
+    let i = w[7 * m + 2 * n + x as usize];
+    let j = w[7 * m + 2 * n + y as usize];
+    if i < j {
+        let back = -z / (t as f64);
+        return Popped::Edge(PoppedEdge {
+            node1: y,
+            node2: x,
+            diff: back,
+            edge_number: e,
+        });
+    }
+    let q = z / (t as f64);
     Popped::Edge(PoppedEdge {
-        node1: w[3 * m + e as usize],
-        node2: w[4 * m + e as usize],
-        diff: d[e as usize] / (t as f64),
+        node1: x,
+        node2: y,
+        diff: q,
         edge_number: e,
     })
 }
@@ -65,51 +81,55 @@ fn number(q: f64) -> u32
     }
 }
 
-// A turn: the base of the merge that was done, or that no edge is live, or that question 9 says no.
+// A turn: a merge was done, or no edge is live, or question 9 says no.
 pub enum Turned {
-    Merged(u32),
+    Merged,
     Ended,
     Refused,
 }
 
-// The merge of edge e, whose number, with 1000 added, is g: the larger node is the base, the second end's at equal sizes.
+// The merge of edge e, which stands from p to q and whose number, with 1000 added, is g, after k merges: the larger node is the base, the
+// second end's at equal sizes.
 fn choose_base(
     w: &mut [u32],
     d: &mut [f64],
     m: usize,
     n: usize,
     e: usize,
+    p: u32,
+    q: u32,
     g: u32,
-    last: u32,
+    k: usize,
 ) -> Turned
     requires { ⌜ Room m n (now w) (now d) ⌝ }
-    requires { ⌜ Standing m n last (view m n (now w) (now d)) ⌝ }
-    requires { ⌜ Chosen m (view m n (now w) (now d)) e g ⌝ }
-    ensures { λ r. ⌜ AnyPick m n last (view m n (now (w .entry)) (now (d .entry))) e (now (w .exit)) (now (d .exit)) r ⌝ }
+    requires { ⌜ Standing m n k (view m n (now w) (now d)) ⌝ }
+    requires { ⌜ Chosen m (view m n (now w) (now d)) e p q g ⌝ }
+    requires { ⌜ k < m ⌝ }
+    ensures { λ r. ⌜ AnyPick m n k (view m n (now (w .entry)) (now (d .entry))) e (now (w .exit)) (now (d .exit)) r ⌝ }
 {
-    let p = w[3 * m + e];
-    let q = w[4 * m + e];
+    let i = (k + 1) as u32;
     let sp = w[7 * m + 3 * n + p as usize];
     let sq = w[7 * m + 3 * n + q as usize];
     if sp > sq {
-        let ok = merge::merge::merge(w, d, m, n, e, p, q, g, last);
+        let ok = merge::merge::merge(w, d, m, n, e, p, q, g, i);
         if ok {
-            return Turned::Merged(p);
+            return Turned::Merged;
         }
         return Turned::Refused;
     }
-    let yes = merge::merge::merge(w, d, m, n, e, q, p, 2000 - g, last);
+    let yes = merge::merge::merge(w, d, m, n, e, q, p, 2000 - g, i);
     if yes {
-        return Turned::Merged(q);
+        return Turned::Merged;
     }
     Turned::Refused
 }
 
-fn turn(w: &mut [u32], d: &mut [f64], m: usize, n: usize, last: u32) -> Turned
+// The next merge after k of them.
+fn turn(w: &mut [u32], d: &mut [f64], m: usize, n: usize, k: usize) -> Turned
     requires { ⌜ Room m n (now w) (now d) ⌝ }
-    requires { ⌜ Standing m n last (view m n (now w) (now d)) ⌝ }
-    requires { ⌜ 0 < m ⌝ }
-    ensures { λ r. ⌜ AnyTurn m n last (view m n (now (w .entry)) (now (d .entry))) (now (w .exit)) (now (d .exit)) r ⌝ }
+    requires { ⌜ Standing m n k (view m n (now w) (now d)) ⌝ }
+    requires { ⌜ k < m ⌝ }
+    ensures { λ r. ⌜ AnyTurn m n k (view m n (now (w .entry)) (now (d .entry))) (now (w .exit)) (now (d .exit)) r ⌝ }
 {
     let p = pop_edge(w, d, m, n);
     let Popped::Edge(q) = p else {
@@ -120,7 +140,7 @@ fn turn(w: &mut [u32], d: &mut [f64], m: usize, n: usize, last: u32) -> Turned
         return Turned::Refused;
     }
     let e = q.edge_number as usize;
-    choose_base(w, d, m, n, e, g, last)
+    choose_base(w, d, m, n, e, q.node1, q.node2, g, k)
 }
 
 // The run: how many merges there were, or a refusal.
@@ -131,15 +151,13 @@ pub enum Ran {
 
 pub fn run(w: &mut [u32], d: &mut [f64], m: usize, n: usize) -> Ran
     requires { ⌜ Room m n (now w) (now d) ⌝ }
-    requires { ⌜ Rep m n (gatesIn (view m n (now w) (now d))) n (view m n (now w) (now d)) (firstOf m n (view m n (now w) (now d))) ⌝ }
+    requires { ⌜ Rep m n (gatesIn (view m n (now w) (now d))) 0 (view m n (now w) (now d)) (firstOf m n (view m n (now w) (now d))) ⌝ }
     ensures { λ r. ⌜ RanIs m n (gatesIn (view m n (now (w .entry)) (now (d .entry)))) (settle m (firstOf m n (view m n (now (w .entry)) (now (d .entry)))) 0) (now (w .exit)) (now (d .exit)) r ⌝ }
 {
-    let mut last = n as u32;
     let mut k = 0;
     while k < m {
-        match turn(w, d, m, n, last) {
-            Turned::Merged(b) => {
-                last = b;
+        match turn(w, d, m, n, k) {
+            Turned::Merged => {
                 k += 1;
             }
             Turned::Ended => {
@@ -166,7 +184,7 @@ fn fill_slots(w: &mut [u32], d: &mut [f64], m: usize, n: usize)
     }
 }
 
-// Each region becomes a circle of its own, with count 0.
+// Each region becomes a circle of its own, with count 0, that was never a base.
 fn fill_regions(w: &mut [u32], d: &mut [f64], m: usize, n: usize)
     requires { ⌜ Room m n (now w) (now d) ⌝ }
     ensures { λ _. ⌜ Does m n (now (w .exit)) (now (d .exit)) (regionsFrom n (view m n (now (w .entry)) (now (d .entry))) 0) ⌝ }
@@ -177,6 +195,7 @@ fn fill_regions(w: &mut [u32], d: &mut [f64], m: usize, n: usize)
         w[7 * m + 5 * n + x] = 1;
         w[7 * m + 4 * n + x] = 1;
         w[7 * m + 6 * n + x] = 1000;
+        w[7 * m + 2 * n + x] = 0;
         x += 1;
     }
 }

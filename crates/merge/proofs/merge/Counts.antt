@@ -21,7 +21,7 @@ pub record Counted (s t : Mem) : Type 0 where
   pub second : s .second ≡ t .second
   pub enext : s .enext ≡ t .enext
   pub rnext : s .rnext ≡ t .rnext
-  pub mark : s .mark ≡ t .mark
+  pub stamp : s .stamp ≡ t .stamp
   pub size : s .size ≡ t .size
   pub elen : s .elen ≡ t .elen
   pub rlen : s .rlen ≡ t .rlen
@@ -51,7 +51,7 @@ accepted-most t h = go (leb 1000 t) (leb t 3000) refl h
 pub raise : (g : ℕ) (N : List ℕ) (n k x : ℕ) (s : Mem) → length (s .count) ≡ n → s .rnext ≡ N → ((i : ℕ) → i < k → cur N x i < n) → ((i j : ℕ) → i < k → j < k → cur N x i ≡ cur N x j → i ≡ j) → Gives g N x k n s (walkRaise k g s x)
 unfolding walkRaise Gives
 raise g N n zero x s l e inside inj = record {
-  else = record { weight = refl; first = refl; second = refl; enext = refl; rnext = refl; mark = refl; size = refl; elen = refl; rlen = refl; diff = refl };
+  else = record { weight = refl; first = refl; second = refl; enext = refl; rnext = refl; stamp = refl; size = refl; elen = refl; rlen = refl; diff = refl };
   sound = λ m h. h;
   yes = λ i p. absurd (omega arith);
   here = λ i p. absurd (omega arith);
@@ -85,7 +85,7 @@ raise g N n (suc k) x s l e inside inj =
     back : (o : Option Mem) → accepts (getD (s .count) x 0 + g) ≡ true → Gives g N (getD N x 0) k n s₁ o → Gives g N x (suc k) n s o
     back none a w = unfold Gives cur in (suc (w .0), omega (arith, w .1), sym (ap (λ (z : ℕ). accepts (z + g)) (other' _ (other (w .0) (w .1)))) ∙ w .2)
     back (some t) a w = unfold Gives in record {
-      else = unfold count-set in record { weight = w .else .weight; first = w .else .first; second = w .else .second; enext = w .else .enext; rnext = w .else .rnext; mark = w .else .mark; size = w .else .size; elen = w .else .elen; rlen = w .else .rlen; diff = w .else .diff };
+      else = unfold count-set in record { weight = w .else .weight; first = w .else .first; second = w .else .second; enext = w .else .enext; rnext = w .else .rnext; stamp = w .else .stamp; size = w .else .size; elen = w .else .elen; rlen = w .else .rlen; diff = w .else .diff };
       sound = λ m h. w .sound m (sound-count m n s h x v x-in (accepted-most (getD (s .count) x 0 + g) a));
       yes = yes-of;
       here = here-of;

@@ -5,57 +5,70 @@ use Prim.Native.Nat.{ℕ, zero, suc, _+_, _*_, _-_, _/_}
 use lib.Dec.{eqb, ltb}
 use lib.Ieee.{nan, Float, neg}
 use lib.ListN.{getD}
-use Rattle.merge.specs.Mem.{Mem, weight-set, first-set, second-set, enext-set, mark-set, elen-set, diff-set}
-use Rattle.merge.specs.Steps.{spent, dropAt, passed, kept, along, through, still, pruned, walkBase, movedAll, turnAt, baseEdge, mate, absorbAt, attachAt, joinEdge, shift, movedEdge, walkMoved}
+use Rattle.merge.specs.Mem.{Mem, weight-set, first-set, second-set, enext-set, elen-set, diff-set}
+use Rattle.merge.specs.Steps.{spent, dropAt, passed, kept, along, through, still, pruned, movedAll, turnAt, turned, faceAt, mate, absorbAt, attachAt, joinEdge, shift, movedEdge, takeEdge, walkMoved}
 
 pub record Frame (s t : Mem) : Type 0 where
   pub enext : s .enext ≡ t .enext
   pub rnext : s .rnext ≡ t .rnext
+  pub stamp : s .stamp ≡ t .stamp
   pub size : s .size ≡ t .size
   pub elen : s .elen ≡ t .elen
   pub rlen : s .rlen ≡ t .rlen
   pub count : s .count ≡ t .count
 
 pub frame-refl : (s : Mem) → Frame s s
-frame-refl s = record { enext = refl; rnext = refl; size = refl; elen = refl; rlen = refl; count = refl }
+frame-refl s = record { enext = refl; rnext = refl; stamp = refl; size = refl; elen = refl; rlen = refl; count = refl }
 
 pub frame-then : (s t u : Mem) → Frame s t → Frame t u → Frame s u
-frame-then s t u a b = record { enext = a .enext ∙ b .enext; rnext = a .rnext ∙ b .rnext; size = a .size ∙ b .size; elen = a .elen ∙ b .elen; rlen = a .rlen ∙ b .rlen; count = a .count ∙ b .count }
+frame-then s t u a b = record { enext = a .enext ∙ b .enext; rnext = a .rnext ∙ b .rnext; stamp = a .stamp ∙ b .stamp; size = a .size ∙ b .size; elen = a .elen ∙ b .elen; rlen = a .rlen ∙ b .rlen; count = a .count ∙ b .count }
 
-pub frame-base : (m b : ℕ) (s : Mem) (f : ℕ) → Frame (baseEdge m b s f) s
-unfolding baseEdge turnAt first-set second-set mark-set diff-set
-frame-base m b s f = go (ltb f m) (eqb (getD (s .weight) f 0) 0) (eqb (getD (s .second) f 0) b) (eqb (getD (s .first) f 0) b)
+pub frame-face : (s : Mem) (f : ℕ) → Frame (faceAt s f) s
+unfolding faceAt turnAt first-set second-set diff-set
+frame-face s f = go (turned s f)
   where
-    go : (x y z t : Bool) → Frame (cond x (cond y s (cond z (mark-set (turnAt s f) (getD (s .first) f 0) f) (cond t (mark-set s (getD (s .second) f 0) f) s))) s) s
-    go false y z t = frame-refl s
-    go true true z t = frame-refl s
-    go true false true t = record { enext = refl; rnext = refl; size = refl; elen = refl; rlen = refl; count = refl }
-    go true false false true = record { enext = refl; rnext = refl; size = refl; elen = refl; rlen = refl; count = refl }
-    go true false false false = frame-refl s
+    go : (t : Bool) → Frame (cond t (turnAt s f) s) s
+    go true = record { enext = refl; rnext = refl; stamp = refl; size = refl; elen = refl; rlen = refl; count = refl }
+    go false = frame-refl s
+
+pub frame-absorb : (s : Mem) (q f : ℕ) (x : Float) → Frame (absorbAt s q f x) s
+unfolding absorbAt weight-set diff-set
+frame-absorb s q f x = record { enext = refl; rnext = refl; stamp = refl; size = refl; elen = refl; rlen = refl; count = refl }
+
+pub frame-attach : (b : ℕ) (s : Mem) (f c : ℕ) (x : Float) → Frame (attachAt b s f c x) s
+unfolding attachAt first-set second-set diff-set
+frame-attach b s f c x = record { enext = refl; rnext = refl; stamp = refl; size = refl; elen = refl; rlen = refl; count = refl }
 
 frame-join : (m b : ℕ) (s : Mem) (f c : ℕ) (x : Float) → Frame (joinEdge m b s f c x) s
-unfolding joinEdge absorbAt attachAt weight-set first-set second-set mark-set diff-set
+unfolding joinEdge
 frame-join m b s f c x = go (ltb (mate m b s c) m)
   where
-    go : (t : Bool) → Frame (cond t (absorbAt s (mate m b s c) f x) (attachAt b s f c x)) s
-    go true = record { enext = refl; rnext = refl; size = refl; elen = refl; rlen = refl; count = refl }
-    go false = record { enext = refl; rnext = refl; size = refl; elen = refl; rlen = refl; count = refl }
+    go : (t : Bool) → Frame (cond t (absorbAt (faceAt s (mate m b s c)) (mate m b s c) f x) (attachAt b s f c x)) s
+    go true = frame-then _ _ _ (frame-absorb (faceAt s (mate m b s c)) (mate m b s c) f x) (frame-face s (mate m b s c))
+    go false = frame-attach b s f c x
 
-pub frame-moved : (m b v g : ℕ) (s : Mem) (f : ℕ) → Frame (movedEdge m b v g s f) s
+frame-moved : (m b v g : ℕ) (s : Mem) (f : ℕ) → Frame (movedEdge m b v g s f) s
 unfolding movedEdge
-frame-moved m b v g s f = go (ltb f m) (eqb (getD (s .weight) f 0) 0) (eqb (getD (s .first) f 0) v) (eqb (getD (s .second) f 0) v)
+frame-moved m b v g s f = go (eqb (getD (s .weight) f 0) 0) (eqb (getD (s .first) f 0) v) (eqb (getD (s .second) f 0) v)
   where
-    go : (x y z t : Bool) → Frame (cond x (cond y s (cond z (joinEdge m b s f (getD (s .second) f 0) (shift false g (getD (s .weight) f 0) (getD (s .diff) f nan))) (cond t (joinEdge m b s f (getD (s .first) f 0) (neg (shift true g (getD (s .weight) f 0) (getD (s .diff) f nan)))) s))) s) s
-    go false y z t = frame-refl s
-    go true true z t = frame-refl s
-    go true false true t = frame-join m b s f _ _
-    go true false false true = frame-join m b s f _ _
-    go true false false false = frame-refl s
+    go : (y z t : Bool) → Frame (cond y s (cond z (joinEdge m b s f (getD (s .second) f 0) (shift false g (getD (s .weight) f 0) (getD (s .diff) f nan))) (cond t (joinEdge m b s f (getD (s .first) f 0) (neg (shift true g (getD (s .weight) f 0) (getD (s .diff) f nan)))) s))) s
+    go true z t = frame-refl s
+    go false true t = frame-join m b s f _ _
+    go false false true = frame-join m b s f _ _
+    go false false false = frame-refl s
+
+pub frame-take : (m b v g : ℕ) (s : Mem) (f : ℕ) → Frame (takeEdge m b v g s f) s
+unfolding takeEdge
+frame-take m b v g s f = go (ltb f m)
+  where
+    go : (t : Bool) → Frame (cond t (movedEdge m b v g (faceAt s f) f) s) s
+    go true = frame-then _ _ _ (frame-moved m b v g (faceAt s f) f) (frame-face s f)
+    go false = frame-refl s
 
 pub frame-walk-moved : (k m b v g : ℕ) (s : Mem) (x : ℕ) → Frame (walkMoved k m b v g s x) s
 unfolding walkMoved
 frame-walk-moved zero m b v g s x = frame-refl s
-frame-walk-moved (suc k) m b v g s x = frame-then _ _ _ (frame-walk-moved k m b v g (movedEdge m b v g s (x / 2)) (getD (s .enext) x 0)) (frame-moved m b v g s (x / 2))
+frame-walk-moved (suc k) m b v g s x = frame-then _ _ _ (frame-walk-moved k m b v g (takeEdge m b v g s (x / 2)) (getD (s .enext) x 0)) (frame-take m b v g s (x / 2))
 
 -- the tables of regions
 pub record Beside (s t : Mem) : Type 0 where
@@ -72,20 +85,16 @@ pub record Same (s t : Mem) : Type 0 where
   pub weight : s .weight ≡ t .weight
   pub first : s .first ≡ t .first
   pub second : s .second ≡ t .second
-  pub mark : s .mark ≡ t .mark
+  pub stamp : s .stamp ≡ t .stamp
   pub diff : s .diff ≡ t .diff
   pub beside : Beside s t
 
 pub same-refl : (s : Mem) → Same s s
-same-refl s = record { weight = refl; first = refl; second = refl; mark = refl; diff = refl; beside = beside-refl s }
-
-pub beside-drop : (b : ℕ) (u s : Mem) (p x : ℕ) → Beside u s → Beside (dropAt b u p x) s
-unfolding dropAt enext-set elen-set
-beside-drop b u s p x h = record { rnext = h .rnext; size = h .size; rlen = h .rlen; count = h .count }
+same-refl s = record { weight = refl; first = refl; second = refl; stamp = refl; diff = refl; beside = beside-refl s }
 
 pub same-drop : (b : ℕ) (u s : Mem) (p x : ℕ) → Same u s → Same (dropAt b u p x) s
 unfolding dropAt enext-set elen-set
-same-drop b u s p x h = record { weight = h .weight; first = h .first; second = h .second; mark = h .mark; diff = h .diff; beside = record { rnext = h .beside .rnext; size = h .beside .size; rlen = h .beside .rlen; count = h .beside .count } }
+same-drop b u s p x h = record { weight = h .weight; first = h .first; second = h .second; stamp = h .stamp; diff = h .diff; beside = record { rnext = h .beside .rnext; size = h .beside .size; rlen = h .beside .rlen; count = h .beside .count } }
 
 -- what f and dropping keep, a walk keeps
 along-keeps : (P : Mem → Type 0) (f : Mem → ℕ → Mem) (m b : ℕ) → ((s : Mem) (j : ℕ) → P s → P (f s j)) → ((s : Mem) (p x : ℕ) → P s → P (dropAt b s p x)) → (k : ℕ) (s : Mem) (p x : ℕ) → P s → P (along f k m b s p x)
@@ -96,12 +105,6 @@ along-keeps P f m b u v (suc k) s p x h = along-keeps P f m b u v k (cond (spent
     go : (t : Bool) → P (cond t (dropAt b s p x) (f s (x / 2)))
     go true = v s p x h
     go false = u s (x / 2) h
-
-pub beside-walk-base : (m b : ℕ) (s : Mem) → Beside (walkBase m b s) s
-unfolding walkBase through
-beside-walk-base m b s = along-keeps (λ u. Beside u s) (baseEdge m b) m b
-    (λ u j h. let f : Frame (baseEdge m b u j) u = frame-base m b u j in record { rnext = f .rnext ∙ h .rnext; size = f .size ∙ h .size; rlen = f .rlen ∙ h .rlen; count = f .count ∙ h .count })
-    (λ u p x h. beside-drop b u s p x h) (getD (s .elen) b 0 - 1) s (2 * m + b) (getD (s .enext) (2 * m + b) 0) (beside-refl s)
 
 pub same-pruned : (m b : ℕ) (s : Mem) → Same (pruned m b s) s
 unfolding pruned through still

@@ -1,56 +1,22 @@
--- `ready`, `hand` and `merge` over plain values. Assumes nothing.
+-- `hand` and `merge` over plain values. Assumes nothing.
 use mathlib.Core.Path.{_≡_, refl, sym, ap, _∙_, subst}
 use mathlib.Core.Bool.{Bool, true, false, cond, true≢false}
 use mathlib.Core.List.{List}
 use mathlib.Core.Option.{Option, none, some, Option·none-ne-some, Option·some-injective}
 use Prim.Native.Nat.{ℕ, zero, suc, _+_, _-_, _≤_, _<_, _^_}
 use native.Mathlib.Omega.{arith}
-use lib.Dec.{eqb}
 use lib.ListN.{length, getD, set, length-set}
-use borrow.Author.Tests.{eq-eqb, ne-eqb}
-use Rattle.memory.specs.Tree.{Tree, Weighed}
-use Rattle.merge.specs.Mem.{Mem, view, Room, Sound, weight-set, enext-set, rnext-set, count-set}
-use Rattle.merge.specs.Steps.{accepts, walkBase, pruned, movedAll, walkRaise, splice, grow, readied, handed, then, merged}
+use Rattle.memory.specs.Tree.{Weighed}
+use Rattle.merge.specs.Mem.{Mem, view, Room, Sound, weight-set, enext-set, rnext-set, stamp-set, count-set}
+use Rattle.merge.specs.Steps.{accepts, pruned, movedAll, walkRaise, splice, grow, handed, then, merged}
 use Rattle.merge.specs.Does.{Does, Raised, Gains, Fit}
 use Rattle.merge.proofs.merge.View.{weight-put, view-weighed}
 use Rattle.merge.proofs.merge.Leaf.{room-of, total-less}
-use Rattle.merge.proofs.merge.SoundSet.{sound-weight, sound-count}
-use Rattle.merge.proofs.merge.Frames.{Frame, frame-moved-all, Beside, beside-refl, beside-walk-base, same-pruned}
+use Rattle.merge.proofs.merge.SoundSet.{sound-weight, sound-stamp, sound-count}
+use Rattle.merge.proofs.merge.Frames.{Frame, frame-moved-all, Beside, same-pruned}
 use Rattle.merge.proofs.merge.Counts.{Counted, accepted-most}
-use Rattle.merge.proofs.merge.Passing.{sound-walk-base, sound-pruned, less-walk-base, less-pruned}
+use Rattle.merge.proofs.merge.Passing.{sound-pruned, less-pruned}
 use lib.Ieee.{Float}
-
-pub ready-same : (m n b last : ℕ) (w : List ℕ) (d : List Float) → Tree m w → b ≡ last → Does m n w d (readied m b last (view m n w d))
-unfolding readied
-ready-same m n b last w d r e = record { tables = rw (eq-eqb b last e) refl; tree = r }
-
-pub ready-walked : (m n b last : ℕ) (s : Mem) (w : List ℕ) (d : List Float) → (b ≡ last → ⊥) → Does m n w d (walkBase m b s) → Does m n w d (readied m b last s)
-unfolding readied
-ready-walked m n b last s w d h e = rw (ne-eqb b last h) e
-
-sound-readied : (m n b last : ℕ) (s : Mem) → b < n → Sound m n s → Sound m n (readied m b last s)
-unfolding readied
-sound-readied m n b last s hb h = go (eqb b last)
-  where
-    go : (x : Bool) → Sound m n (cond x s (walkBase m b s))
-    go true = h
-    go false = sound-walk-base m n b hb s h
-
-beside-readied : (m b last : ℕ) (s : Mem) → Beside (readied m b last s) s
-unfolding readied
-beside-readied m b last s = go (eqb b last)
-  where
-    go : (x : Bool) → Beside (cond x s (walkBase m b s)) s
-    go true = beside-refl s
-    go false = beside-walk-base m b s
-
-less-readied : (m n b last : ℕ) (s : Mem) → b < n → (y : ℕ) → getD (readied m b last s .elen) y 0 ≤ getD (s .elen) y 0
-unfolding readied
-less-readied m n b last s hb y = go (eqb b last)
-  where
-    go : (x : Bool) → getD (cond x s (walkBase m b s) .elen) y 0 ≤ getD (s .elen) y 0
-    go true = omega arith
-    go false = less-walk-base m n b hb s y
 
 -- sums still fit where sizes stay and chains are no longer than before
 fit-frame : (n b v : ℕ) (s t : Mem) → s .size ≡ t .size → ((y : ℕ) → getD (s .elen) y 0 ≤ getD (t .elen) y 0) → s .rlen ≡ t .rlen → Fit n b v t → Fit n b v s
@@ -99,7 +65,7 @@ pub raise-keeps : (m n g k : ℕ) (s : Mem) (x : ℕ) (t : Mem) → walkRaise k 
 unfolding walkRaise count-set
 raise-keeps m n g zero s x t e lt h =
     let q : s ≡ t = Option·some-injective s t e in
-    (subst (Sound m n) q h, subst (λ (u : Mem). Counted u s) q (record { weight = refl; first = refl; second = refl; enext = refl; rnext = refl; mark = refl; size = refl; elen = refl; rlen = refl; diff = refl }))
+    (subst (Sound m n) q h, subst (λ (u : Mem). Counted u s) q (record { weight = refl; first = refl; second = refl; enext = refl; rnext = refl; stamp = refl; size = refl; elen = refl; rlen = refl; diff = refl }))
 raise-keeps m n g (suc k) s x t e lt h = go (accepts (getD (s .count) x 0 + g)) refl e (raise-keeps m n g k (count-set s x (getD (s .count) x 0 + g - 1000)) (getD (s .rnext) x 0) t)
   where
     s₁ : Mem
@@ -109,7 +75,7 @@ raise-keeps m n g (suc k) s x t e lt h = go (accepts (getD (s .count) x 0 + g)) 
         → (walkRaise k g s₁ (getD (s .rnext) x 0) ≡ some t → getD (s .rnext) x 0 < n → Sound m n s₁ → Sound m n t × Counted t s₁) → Sound m n t × Counted t s
     go true a q ih =
         let w : Sound m n t × Counted t s₁ = ih q (h .rnext-in x lt) (sound-count m n s h x (getD (s .count) x 0 + g - 1000) lt (accepted-most (getD (s .count) x 0 + g) a)) in
-        (w .0, record { weight = w .1 .weight; first = w .1 .first; second = w .1 .second; enext = w .1 .enext; rnext = w .1 .rnext; mark = w .1 .mark; size = w .1 .size; elen = w .1 .elen; rlen = w .1 .rlen; diff = w .1 .diff })
+        (w .0, record { weight = w .1 .weight; first = w .1 .first; second = w .1 .second; enext = w .1 .enext; rnext = w .1 .rnext; stamp = w .1 .stamp; size = w .1 .size; elen = w .1 .elen; rlen = w .1 .rlen; diff = w .1 .diff })
     go false a q ih = absurd (Option·none-ne-some t q)
 
 pub raised-true : (m n : ℕ) (w : List ℕ) (d : List Float) (o : Option Mem) (r : Bool) → Raised m n w d o r → r ≡ true → (t : Mem) × (o ≡ some t) × Does m n w d t
@@ -122,7 +88,7 @@ unfolding Raised
 raised-false m n w d none r h e = refl
 raised-false m n w d (some t) r h e = absurd (true≢false (sym (h .0) ∙ e))
 
-module _ (m n b v g last e : ℕ) (w : List ℕ) (d : List Float) (r : Room m n w d) (h : Sound m n (view m n w d)) (ok : Gains n b v g) (fit : Fit n b v (view m n w d)) (lt : e < m)
+module _ (m n b v g k e : ℕ) (w : List ℕ) (d : List Float) (r : Room m n w d) (h : Sound m n (view m n w d)) (ok : Gains n b v g) (fit : Fit n b v (view m n w d)) (lt : e < m)
     (w₁ : List ℕ) (D₁ : Weighed m (set w e 0) w₁) where
   abbrev s : Mem
   s = view m n w d
@@ -136,41 +102,42 @@ module _ (m n b v g last e : ℕ) (w : List ℕ) (d : List Float) (r : Room m n 
   sound₁ : Sound m n (weight-set s e 0)
   sound₁ = sound-weight m n s h e 0 (omega (arith, total-less (s .weight) e (omega (arith, h .l-weight)), h .light))
 
-  pub merge-ready : Room m n w₁ d × (Sound m n (view m n w₁ d) × (b < n))
-  merge-ready = (room-of m n w w₁ d d r len₁ refl (D₁ .tree), (subst (Sound m n) (sym tables₁) sound₁, ok .b-in))
+  pub merge-stamp : Room m n w₁ d × (b < n)
+  merge-stamp = (room-of m n w w₁ d d r len₁ refl (D₁ .tree), ok .b-in)
 
-  module _ (w₂ : List ℕ) (d₂ : List Float) (lw₂ : length w₂ ≡ length w₁) (ld₂ : length d₂ ≡ length d) (D₂ : Does m n w₂ d₂ (readied m b last (view m n w₁ d))) where
-    tables₂ : view m n w₂ d₂ ≡ readied m b last (weight-set s e 0)
-    tables₂ = D₂ .tables ∙ ap (readied m b last) tables₁
+  module _ (w₂ : List ℕ) (d₂ : List Float) (lw₂ : length w₂ ≡ length w₁) (ld₂ : length d₂ ≡ length d) (D₂ : Does m n w₂ d₂ (stamp-set (view m n w₁ d) b k)) where
+    tables₂ : view m n w₂ d₂ ≡ stamp-set (weight-set s e 0) b k
+    tables₂ = D₂ .tables ∙ ap (λ (u : Mem). stamp-set u b k) tables₁
 
     room₂ : Room m n w₂ d₂
     room₂ = room-of m n w w₂ d d₂ r (lw₂ ∙ len₁) ld₂ (D₂ .tree)
 
     sound₂ : Sound m n (view m n w₂ d₂)
-    sound₂ = subst (Sound m n) (sym tables₂) (sound-readied m n b last (weight-set s e 0) (ok .b-in) sound₁)
+    sound₂ = subst (Sound m n) (sym tables₂) (sound-stamp m n (weight-set s e 0) sound₁ b k)
 
     pub merge-raise : Room m n w₂ d₂ × (Sound m n (view m n w₂ d₂) × ((v < n) × (g ≤ 2000)))
     merge-raise = (room₂, (sound₂, (ok .v-in, ok .g-in)))
 
     beside₂ : Beside (view m n w₂ d₂) (weight-set s e 0)
-    beside₂ = subst (λ (u : Mem). Beside u (weight-set s e 0)) (sym tables₂) (beside-readied m b last (weight-set s e 0))
+    unfolding stamp-set
+    beside₂ = subst (λ (u : Mem). Beside u (weight-set s e 0)) (sym tables₂) (record { rnext = refl; size = refl; rlen = refl; count = refl })
 
-    less₂ : (y : ℕ) → getD (view m n w₂ d₂ .elen) y 0 ≤ getD (s .elen) y 0
-    unfolding weight-set
-    less₂ y = subst (λ (u : Mem). getD (u .elen) y 0 ≤ getD (s .elen) y 0) (sym tables₂) (less-readied m n b last (weight-set s e 0) (ok .b-in) y)
+    elen₂ : view m n w₂ d₂ .elen ≡ s .elen
+    unfolding weight-set stamp-set
+    elen₂ = ap (λ (u : Mem). u .elen) tables₂
 
     rlen₂ : getD (view m n w₂ d₂ .rlen) v 0 ≡ getD (s .rlen) v 0
     unfolding weight-set
     rlen₂ = ap (λ (l : List ℕ). getD l v 0) (beside₂ .rlen)
 
-    raise-is : walkRaise (getD (view m n w₂ d₂ .rlen) v 0) g (view m n w₂ d₂) v ≡ walkRaise (getD (s .rlen) v 0) g (readied m b last (weight-set s e 0)) v
+    raise-is : walkRaise (getD (view m n w₂ d₂ .rlen) v 0) g (view m n w₂ d₂) v ≡ walkRaise (getD (s .rlen) v 0) g (stamp-set (weight-set s e 0) b k) v
     raise-is = ap (λ (k : ℕ). walkRaise k g (view m n w₂ d₂) v) rlen₂ ∙ ap (λ (u : Mem). walkRaise (getD (s .rlen) v 0) g u v) tables₂
 
     module _ (w₃ : List ℕ) (d₃ : List Float) (lw₃ : length w₃ ≡ length w₂) (ld₃ : length d₃ ≡ length d₂) (q : Bool) (D₃ : Raised m n w₃ d₃ (walkRaise (getD (view m n w₂ d₂ .rlen) v 0) g (view m n w₂ d₂) v) q) where
-      pub merge-refused : q ≡ false → (w' : List ℕ) (d' : List Float) → Raised m n w' d' (merged m last e b v g s) false
+      pub merge-refused : q ≡ false → (w' : List ℕ) (d' : List Float) → Raised m n w' d' (merged m k e b v g s) false
       unfolding merged then Raised
       merge-refused f w' d' =
-          let no : walkRaise (getD (s .rlen) v 0) g (readied m b last (weight-set s e 0)) v ≡ none = sym raise-is ∙ raised-false m n w₃ d₃ _ q D₃ f in
+          let no : walkRaise (getD (s .rlen) v 0) g (stamp-set (weight-set s e 0) b k) v ≡ none = sym raise-is ∙ raised-false m n w₃ d₃ _ q D₃ f in
           subst (λ (o : Option Mem). Raised m n w' d' (then o (handed m b v g)) false) (sym no) refl
 
       module _ (f : q ≡ true) where
@@ -191,13 +158,13 @@ module _ (m n b v g last e : ℕ) (w : List ℕ) (d : List Float) (r : Room m n 
             subst (Sound m n) (sym (took .2 .tables)) (kept .0),
             (
               ok,
-              fit-frame n b v (view m n w₃ d₃) s (counted .size ∙ beside₂ .size) (λ y. subst (λ (l : List ℕ). getD l y 0 ≤ getD (s .elen) y 0) (sym (counted .elen)) (less₂ y)) (counted .rlen ∙ beside₂ .rlen) fit,
+              fit-frame n b v (view m n w₃ d₃) s (counted .size ∙ beside₂ .size) (λ y. subst (λ (l : List ℕ). getD l y 0 ≤ getD (s .elen) y 0) (sym (counted .elen ∙ elen₂)) (omega arith)) (counted .rlen ∙ beside₂ .rlen) fit,
             ),
           ),
         )
 
-        pub merge-done : (w₄ : List ℕ) (d₄ : List Float) → Does m n w₄ d₄ (handed m b v g (view m n w₃ d₃)) → Raised m n w₄ d₄ (merged m last e b v g s) true
+        pub merge-done : (w₄ : List ℕ) (d₄ : List Float) → Does m n w₄ d₄ (handed m b v g (view m n w₃ d₃)) → Raised m n w₄ d₄ (merged m k e b v g s) true
         unfolding merged then Raised
         merge-done w₄ d₄ D₄ =
-            let yes : walkRaise (getD (s .rlen) v 0) g (readied m b last (weight-set s e 0)) v ≡ some (took .0) = sym raise-is ∙ took .1 in
+            let yes : walkRaise (getD (s .rlen) v 0) g (stamp-set (weight-set s e 0) b k) v ≡ some (took .0) = sym raise-is ∙ took .1 in
             subst (λ (o : Option Mem). Raised m n w₄ d₄ (then o (handed m b v g)) true) (sym yes) (refl, record { tables = D₄ .tables ∙ ap (handed m b v g) (took .2 .tables); tree = D₄ .tree })

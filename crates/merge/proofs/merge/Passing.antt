@@ -13,14 +13,12 @@ use borrow.Author.Tests.{lt-ltb, le-ltb}
 use Rattle.memory.specs.Tree.{Tree}
 use Rattle.memory.proofs.tree.TreeLaws.{tree-set}
 use Rattle.merge.specs.Mem.{Mem, view, Room, Sound, enext-set, elen-set}
-use Rattle.merge.specs.Steps.{spent, dropAt, passed, kept, along, through, still, pruned, baseEdge, walkBase}
+use Rattle.merge.specs.Steps.{spent, dropAt, passed, kept, along, through, still, pruned}
 use Rattle.merge.specs.Does.{Does, Passes, Slots}
 use Rattle.merge.proofs.merge.View.{weight-at, enext-at, elen-at, enext-put, elen-put}
 use Rattle.merge.proofs.merge.Bias.{lt-or-le}
 use Rattle.merge.proofs.merge.Leaf.{room-of}
 use Rattle.merge.proofs.merge.SoundSet.{eq-or-ne, sound-enext, sound-elen}
-use Rattle.merge.proofs.merge.SoundSteps.{sound-base}
-use Rattle.merge.proofs.merge.Frames.{frame-base}
 
 -- ---- is_spent
 module _ (m n : ℕ) (w : List ℕ) (d : List Float) (x : ℕ) where
@@ -59,7 +57,7 @@ module _ (m n b p x : ℕ) where
       let h₁ : Sound m n (enext-set s p (getD (s .enext) x 0)) = sound-enext m n s h p (getD (s .enext) x 0) hp (h .enext-in x hx) in
       sound-elen m n _ (sound-enext m n _ h₁ x x hx hx) b _
 
-  -- ---- pass_slot and base_slot
+  -- ---- pass_slot
   module _ (f : Mem → ℕ → Mem) (s : Mem) (w : List ℕ) (d : List Float) (q : Bool) (is : q ≡ spent m s x) where
     pub pass-drops : q ≡ true → Does m n w d (dropAt b s p x) → Passes m n w d (passed f m b s p x) (kept m s p x) p
     unfolding passed kept
@@ -194,14 +192,8 @@ module _ (f : Mem → ℕ → Mem) (m n b : ℕ) (hb : b < n) (keeps : (s : Mem)
     unfolding along
     pass-end h = let z : l - i ≡ 0 = omega arith in record { tables = ap (λ (y : ℕ). along f y m b (view m n w d) p x) (sym z) ∙ k .left; tree = k .room .tree }
 
--- the base's chain, and a chain whose edges stay as they are
+-- a chain whose edges stay as they are
 module _ (m n b : ℕ) (hb : b < n) where
-  base-keeps : (s : Mem) (j : ℕ) → Sound m n s → Sound m n (baseEdge m b s j)
-  base-keeps s j h = sound-base m n b s j h
-
-  base-lens : (s : Mem) (j : ℕ) → baseEdge m b s j .elen ≡ s .elen
-  base-lens s j = frame-base m b s j .elen
-
   still-keeps : (s : Mem) (j : ℕ) → Sound m n s → Sound m n (still s j)
   unfolding still
   still-keeps s j h = h
@@ -210,51 +202,27 @@ module _ (m n b : ℕ) (hb : b < n) where
   unfolding still
   still-lens s j = refl
 
-  pub base-start : (w : List ℕ) (d : List Float) → Room m n w d → Sound m n (view m n w d)
-      → Pass (baseEdge m b) m n b w d w d (getD w (7 * m + 4 * n + b) 0) (2 * m + b) (getD w (5 * m + (2 * m + b)) 0) 1 (walkBase m b (view m n w d))
-  unfolding walkBase
-  base-start = pass-start (baseEdge m b) m n b hb base-keeps base-lens
-
   pub prune-start : (w : List ℕ) (d : List Float) → Room m n w d → Sound m n (view m n w d)
       → Pass still m n b w d w d (getD w (7 * m + 4 * n + b) 0) (2 * m + b) (getD w (5 * m + (2 * m + b)) 0) 1 (pruned m b (view m n w d))
   unfolding pruned
   prune-start = pass-start still m n b hb still-keeps still-lens
 
-  pub sound-walk-base : (s : Mem) → Sound m n s → Sound m n (walkBase m b s)
-  unfolding walkBase
-  sound-walk-base = sound-through (baseEdge m b) m n b hb base-keeps base-lens
-
   pub sound-pruned : (s : Mem) → Sound m n s → Sound m n (pruned m b s)
   unfolding pruned
   sound-pruned = sound-through still m n b hb still-keeps still-lens
-
-  pub less-walk-base : (s : Mem) (y : ℕ) → getD (walkBase m b s .elen) y 0 ≤ getD (s .elen) y 0
-  unfolding walkBase
-  less-walk-base = less-through (baseEdge m b) m n b hb base-keeps base-lens
 
   pub less-pruned : (s : Mem) (y : ℕ) → getD (pruned m b s .elen) y 0 ≤ getD (s .elen) y 0
   unfolding pruned
   less-pruned = less-through still m n b hb still-keeps still-lens
 
   module _ (w₀ : List ℕ) (d₀ : List Float) (w : List ℕ) (d : List Float) (l p x i : ℕ) (goal : Mem) where
-    pub base-slots : Pass (baseEdge m b) m n b w₀ d₀ w d l p x i goal → i < l → Slots m n b p x (view m n w d)
-    base-slots = pass-slots (baseEdge m b) m n b hb base-keeps base-lens w₀ d₀ w d l p x i goal
-
     pub prune-slots : Pass still m n b w₀ d₀ w d l p x i goal → i < l → Slots m n b p x (view m n w d)
     prune-slots = pass-slots still m n b hb still-keeps still-lens w₀ d₀ w d l p x i goal
-
-    pub base-turned : Pass (baseEdge m b) m n b w₀ d₀ w d l p x i goal → i < l → (w' : List ℕ) (d' : List Float) (q : ℕ)
-        → Passes m n w' d' (passed (baseEdge m b) m b (view m n w d) p x) (kept m (view m n w d) p x) q → length w' ≡ length w → length d' ≡ length d
-        → Pass (baseEdge m b) m n b w₀ d₀ w' d' l q (getD w (5 * m + x) 0) (i + 1) goal
-    base-turned = pass-turn (baseEdge m b) m n b hb base-keeps base-lens w₀ d₀ w d l p x i goal
 
     pub prune-turned : Pass still m n b w₀ d₀ w d l p x i goal → i < l → (w' : List ℕ) (d' : List Float) (q : ℕ)
         → Passes m n w' d' (passed still m b (view m n w d) p x) (kept m (view m n w d) p x) q → length w' ≡ length w → length d' ≡ length d
         → Pass still m n b w₀ d₀ w' d' l q (getD w (5 * m + x) 0) (i + 1) goal
     prune-turned = pass-turn still m n b hb still-keeps still-lens w₀ d₀ w d l p x i goal
-
-    pub base-end : Pass (baseEdge m b) m n b w₀ d₀ w d l p x i goal → l ≤ i → Does m n w d goal
-    base-end = pass-end (baseEdge m b) m n b hb base-keeps base-lens w₀ d₀ w d l p x i goal
 
     pub prune-end : Pass still m n b w₀ d₀ w d l p x i goal → l ≤ i → Does m n w d goal
     prune-end = pass-end still m n b hb still-keeps still-lens w₀ d₀ w d l p x i goal

@@ -9,7 +9,7 @@ use lib.Dec.{T}
 use lib.Ieee.{nan, binary32, fits, Float}
 use lib.ListN.{length, getD, set, length-set}
 use lib.Seq.{getD-set-same, getD-set-other}
-use Rattle.merge.specs.Mem.{Mem, Sound, total, weight-set, first-set, second-set, enext-set, rnext-set, mark-set, size-set, elen-set, rlen-set, count-set, diff-set}
+use Rattle.merge.specs.Mem.{Mem, Sound, total, weight-set, first-set, second-set, enext-set, rnext-set, stamp-set, size-set, elen-set, rlen-set, count-set, diff-set}
 
 pub eq-or-ne : (m n : ℕ) → (m ≡ n) ⊎ (m ≡ n → ⊥)
 eq-or-ne m n = by-cases (ℕ-discrete m n) inl inr
@@ -30,7 +30,7 @@ module _ (m n : ℕ) (s : Mem) (h : Sound m n s) where
     l-second = h .l-second;
     l-enext = h .l-enext;
     l-rnext = h .l-rnext;
-    l-mark = h .l-mark;
+    l-stamp = h .l-stamp;
     l-size = h .l-size;
     l-elen = h .l-elen;
     l-rlen = h .l-rlen;
@@ -53,7 +53,7 @@ module _ (m n : ℕ) (s : Mem) (h : Sound m n s) where
     l-second = h .l-second;
     l-enext = h .l-enext;
     l-rnext = h .l-rnext;
-    l-mark = h .l-mark;
+    l-stamp = h .l-stamp;
     l-size = h .l-size;
     l-elen = h .l-elen;
     l-rlen = h .l-rlen;
@@ -76,7 +76,7 @@ module _ (m n : ℕ) (s : Mem) (h : Sound m n s) where
     l-second = length-set (s .second) j x ∙ h .l-second;
     l-enext = h .l-enext;
     l-rnext = h .l-rnext;
-    l-mark = h .l-mark;
+    l-stamp = h .l-stamp;
     l-size = h .l-size;
     l-elen = h .l-elen;
     l-rlen = h .l-rlen;
@@ -99,7 +99,7 @@ module _ (m n : ℕ) (s : Mem) (h : Sound m n s) where
     l-second = h .l-second;
     l-enext = length-set (s .enext) j x ∙ h .l-enext;
     l-rnext = h .l-rnext;
-    l-mark = h .l-mark;
+    l-stamp = h .l-stamp;
     l-size = h .l-size;
     l-elen = h .l-elen;
     l-rlen = h .l-rlen;
@@ -122,7 +122,7 @@ module _ (m n : ℕ) (s : Mem) (h : Sound m n s) where
     l-second = h .l-second;
     l-enext = h .l-enext;
     l-rnext = length-set (s .rnext) j x ∙ h .l-rnext;
-    l-mark = h .l-mark;
+    l-stamp = h .l-stamp;
     l-size = h .l-size;
     l-elen = h .l-elen;
     l-rlen = h .l-rlen;
@@ -137,15 +137,15 @@ module _ (m n : ℕ) (s : Mem) (h : Sound m n s) where
     light = h .light;
   }
 
-  pub sound-mark : (j : ℕ) (x : ℕ) → Sound m n (mark-set s j x)
-  unfolding mark-set
-  sound-mark j x = record {
+  pub sound-stamp : (j : ℕ) (x : ℕ) → Sound m n (stamp-set s j x)
+  unfolding stamp-set
+  sound-stamp j x = record {
     l-weight = h .l-weight;
     l-first = h .l-first;
     l-second = h .l-second;
     l-enext = h .l-enext;
     l-rnext = h .l-rnext;
-    l-mark = length-set (s .mark) j x ∙ h .l-mark;
+    l-stamp = length-set (s .stamp) j x ∙ h .l-stamp;
     l-size = h .l-size;
     l-elen = h .l-elen;
     l-rlen = h .l-rlen;
@@ -168,7 +168,7 @@ module _ (m n : ℕ) (s : Mem) (h : Sound m n s) where
     l-second = h .l-second;
     l-enext = h .l-enext;
     l-rnext = h .l-rnext;
-    l-mark = h .l-mark;
+    l-stamp = h .l-stamp;
     l-size = length-set (s .size) j x ∙ h .l-size;
     l-elen = h .l-elen;
     l-rlen = h .l-rlen;
@@ -191,7 +191,7 @@ module _ (m n : ℕ) (s : Mem) (h : Sound m n s) where
     l-second = h .l-second;
     l-enext = h .l-enext;
     l-rnext = h .l-rnext;
-    l-mark = h .l-mark;
+    l-stamp = h .l-stamp;
     l-size = h .l-size;
     l-elen = length-set (s .elen) j x ∙ h .l-elen;
     l-rlen = h .l-rlen;
@@ -214,7 +214,7 @@ module _ (m n : ℕ) (s : Mem) (h : Sound m n s) where
     l-second = h .l-second;
     l-enext = h .l-enext;
     l-rnext = h .l-rnext;
-    l-mark = h .l-mark;
+    l-stamp = h .l-stamp;
     l-size = h .l-size;
     l-elen = h .l-elen;
     l-rlen = length-set (s .rlen) j x ∙ h .l-rlen;
@@ -237,7 +237,7 @@ module _ (m n : ℕ) (s : Mem) (h : Sound m n s) where
     l-second = h .l-second;
     l-enext = h .l-enext;
     l-rnext = h .l-rnext;
-    l-mark = h .l-mark;
+    l-stamp = h .l-stamp;
     l-size = h .l-size;
     l-elen = h .l-elen;
     l-rlen = h .l-rlen;
@@ -260,7 +260,7 @@ module _ (m n : ℕ) (s : Mem) (h : Sound m n s) where
     l-second = h .l-second;
     l-enext = h .l-enext;
     l-rnext = h .l-rnext;
-    l-mark = h .l-mark;
+    l-stamp = h .l-stamp;
     l-size = h .l-size;
     l-elen = h .l-elen;
     l-rlen = h .l-rlen;

@@ -8,7 +8,7 @@ use lib.Seq.{drop-drop}
 use Rattle.arithmetic.specs.Seg.{seg}
 use Rattle.arithmetic.proofs.SegLaws.{getD-seg, seg-set-in, seg-set-out}
 use Rattle.memory.specs.Tree.{Weighed}
-use Rattle.merge.specs.Mem.{view, weight-set, first-set, second-set, enext-set, rnext-set, mark-set, size-set, elen-set, rlen-set, count-set, diff-set}
+use Rattle.merge.specs.Mem.{view, weight-set, first-set, second-set, enext-set, rnext-set, stamp-set, size-set, elen-set, rlen-set, count-set, diff-set}
 use lib.Ieee.{Float}
 
 module _ (m n : ℕ) (w : List ℕ) (d : List Float) where
@@ -32,9 +32,9 @@ module _ (m n : ℕ) (w : List ℕ) (d : List Float) where
   unfolding view
   rnext-at j h = getD-seg w (7 * m + n) (n) j 0 h
 
-  pub mark-at : (j : ℕ) → j < n → getD (view m n w d .mark) j 0 ≡ getD w (7 * m + 2 * n + j) 0
+  pub stamp-at : (j : ℕ) → j < n → getD (view m n w d .stamp) j 0 ≡ getD w (7 * m + 2 * n + j) 0
   unfolding view
-  mark-at j h = getD-seg w (7 * m + 2 * n) (n) j 0 h
+  stamp-at j h = getD-seg w (7 * m + 2 * n) (n) j 0 h
 
   pub size-at : (j : ℕ) → j < n → getD (view m n w d .size) j 0 ≡ getD w (7 * m + 3 * n + j) 0
   unfolding view
@@ -60,7 +60,7 @@ module _ (m n : ℕ) (w : List ℕ) (d : List Float) where
     second = seg-set-out w (j) x (4 * m) (m) (λ p q. omega arith) i;
     enext = seg-set-out w (j) x (5 * m) (2 * m + n) (λ p q. omega arith) i;
     rnext = seg-set-out w (j) x (7 * m + n) (n) (λ p q. omega arith) i;
-    mark = seg-set-out w (j) x (7 * m + 2 * n) (n) (λ p q. omega arith) i;
+    stamp = seg-set-out w (j) x (7 * m + 2 * n) (n) (λ p q. omega arith) i;
     size = seg-set-out w (j) x (7 * m + 3 * n) (n) (λ p q. omega arith) i;
     elen = seg-set-out w (j) x (7 * m + 4 * n) (n) (λ p q. omega arith) i;
     rlen = seg-set-out w (j) x (7 * m + 5 * n) (n) (λ p q. omega arith) i;
@@ -76,7 +76,7 @@ module _ (m n : ℕ) (w : List ℕ) (d : List Float) where
     second = seg-set-out w (3 * m + j) x (4 * m) (m) (λ p q. omega arith) i;
     enext = seg-set-out w (3 * m + j) x (5 * m) (2 * m + n) (λ p q. omega arith) i;
     rnext = seg-set-out w (3 * m + j) x (7 * m + n) (n) (λ p q. omega arith) i;
-    mark = seg-set-out w (3 * m + j) x (7 * m + 2 * n) (n) (λ p q. omega arith) i;
+    stamp = seg-set-out w (3 * m + j) x (7 * m + 2 * n) (n) (λ p q. omega arith) i;
     size = seg-set-out w (3 * m + j) x (7 * m + 3 * n) (n) (λ p q. omega arith) i;
     elen = seg-set-out w (3 * m + j) x (7 * m + 4 * n) (n) (λ p q. omega arith) i;
     rlen = seg-set-out w (3 * m + j) x (7 * m + 5 * n) (n) (λ p q. omega arith) i;
@@ -92,7 +92,7 @@ module _ (m n : ℕ) (w : List ℕ) (d : List Float) where
     second = seg-set-in w (4 * m) (m) j x h (omega arith) i;
     enext = seg-set-out w (4 * m + j) x (5 * m) (2 * m + n) (λ p q. omega arith) i;
     rnext = seg-set-out w (4 * m + j) x (7 * m + n) (n) (λ p q. omega arith) i;
-    mark = seg-set-out w (4 * m + j) x (7 * m + 2 * n) (n) (λ p q. omega arith) i;
+    stamp = seg-set-out w (4 * m + j) x (7 * m + 2 * n) (n) (λ p q. omega arith) i;
     size = seg-set-out w (4 * m + j) x (7 * m + 3 * n) (n) (λ p q. omega arith) i;
     elen = seg-set-out w (4 * m + j) x (7 * m + 4 * n) (n) (λ p q. omega arith) i;
     rlen = seg-set-out w (4 * m + j) x (7 * m + 5 * n) (n) (λ p q. omega arith) i;
@@ -108,7 +108,7 @@ module _ (m n : ℕ) (w : List ℕ) (d : List Float) where
     second = seg-set-out w (5 * m + j) x (4 * m) (m) (λ p q. omega arith) i;
     enext = seg-set-in w (5 * m) (2 * m + n) j x h (omega arith) i;
     rnext = seg-set-out w (5 * m + j) x (7 * m + n) (n) (λ p q. omega arith) i;
-    mark = seg-set-out w (5 * m + j) x (7 * m + 2 * n) (n) (λ p q. omega arith) i;
+    stamp = seg-set-out w (5 * m + j) x (7 * m + 2 * n) (n) (λ p q. omega arith) i;
     size = seg-set-out w (5 * m + j) x (7 * m + 3 * n) (n) (λ p q. omega arith) i;
     elen = seg-set-out w (5 * m + j) x (7 * m + 4 * n) (n) (λ p q. omega arith) i;
     rlen = seg-set-out w (5 * m + j) x (7 * m + 5 * n) (n) (λ p q. omega arith) i;
@@ -124,7 +124,7 @@ module _ (m n : ℕ) (w : List ℕ) (d : List Float) where
     second = seg-set-out w (7 * m + n + j) x (4 * m) (m) (λ p q. omega arith) i;
     enext = seg-set-out w (7 * m + n + j) x (5 * m) (2 * m + n) (λ p q. omega arith) i;
     rnext = seg-set-in w (7 * m + n) (n) j x h (omega arith) i;
-    mark = seg-set-out w (7 * m + n + j) x (7 * m + 2 * n) (n) (λ p q. omega arith) i;
+    stamp = seg-set-out w (7 * m + n + j) x (7 * m + 2 * n) (n) (λ p q. omega arith) i;
     size = seg-set-out w (7 * m + n + j) x (7 * m + 3 * n) (n) (λ p q. omega arith) i;
     elen = seg-set-out w (7 * m + n + j) x (7 * m + 4 * n) (n) (λ p q. omega arith) i;
     rlen = seg-set-out w (7 * m + n + j) x (7 * m + 5 * n) (n) (λ p q. omega arith) i;
@@ -132,15 +132,15 @@ module _ (m n : ℕ) (w : List ℕ) (d : List Float) where
     diff = d;
   }
 
-  pub mark-put : (j x : ℕ) → j < n → 7 * m + 7 * n ≤ length w → view m n (set w (7 * m + 2 * n + j) x) d ≡ mark-set (view m n w d) j x
-  unfolding view mark-set
-  mark-put j x h r = λ i. record {
+  pub stamp-put : (j x : ℕ) → j < n → 7 * m + 7 * n ≤ length w → view m n (set w (7 * m + 2 * n + j) x) d ≡ stamp-set (view m n w d) j x
+  unfolding view stamp-set
+  stamp-put j x h r = λ i. record {
     weight = seg-set-out w (7 * m + 2 * n + j) x (0) (m) (λ p q. omega arith) i;
     first = seg-set-out w (7 * m + 2 * n + j) x (3 * m) (m) (λ p q. omega arith) i;
     second = seg-set-out w (7 * m + 2 * n + j) x (4 * m) (m) (λ p q. omega arith) i;
     enext = seg-set-out w (7 * m + 2 * n + j) x (5 * m) (2 * m + n) (λ p q. omega arith) i;
     rnext = seg-set-out w (7 * m + 2 * n + j) x (7 * m + n) (n) (λ p q. omega arith) i;
-    mark = seg-set-in w (7 * m + 2 * n) (n) j x h (omega arith) i;
+    stamp = seg-set-in w (7 * m + 2 * n) (n) j x h (omega arith) i;
     size = seg-set-out w (7 * m + 2 * n + j) x (7 * m + 3 * n) (n) (λ p q. omega arith) i;
     elen = seg-set-out w (7 * m + 2 * n + j) x (7 * m + 4 * n) (n) (λ p q. omega arith) i;
     rlen = seg-set-out w (7 * m + 2 * n + j) x (7 * m + 5 * n) (n) (λ p q. omega arith) i;
@@ -156,7 +156,7 @@ module _ (m n : ℕ) (w : List ℕ) (d : List Float) where
     second = seg-set-out w (7 * m + 3 * n + j) x (4 * m) (m) (λ p q. omega arith) i;
     enext = seg-set-out w (7 * m + 3 * n + j) x (5 * m) (2 * m + n) (λ p q. omega arith) i;
     rnext = seg-set-out w (7 * m + 3 * n + j) x (7 * m + n) (n) (λ p q. omega arith) i;
-    mark = seg-set-out w (7 * m + 3 * n + j) x (7 * m + 2 * n) (n) (λ p q. omega arith) i;
+    stamp = seg-set-out w (7 * m + 3 * n + j) x (7 * m + 2 * n) (n) (λ p q. omega arith) i;
     size = seg-set-in w (7 * m + 3 * n) (n) j x h (omega arith) i;
     elen = seg-set-out w (7 * m + 3 * n + j) x (7 * m + 4 * n) (n) (λ p q. omega arith) i;
     rlen = seg-set-out w (7 * m + 3 * n + j) x (7 * m + 5 * n) (n) (λ p q. omega arith) i;
@@ -172,7 +172,7 @@ module _ (m n : ℕ) (w : List ℕ) (d : List Float) where
     second = seg-set-out w (7 * m + 4 * n + j) x (4 * m) (m) (λ p q. omega arith) i;
     enext = seg-set-out w (7 * m + 4 * n + j) x (5 * m) (2 * m + n) (λ p q. omega arith) i;
     rnext = seg-set-out w (7 * m + 4 * n + j) x (7 * m + n) (n) (λ p q. omega arith) i;
-    mark = seg-set-out w (7 * m + 4 * n + j) x (7 * m + 2 * n) (n) (λ p q. omega arith) i;
+    stamp = seg-set-out w (7 * m + 4 * n + j) x (7 * m + 2 * n) (n) (λ p q. omega arith) i;
     size = seg-set-out w (7 * m + 4 * n + j) x (7 * m + 3 * n) (n) (λ p q. omega arith) i;
     elen = seg-set-in w (7 * m + 4 * n) (n) j x h (omega arith) i;
     rlen = seg-set-out w (7 * m + 4 * n + j) x (7 * m + 5 * n) (n) (λ p q. omega arith) i;
@@ -188,7 +188,7 @@ module _ (m n : ℕ) (w : List ℕ) (d : List Float) where
     second = seg-set-out w (7 * m + 5 * n + j) x (4 * m) (m) (λ p q. omega arith) i;
     enext = seg-set-out w (7 * m + 5 * n + j) x (5 * m) (2 * m + n) (λ p q. omega arith) i;
     rnext = seg-set-out w (7 * m + 5 * n + j) x (7 * m + n) (n) (λ p q. omega arith) i;
-    mark = seg-set-out w (7 * m + 5 * n + j) x (7 * m + 2 * n) (n) (λ p q. omega arith) i;
+    stamp = seg-set-out w (7 * m + 5 * n + j) x (7 * m + 2 * n) (n) (λ p q. omega arith) i;
     size = seg-set-out w (7 * m + 5 * n + j) x (7 * m + 3 * n) (n) (λ p q. omega arith) i;
     elen = seg-set-out w (7 * m + 5 * n + j) x (7 * m + 4 * n) (n) (λ p q. omega arith) i;
     rlen = seg-set-in w (7 * m + 5 * n) (n) j x h (omega arith) i;
@@ -204,7 +204,7 @@ module _ (m n : ℕ) (w : List ℕ) (d : List Float) where
     second = seg-set-out w (7 * m + 6 * n + j) x (4 * m) (m) (λ p q. omega arith) i;
     enext = seg-set-out w (7 * m + 6 * n + j) x (5 * m) (2 * m + n) (λ p q. omega arith) i;
     rnext = seg-set-out w (7 * m + 6 * n + j) x (7 * m + n) (n) (λ p q. omega arith) i;
-    mark = seg-set-out w (7 * m + 6 * n + j) x (7 * m + 2 * n) (n) (λ p q. omega arith) i;
+    stamp = seg-set-out w (7 * m + 6 * n + j) x (7 * m + 2 * n) (n) (λ p q. omega arith) i;
     size = seg-set-out w (7 * m + 6 * n + j) x (7 * m + 3 * n) (n) (λ p q. omega arith) i;
     elen = seg-set-out w (7 * m + 6 * n + j) x (7 * m + 4 * n) (n) (λ p q. omega arith) i;
     rlen = seg-set-out w (7 * m + 6 * n + j) x (7 * m + 5 * n) (n) (λ p q. omega arith) i;
@@ -225,7 +225,7 @@ view-weighed m n u w d h = λ i. record {
   second = high (4 * m) (m) (omega arith) i;
   enext = high (5 * m) (2 * m + n) (omega arith) i;
   rnext = high (7 * m + n) (n) (omega arith) i;
-  mark = high (7 * m + 2 * n) (n) (omega arith) i;
+  stamp = high (7 * m + 2 * n) (n) (omega arith) i;
   size = high (7 * m + 3 * n) (n) (omega arith) i;
   elen = high (7 * m + 4 * n) (n) (omega arith) i;
   rlen = high (7 * m + 5 * n) (n) (omega arith) i;

@@ -1,20 +1,20 @@
 -- One turn of each walk along a chain, over plain values. Assumes nothing.
 use mathlib.Core.Path.{_≡_, refl, sym, ap, _∙_, subst}
-use mathlib.Core.Bool.{true, false, cond}
+use mathlib.Core.Bool.{Bool, true, false, cond}
 use mathlib.Core.List.{List}
 use mathlib.Core.Option.{Option, none}
 use Prim.Native.Nat.{ℕ, zero, suc, _+_, _*_, _-_, _/_, _≤_, _<_}
 use native.Mathlib.Omega.{arith}
 use lib.ListN.{length, getD, set, length-set}
-use borrow.Author.Tests.{le-leb, lt-leb}
+use borrow.Author.Tests.{le-leb, lt-leb, le-ltb, lt-ltb}
 use Rattle.memory.proofs.tree.TreeLaws.{tree-set}
 use Rattle.merge.specs.Mem.{Mem, view, Room, Sound, count-set}
-use Rattle.merge.specs.Steps.{movedEdge, walkMoved, movedAll, accepts, walkRaise}
+use Rattle.merge.specs.Steps.{joinsAt, hunt, huntAll, mate, takeEdge, walkMoved, movedAll, accepts, walkRaise}
 use Rattle.merge.specs.Does.{Does, Raised, Gains}
 use Rattle.merge.proofs.merge.View.{enext-at, rnext-at, count-at, elen-at, rlen-at, count-put}
 use Rattle.merge.proofs.merge.Leaf.{room-of}
 use Rattle.merge.proofs.merge.SoundSet.{sound-count}
-use Rattle.merge.proofs.merge.SoundSteps.{sound-moved}
+use Rattle.merge.proofs.merge.SoundSteps.{sound-take}
 use lib.Ieee.{Float}
 
 -- ---- along a chain of edges
@@ -69,7 +69,7 @@ abbrev pub alongMoved : ℕ → ℕ → ℕ → ℕ → ℕ → Mem → ℕ → 
 alongMoved m b v g k s x = walkMoved k m b v g s x
 
 module _ (m n b v g : ℕ) (ok : Gains n b v g) where
-  moved-law : (k : ℕ) (s : Mem) (x : ℕ) → alongMoved m b v g (suc k) s x ≡ alongMoved m b v g k (movedEdge m b v g s (x / 2)) (getD (s .enext) x 0)
+  moved-law : (k : ℕ) (s : Mem) (x : ℕ) → alongMoved m b v g (suc k) s x ≡ alongMoved m b v g k (takeEdge m b v g s (x / 2)) (getD (s .enext) x 0)
   unfolding walkMoved
   moved-law k s x = refl
 
@@ -80,14 +80,14 @@ module _ (m n b v g : ℕ) (ok : Gains n b v g) where
   pub moved-start : (w : List ℕ) (d : List Float) → Room m n w d → Sound m n (view m n w d)
       → Walk m n (alongMoved m b v g) w d w d (getD w (7 * m + 4 * n + v) 0) (getD w (5 * m + (2 * m + v)) 0) 1 (movedAll m b v g (view m n w d))
   unfolding movedAll
-  moved-start w d r h = start-of m n (movedEdge m b v g) (alongMoved m b v g) moved-law moved-stop (λ s f h. sound-moved m n b v g s f h ok) w d v r h (ok .v-in)
+  moved-start w d r h = start-of m n (takeEdge m b v g) (alongMoved m b v g) moved-law moved-stop (λ s f h. sound-take m n b v g s f h ok) w d v r h (ok .v-in)
 
   pub moved-turned : (w₀ : List ℕ) (d₀ : List Float) (w : List ℕ) (d : List Float) (w' : List ℕ) (d' : List Float) (l x i : ℕ) (goal : Mem) → Walk m n (alongMoved m b v g) w₀ d₀ w d l x i goal → i < l
-      → Does m n w' d' (movedEdge m b v g (view m n w d) (x / 2)) → length w' ≡ length w → length d' ≡ length d → Walk m n (alongMoved m b v g) w₀ d₀ w' d' l (getD w (5 * m + x) 0) (i + 1) goal
-  moved-turned = turn-of m n (movedEdge m b v g) (alongMoved m b v g) moved-law moved-stop (λ s f h. sound-moved m n b v g s f h ok)
+      → Does m n w' d' (takeEdge m b v g (view m n w d) (x / 2)) → length w' ≡ length w → length d' ≡ length d → Walk m n (alongMoved m b v g) w₀ d₀ w' d' l (getD w (5 * m + x) 0) (i + 1) goal
+  moved-turned = turn-of m n (takeEdge m b v g) (alongMoved m b v g) moved-law moved-stop (λ s f h. sound-take m n b v g s f h ok)
 
   pub moved-end : (w₀ : List ℕ) (d₀ : List Float) (w : List ℕ) (d : List Float) (l x i : ℕ) (goal : Mem) → Walk m n (alongMoved m b v g) w₀ d₀ w d l x i goal → l ≤ i → Does m n w d goal
-  moved-end = end-of m n (movedEdge m b v g) (alongMoved m b v g) moved-law moved-stop (λ s f h. sound-moved m n b v g s f h ok)
+  moved-end = end-of m n (takeEdge m b v g) (alongMoved m b v g) moved-law moved-stop (λ s f h. sound-take m n b v g s f h ok)
 
 -- ---- along a chain of regions
 pub record Raise (m n g : ℕ) (w₀ : List ℕ) (w : List ℕ) (d : List Float) (l x i : ℕ) (goal : Option Mem) : Type 0 where
@@ -147,3 +147,48 @@ module _ (m n g : ℕ) (hg : g ≤ 2000) where
     unfolding walkRaise Raised
     raise-end h = let z : l - i ≡ 0 = omega arith in
         subst (λ (o : Option Mem). Raised m n w d o true) (ap (λ (y : ℕ). walkRaise y g (view m n w d) x) (sym z) ∙ k .left) (refl, record { tables = refl; tree = k .room .tree })
+
+-- ---- along a chain, for the edge that joins two nodes
+pub record Hunting (m n b c : ℕ) (w : List ℕ) (d : List Float) (l x i goal : ℕ) : Type 0 where
+  pub x-in : x < 2 * m + n
+  pub some-i : 1 ≤ i
+  pub left : hunt (l - i) m b c (view m n w d) x ≡ goal
+
+module _ (m n b c : ℕ) (w : List ℕ) (d : List Float) (h : Sound m n (view m n w d)) where
+  pub hunt-start : (v : ℕ) → v < n → Hunting m n b c w d (getD w (7 * m + 4 * n + v) 0) (getD w (5 * m + (2 * m + v)) 0) 1 (huntAll m b c (view m n w d) v)
+  unfolding huntAll
+  hunt-start v lt = record {
+    x-in = omega (arith, enext-at m n w d (2 * m + v) (omega arith), h .enext-in (2 * m + v) (omega arith));
+    some-i = omega arith;
+    left = rw (elen-at m n w d v lt, enext-at m n w d (2 * m + v) (omega arith)) refl;
+  }
+
+  module _ (l x i goal : ℕ) (k : Hunting m n b c w d l x i goal) where
+    module _ (lt : i < l) where
+      hunt-step : hunt (l - i) m b c (view m n w d) x ≡ cond (joinsAt m b c (view m n w d) (x / 2)) (x / 2) (hunt (l - (i + 1)) m b c (view m n w d) (getD (view m n w d .enext) x 0))
+      unfolding hunt
+      hunt-step = let z : l - i ≡ suc (l - (i + 1)) = omega arith in rw z refl
+
+      pub hunt-found : (t : Bool) → t ≡ joinsAt m b c (view m n w d) (x / 2) → t ≡ true → x / 2 ≡ goal
+      hunt-found t e y = sym (hunt-step ∙ (rw (sym e ∙ y) refl)) ∙ k .left
+
+      pub hunt-turn : (t : Bool) → t ≡ joinsAt m b c (view m n w d) (x / 2) → t ≡ false → Hunting m n b c w d l (getD w (5 * m + x) 0) (i + 1) goal
+      hunt-turn t e y = record {
+        x-in = omega (arith, enext-at m n w d x (k .x-in), h .enext-in x (k .x-in));
+        some-i = omega arith;
+        left = ap (hunt (l - (i + 1)) m b c (view m n w d)) (sym (enext-at m n w d x (k .x-in))) ∙ sym (hunt-step ∙ (rw (sym e ∙ y) refl)) ∙ k .left;
+      }
+
+    pub hunt-end : l ≤ i → m ≡ goal
+    unfolding hunt
+    hunt-end le = let z : l - i ≡ 0 = omega arith in ap (λ (y : ℕ). hunt y m b c (view m n w d) x) (sym z) ∙ k .left
+
+-- ---- along the shorter of two chains
+module _ (m n b c : ℕ) (w : List ℕ) (d : List Float) (hb : b < n) (hc : c < n) (r : ℕ) where
+  pub mate-first : getD w (7 * m + 4 * n + b) 0 < getD w (7 * m + 4 * n + c) 0 → r ≡ huntAll m b c (view m n w d) b → r ≡ mate m b (view m n w d) c
+  unfolding mate
+  mate-first p e = rw (elen-at m n w d b hb, elen-at m n w d c hc, lt-ltb (getD w (7 * m + 4 * n + b) 0) (getD w (7 * m + 4 * n + c) 0) p) e
+
+  pub mate-second : getD w (7 * m + 4 * n + c) 0 ≤ getD w (7 * m + 4 * n + b) 0 → r ≡ huntAll m b c (view m n w d) c → r ≡ mate m b (view m n w d) c
+  unfolding mate
+  mate-second p e = rw (elen-at m n w d b hb, elen-at m n w d c hc, le-ltb (getD w (7 * m + 4 * n + b) 0) (getD w (7 * m + 4 * n + c) 0) p) e

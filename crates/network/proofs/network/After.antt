@@ -57,9 +57,9 @@ module _ (m b v : ℕ) (s : Mem) where
   unfolding edgeOf grow splice enext-set rnext-set size-set elen-set rlen-set
   after-edges j = refl
 
-  pub after-mark : after .mark ≡ s .mark
+  pub after-stamp : after .stamp ≡ s .stamp
   unfolding grow splice enext-set rnext-set size-set elen-set rlen-set
-  after-mark = refl
+  after-stamp = refl
 
   pub after-count : after .count ≡ s .count
   unfolding grow splice enext-set rnext-set size-set elen-set rlen-set

@@ -13,7 +13,7 @@ use borrow.Author.Tests.{eqb-true, eqb-false, eq-eqb, ne-eqb, ltb-true, ltb-fals
 use Rattle.network.specs.Network.{Edge, Link, link, find, absorb, absent, hand, turn, turnIf, adjust, shifted, isZero}
 use Rattle.arithmetic.specs.Rounding.{scale}
 use Rattle.network.proofs.SimpleLaws.{Turned}
-use Rattle.merge.specs.Mem.{Mem, Sound, mark-set}
+use Rattle.merge.specs.Mem.{Mem, Sound, stamp-set}
 use Rattle.merge.specs.Steps.{unbias, mate, absorbAt, attachAt, joinEdge, shift, movedEdge}
 use Rattle.network.specs.Net.{rows, edgeOf, Like}
 use Rattle.merge.proofs.merge.Bias.{lt-or-le, unbias-up, unbias-down}
@@ -78,8 +78,8 @@ mid m b v P Q done j =
 
 pub record Middle (m b v : ℕ) (P Q : ℕ → Edge) (done : ℕ → Bool) (s : Mem) : Type 0 where
   pub like : (j : ℕ) → j < m → Like (edgeOf s j) (mid m b v P Q done j)
-  pub marks : (j : ℕ) → j < m → P j .live ≡ true → P j .first ≡ b → getD (s .mark) (P j .second) 0 ≡ j
-  pub new-marks : (j : ℕ) → j < m → P j .live ≡ true → P j .first ≡ v → done j ≡ true → find (rows P 0 m) b (P j .second) ≡ none → getD (s .mark) (P j .second) 0 ≡ j
+  pub marks : (j : ℕ) → j < m → P j .live ≡ true → P j .first ≡ b → getD (s .stamp) (P j .second) 0 ≡ j
+  pub new-marks : (j : ℕ) → j < m → P j .live ≡ true → P j .first ≡ v → done j ≡ true → find (rows P 0 m) b (P j .second) ≡ none → getD (s .stamp) (P j .second) 0 ≡ j
 
 unfoldable pub also : (ℕ → Bool) → ℕ → ℕ → Bool
 also done f j = done j || eqb f j
@@ -372,7 +372,7 @@ module _ (m b v g : ℕ) (P Q : ℕ → Edge) (S : Setting m b v g P Q) where
             (eq-or-ne j f);
       }
         where
-          same-marks : (c : ℕ) → getD (absorbAt s q f (P f .diff) .mark) c 0 ≡ getD (s .mark) c 0
+          same-marks : (c : ℕ) → getD (absorbAt s q f (P f .diff) .stamp) c 0 ≡ getD (s .stamp) c 0
           same-marks c = unfold absorbAt Rattle.merge.specs.Mem.weight-set Rattle.merge.specs.Mem.diff-set in refl
 
     -- the base has none
@@ -382,7 +382,7 @@ module _ (m b v g : ℕ) (P Q : ℕ → Edge) (S : Setting m b v g P Q) where
           let mb : mid m b v P Q done j ≡ absorb (find (rows (only P done) 0 m) v (P j .second)) (P j) = mid-base done j (h .first) in
           let ml : mid m b v P Q done j .live ≡ true = ap (λ (x : Edge). x .live) mb ∙ absorb-live _ (P j) ∙ h .live in
           let w : Words s j (mid m b v P Q done j) = words s j (mid m b v P Q done j) (I .like j hj .whole ml) ml in
-          let mk : getD (s .mark) c₀ 0 ≡ j = ap (λ (i : ℕ). getD (s .mark) i 0) (sym (h .second)) ∙ I .marks j hj (h .live) (h .first) in
+          let mk : getD (s .stamp) c₀ 0 ≡ j = ap (λ (i : ℕ). getD (s .stamp) i 0) (sym (h .second)) ∙ I .marks j hj (h .live) (h .first) in
           let is : mate m b s c₀ ≡ j = mate-of m b s c₀ j mk hj (w .some)
           (w .first-is ∙ ap (λ (x : Edge). x .first) mb ∙ absorb-first _ (P j) ∙ h .first) (w .second-is ∙ ap (λ (x : Edge). x .second) mb ∙ absorb-second _ (P j) ∙ h .second) in
           omega arith
@@ -399,13 +399,13 @@ module _ (m b v g : ℕ) (P Q : ℕ → Edge) (S : Setting m b v g P Q) where
           ∙ (λ i. record { num = sym (S .number f) i; live = (fl ∙ sym pl) i; first = b; second = c₀; weight = (fw .weight-is ∙ before f lt l e .weigh) i; diff = P f .diff })
           ∙ sym (mid-moved (also done f) f true e (also-new done f) ∙ (rw free refl))
 
-      mark-else : (c : ℕ) → (c ≡ c₀ → ⊥) → getD (attachAt b s f c₀ (P f .diff) .mark) c 0 ≡ getD (s .mark) c 0
-      unfolding attachAt Rattle.merge.specs.Mem.mark-set Rattle.merge.specs.Mem.diff-set Rattle.merge.specs.Mem.first-set Rattle.merge.specs.Mem.second-set
-      mark-else c ne = lib.Seq.getD-set-other (s .mark) c₀ c f 0 ne
+      mark-else : (c : ℕ) → (c ≡ c₀ → ⊥) → getD (attachAt b s f c₀ (P f .diff) .stamp) c 0 ≡ getD (s .stamp) c 0
+      unfolding attachAt Rattle.merge.specs.Mem.stamp-set Rattle.merge.specs.Mem.diff-set Rattle.merge.specs.Mem.first-set Rattle.merge.specs.Mem.second-set
+      mark-else c ne = lib.Seq.getD-set-other (s .stamp) c₀ c f 0 ne
 
-      mark-here : getD (attachAt b s f c₀ (P f .diff) .mark) c₀ 0 ≡ f
-      unfolding attachAt Rattle.merge.specs.Mem.mark-set Rattle.merge.specs.Mem.diff-set Rattle.merge.specs.Mem.first-set Rattle.merge.specs.Mem.second-set
-      mark-here = lib.Seq.getD-set-same (s .mark) c₀ f 0 (omega (arith, sound .l-mark))
+      mark-here : getD (attachAt b s f c₀ (P f .diff) .stamp) c₀ 0 ≡ f
+      unfolding attachAt Rattle.merge.specs.Mem.stamp-set Rattle.merge.specs.Mem.diff-set Rattle.merge.specs.Mem.first-set Rattle.merge.specs.Mem.second-set
+      mark-here = lib.Seq.getD-set-same (s .stamp) c₀ f 0 (omega (arith, sound .l-stamp))
 
       pub attached : Middle m b v P Q (also done f) (attachAt b s f c₀ (P f .diff))
       attached = record {
@@ -415,7 +415,7 @@ module _ (m b v g : ℕ) (P Q : ℕ → Edge) (S : Setting m b v g P Q) where
             (eq-or-ne j f);
         marks = λ j hj a c. mark-else (P j .second) (λ w. nobody j hj (record { live = a; first = c; second = w })) ∙ I .marks j hj a c;
         new-marks = λ j hj a c d k. ⊎-elim
-            (λ w. subst (λ (i : ℕ). getD (attachAt b s f c₀ (P f .diff) .mark) (P i .second) 0 ≡ i) (sym w) mark-here)
+            (λ w. subst (λ (i : ℕ). getD (attachAt b s f c₀ (P f .diff) .stamp) (P i .second) 0 ≡ i) (sym w) mark-here)
             (λ nf. mark-else (P j .second) (λ w. nf (alone v c₀ j f hj lt (record { live = a; first = c; second = w }) me)) ∙ I .new-marks j hj a c (sym (also-else done f j nf) ∙ d) k)
             (eq-or-ne j f);
       }

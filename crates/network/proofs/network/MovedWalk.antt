@@ -46,12 +46,12 @@ module _ (m b v g : ℕ) (P Q : ℕ → Edge) (S : Setting m b v g P Q) where
   none-done : (x c : ℕ) → find (rows (only P nothing) 0 m) x c ≡ none
   none-done x c = find-no (only P nothing) x c 0 m (λ j a d h. true≢false (sym (hit-only m b v g P Q S nothing x c j h .1)))
 
-  pub begin : (s : Mem) → ((j : ℕ) → j < m → Like (edgeOf s j) (Q j)) → ((j : ℕ) → j < m → Q j .live ≡ true → Q j .first ≡ b → getD (s .mark) (Q j .second) 0 ≡ j) → Middle m b v P Q nothing s
+  pub begin : (s : Mem) → ((j : ℕ) → j < m → Like (edgeOf s j) (Q j)) → ((j : ℕ) → j < m → Q j .live ≡ true → Q j .first ≡ b → getD (s .stamp) (Q j .second) 0 ≡ j) → Middle m b v P Q nothing s
   begin s like marks = record {
     like = λ j hj. go j hj (P j .live) refl (eqb b (P j .first)) refl (eqb v (P j .first)) refl;
     marks = λ j hj l e.
         let q : P j ≡ Q j = ready j hj l (λ w. S .apart (sym e ∙ w)) in
-        ap (λ (x : Edge). getD (s .mark) (x .second) 0) q ∙ marks j hj (S .alike j ∙ l) (sym (ap (λ (x : Edge). x .first) q) ∙ e);
+        ap (λ (x : Edge). getD (s .stamp) (x .second) 0) q ∙ marks j hj (S .alike j ∙ l) (sym (ap (λ (x : Edge). x .first) q) ∙ e);
     new-marks = λ j hj l e d k. absurd (true≢false (sym d));
   }
     where
@@ -138,7 +138,7 @@ module _ (m b v g : ℕ) (P Q : ℕ → Edge) (S : Setting m b v g P Q) where
 
   -- the marks at the end: each live edge from b is marked at its other end
   pub finish-marks : (s : Mem) (done : ℕ → Bool) → Middle m b v P Q done s → ((j : ℕ) → j < m → P j .live ≡ true → P j .first ≡ v → done j ≡ true)
-      → (j : ℕ) → j < m → combine (rows P 0 m) b v (P j) .live ≡ true → combine (rows P 0 m) b v (P j) .first ≡ b → getD (s .mark) (combine (rows P 0 m) b v (P j) .second) 0 ≡ j
+      → (j : ℕ) → j < m → combine (rows P 0 m) b v (P j) .live ≡ true → combine (rows P 0 m) b v (P j) .first ≡ b → getD (s .stamp) (combine (rows P 0 m) b v (P j) .second) 0 ≡ j
   unfolding combine
   finish-marks s done I all j hj = go (P j .live) refl (eqb b (P j .first)) refl (eqb v (P j .first)) refl
     where
@@ -161,12 +161,12 @@ module _ (m b v g : ℕ) (P Q : ℕ → Edge) (S : Setting m b v g P Q) where
       go : (u : Bool) → P j .live ≡ u → (x : Bool) → eqb b (P j .first) ≡ x → (y : Bool) → eqb v (P j .first) ≡ y
           → cond x (absorb (find (rows P 0 m) v (P j .second)) (P j)) (cond y (hand b (find (rows P 0 m) b (P j .second)) (P j)) (P j)) .live ≡ true
           → cond x (absorb (find (rows P 0 m) v (P j .second)) (P j)) (cond y (hand b (find (rows P 0 m) b (P j .second)) (P j)) (P j)) .first ≡ b
-          → getD (s .mark) (cond x (absorb (find (rows P 0 m) v (P j .second)) (P j)) (cond y (hand b (find (rows P 0 m) b (P j .second)) (P j)) (P j)) .second) 0 ≡ j
+          → getD (s .stamp) (cond x (absorb (find (rows P 0 m) v (P j .second)) (P j)) (cond y (hand b (find (rows P 0 m) b (P j .second)) (P j)) (P j)) .second) 0 ≡ j
       go u ue true xe y ye l e =
-          ap (λ (c : ℕ). getD (s .mark) c 0) (kept-second (find (rows P 0 m) v (P j .second))) ∙ I .marks j hj (sym (kept-live (find (rows P 0 m) v (P j .second))) ∙ l) (sym (eqb-true b (P j .first) xe))
+          ap (λ (c : ℕ). getD (s .stamp) c 0) (kept-second (find (rows P 0 m) v (P j .second))) ∙ I .marks j hj (sym (kept-live (find (rows P 0 m) v (P j .second))) ∙ l) (sym (eqb-true b (P j .first) xe))
       go u ue false xe true ye l e =
           let fv : P j .first ≡ v = sym (eqb-true v (P j .first) ye) in
           let t : (P j .live ≡ true) × (find (rows P 0 m) b (P j .second) ≡ none) = free (find (rows P 0 m) b (P j .second)) (unfold hand in l) in
           let hs : hand b (find (rows P 0 m) b (P j .second)) (P j) .second ≡ P j .second = unfold hand in refl in
-          ap (λ (c : ℕ). getD (s .mark) c 0) hs ∙ I .new-marks j hj (t .0) fv (all j hj (t .0) fv) (t .1)
+          ap (λ (c : ℕ). getD (s .stamp) c 0) hs ∙ I .new-marks j hj (t .0) fv (all j hj (t .0) fv) (t .1)
       go u ue false xe false ye l e = absurd (eqb-false b (P j .first) xe (sym e))

@@ -23,15 +23,15 @@ pub record Given (t s : Mem) : Type 0 where
   pub weight : t .weight ≡ s .weight
   pub first : t .first ≡ s .first
   pub second : t .second ≡ s .second
-  pub mark : t .mark ≡ s .mark
+  pub stamp : t .stamp ≡ s .stamp
   pub size : t .size ≡ s .size
   pub diff : t .diff ≡ s .diff
 
 pub given-refl : (s : Mem) → Given s s
-given-refl s = record { weight = refl; first = refl; second = refl; mark = refl; size = refl; diff = refl }
+given-refl s = record { weight = refl; first = refl; second = refl; stamp = refl; size = refl; diff = refl }
 
 pub given-then : (t u s : Mem) → Given t u → Given u s → Given t s
-given-then t u s a b = record { weight = a .weight ∙ b .weight; first = a .first ∙ b .first; second = a .second ∙ b .second; mark = a .mark ∙ b .mark; size = a .size ∙ b .size; diff = a .diff ∙ b .diff }
+given-then t u s a b = record { weight = a .weight ∙ b .weight; first = a .first ∙ b .first; second = a .second ∙ b .second; stamp = a .stamp ∙ b .stamp; size = a .size ∙ b .size; diff = a .diff ∙ b .diff }
 
 -- ---- slots
 pub record Slots (s t : Mem) (i k : ℕ) : Type 0 where
@@ -50,7 +50,7 @@ slots-are zero s i h = record { given = given-refl s; l-enext = refl; rnext = re
 slots-are (suc k) s i h =
     let r : Slots (enext-set s i i) (slotsFrom k (enext-set s i i) (i + 1)) (i + 1) k = slots-are k (enext-set s i i) (i + 1) (omega (arith, length-set (s .enext) i i)) in
     record {
-      given = record { weight = r .given .weight; first = r .given .first; second = r .given .second; mark = r .given .mark; size = r .given .size; diff = r .given .diff };
+      given = record { weight = r .given .weight; first = r .given .first; second = r .given .second; stamp = r .given .stamp; size = r .given .size; diff = r .given .diff };
       l-enext = r .l-enext ∙ length-set (s .enext) i i;
       rnext = r .rnext;
       elen = r .elen;
@@ -82,7 +82,7 @@ regions-are n (suc k) s i h a b c d =
     let r : Regions u (regionsFrom k u (i + 1)) (i + 1) k = regions-are n k u (i + 1) (omega arith) (length-set (s .rnext) i i ∙ a) (length-set (s .elen) i 1 ∙ b) (length-set (s .rlen) i 1 ∙ c) (length-set (s .count) i 1000 ∙ d) in
     let t : Mem = regionsFrom k u (i + 1) in
     record {
-      given = record { weight = r .given .weight; first = r .given .first; second = r .given .second; mark = r .given .mark; size = r .given .size; diff = r .given .diff };
+      given = record { weight = r .given .weight; first = r .given .first; second = r .given .second; stamp = r .given .stamp; size = r .given .size; diff = r .given .diff };
       enext = r .enext;
       l-rnext = r .l-rnext ∙ length-set (s .rnext) i i;
       l-elen = r .l-elen ∙ length-set (s .elen) i 1;
@@ -157,7 +157,7 @@ unfolding linkAt enext-set elen-set swap own-joined
 link-one m n L a s I lt ha = record {
   own' = own-joined (I .own) (2 * m + a) L;
   pos'' = pos-joined (I .own) (I .pos') (lens m s) (2 * m + a) L;
-  given = record { weight = refl; first = refl; second = refl; mark = refl; size = refl; diff = refl };
+  given = record { weight = refl; first = refl; second = refl; stamp = refl; size = refl; diff = refl };
   rnext = refl;
   rlen = refl;
   count = refl;

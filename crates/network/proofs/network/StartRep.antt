@@ -61,7 +61,7 @@ pub record Lengths (m n : ℕ) (s : Mem) : Type 0 where
   pub l-second : length (s .second) ≡ m
   pub l-enext : length (s .enext) ≡ 2 * m + n
   pub l-rnext : length (s .rnext) ≡ n
-  pub l-mark : length (s .mark) ≡ n
+  pub l-stamp : length (s .stamp) ≡ n
   pub l-size : length (s .size) ≡ n
   pub l-elen : length (s .elen) ≡ n
   pub l-rlen : length (s .rlen) ≡ n
@@ -76,7 +76,7 @@ lengths m n w d h k = record {
   l-second = length-seg w (4 * m) m (omega arith);
   l-enext = length-seg w (5 * m) (2 * m + n) (omega arith);
   l-rnext = length-seg w (7 * m + n) n (omega arith);
-  l-mark = length-seg w (7 * m + 2 * n) n (omega arith);
+  l-stamp = length-seg w (7 * m + 2 * n) n (omega arith);
   l-size = length-seg w (7 * m + 3 * n) n (omega arith);
   l-elen = length-seg w (7 * m + 4 * n) n (omega arith);
   l-rlen = length-seg w (7 * m + 5 * n) n (omega arith);
@@ -194,7 +194,7 @@ module _ (m n : ℕ) (s : Mem) (lens₀ : Lengths m n s) (raw : Raw m n s) (smal
     l-second = ap length (given₃ .second) ∙ lens₀ .l-second;
     l-enext = I .l-enext;
     l-rnext = ap length (all₃ .1 .rnext) ∙ G .l-rnext ∙ ap length (S .rnext) ∙ lens₀ .l-rnext;
-    l-mark = ap length (given₃ .mark) ∙ lens₀ .l-mark;
+    l-stamp = ap length (given₃ .stamp) ∙ lens₀ .l-stamp;
     l-size = ap length (given₃ .size) ∙ lens₀ .l-size;
     l-elen = I .l-elen;
     l-rlen = ap length (all₃ .1 .rlen) ∙ G .l-rlen ∙ ap length (S .rlen) ∙ lens₀ .l-rlen;

@@ -151,7 +151,7 @@ module _ (m n : ℕ) (gates : ℕ → ℕ) (last : ℕ) (s : Mem) (t : State) (R
     unfolding edgeOf weight-set
     kept₁ j w = rw (getD-set-other (s .weight) e j 0 0 w) refl
 
-    pub same₁ : (s₁ .mark ≡ s .mark) × (s₁ .enext ≡ s .enext) × (s₁ .elen ≡ s .elen) × (s₁ .rnext ≡ s .rnext) × (s₁ .rlen ≡ s .rlen) × (s₁ .size ≡ s .size) × (s₁ .count ≡ s .count)
+    pub same₁ : (s₁ .stamp ≡ s .stamp) × (s₁ .enext ≡ s .enext) × (s₁ .elen ≡ s .elen) × (s₁ .rnext ≡ s .rnext) × (s₁ .rlen ≡ s .rlen) × (s₁ .size ≡ s .size) × (s₁ .count ≡ s .count)
     unfolding weight-set
     same₁ = (refl, refl, refl, refl, refl, refl, refl)
 
@@ -201,8 +201,8 @@ module _ (m n : ℕ) (gates : ℕ → ℕ) (last : ℕ) (s : Mem) (t : State) (R
               let bl : pl .base ≡ last = eqb-true (pl .base) last w in
               let q : (R .E j .live ≡ true) × (killed j ≡ R .E j) = lived j k in
               let r : (R .E j .live ≡ true) × ((R .E j .first ≡ last) ⊎ (R .E j .second ≡ last)) = lived-end j last k (⊎-elim (λ y. inl (y ∙ bl)) (λ y. inr (y ∙ bl)) d) in
-              let u : (R .E j .first ≡ last) × (getD (s .mark) (R .E j .second) 0 ≡ j) = R .marks j h (r .0) (r .1) in
-              (ap (λ (y : Edge). y .first) (q .1) ∙ u .0 ∙ sym bl, ap (λ (y : List ℕ). getD y (killed j .second) 0) (same₁ .0) ∙ ap (λ (y : Edge). getD (s .mark) (y .second) 0) (q .1) ∙ u .1));
+              let u : (R .E j .first ≡ last) × (getD (s .stamp) (R .E j .second) 0 ≡ j) = R .marks j h (r .0) (r .1) in
+              (ap (λ (y : Edge). y .first) (q .1) ∙ u .0 ∙ sym bl, ap (λ (y : List ℕ). getD y (killed j .second) 0) (same₁ .0) ∙ ap (λ (y : Edge). getD (s .stamp) (y .second) 0) (q .1) ∙ u .1));
           o = R .eown;
           q = R .epos;
           l = R .elens;
@@ -243,7 +243,7 @@ module _ (m n : ℕ) (gates : ℕ → ℕ) (last : ℕ) (s : Mem) (t : State) (R
       middleₚ : Middle m (pl .base) (pl .moved) prep ready (λ j. false) sₚ
       middleₚ = begin m (pl .base) (pl .moved) g prep ready S sₚ
           (λ j h. like-at _ _ _ (same-edges sₚ s₃ (prunedₚ .same) j) (like₃ j h))
-          (λ j h k w. ap (λ (y : List ℕ). getD y (ready j .second) 0) (prunedₚ .same .mark ∙ counted .mark) ∙ ready₂ .marks j h k w)
+          (λ j h k w. ap (λ (y : List ℕ). getD y (ready j .second) 0) (prunedₚ .same .stamp ∙ counted .stamp) ∙ ready₂ .marks j h k w)
 
       abbrev pub s₄ : Mem
       s₄ = movedAll m (pl .base) (pl .moved) g sₚ
@@ -292,5 +292,5 @@ module _ (m n : ℕ) (gates : ℕ → ℕ) (last : ℕ) (s : Mem) (t : State) (R
       like₄ = finish m (pl .base) (pl .moved) g prep ready S s₄ (walked .done') (walked .middle) all-done
 
       pub marks₄ : (j : ℕ) → j < m → combine (rows prep 0 m) (pl .base) (pl .moved) (prep j) .live ≡ true → combine (rows prep 0 m) (pl .base) (pl .moved) (prep j) .first ≡ pl .base
-          → getD (s₄ .mark) (combine (rows prep 0 m) (pl .base) (pl .moved) (prep j) .second) 0 ≡ j
+          → getD (s₄ .stamp) (combine (rows prep 0 m) (pl .base) (pl .moved) (prep j) .second) 0 ≡ j
       marks₄ = finish-marks m (pl .base) (pl .moved) g prep ready S s₄ (walked .done') (walked .middle) all-done

@@ -25,7 +25,7 @@ use Rattle.merge.proofs.merge.Frames.{Beside}
 use Rattle.network.proofs.network.Moved.{same-no, same-yes}
 use Rattle.merge.proofs.merge.Counts.{Gained, Gives, raise}
 use Rattle.network.proofs.network.Sums.{accepts-is, accepted-sum, size-else, gates-move}
-use Rattle.network.proofs.network.After.{swap, swapped, chains-len, after, after-edges, after-mark, after-count, after-rnext, after-enext, after-size, after-elen, after-rlen, sound-after, sum-there, all-yes, all-no}
+use Rattle.network.proofs.network.After.{swap, swapped, chains-len, after, after-edges, after-stamp, after-count, after-rnext, after-enext, after-size, after-elen, after-rlen, sound-after, sum-there, all-yes, all-no}
 use Rattle.network.proofs.network.Prepared.{at-rows, setting}
 use Rattle.network.proofs.network.StepEdges.{prep-ends, prep-live, base-in, moved-in, base-leads, moved-leads, apart, beside₂, sound₂, same₁, beside₄, o₄, q₄, l₄, circled₄, sound₄, like₄, marks₄}
 use lib.Dec.{eqb}
@@ -314,8 +314,8 @@ module _ (m n : ℕ) (gates : ℕ → ℕ) (last : ℕ) (s : Mem) (t : State) (R
         let pt : Turned b v (prep j) = prepared-second j h (lived j k) in
         pt .0 (sym (to-else b v (prep j .second) (pt .1)) ∙ sym (combine-ends (rows prep 0 m) b v (prep j) (pt .1) .1) ∙ w)
 
-    marks' : (j : ℕ) → j < m → E' j .live ≡ true → (E' j .first ≡ b) ⊎ (E' j .second ≡ b) → (E' j .first ≡ b) × (getD (s₆ .mark) (E' j .second) 0 ≡ j)
-    marks' j h k (inl w) = (w, ap (λ (y : List ℕ). getD y (E' j .second) 0) (after-mark m b v s₄) ∙ marks₄ m n gates last s t R e lt l g gain g-in s₃ (G .else) sound₃ j h k w)
+    marks' : (j : ℕ) → j < m → E' j .live ≡ true → (E' j .first ≡ b) ⊎ (E' j .second ≡ b) → (E' j .first ≡ b) × (getD (s₆ .stamp) (E' j .second) 0 ≡ j)
+    marks' j h k (inl w) = (w, ap (λ (y : List ℕ). getD y (E' j .second) 0) (after-stamp m b v s₄) ∙ marks₄ m n gates last s t R e lt l g gain g-in s₃ (G .else) sound₃ j h k w)
     marks' j h k (inr w) = absurd (second-far j h k w)
 
     -- ---- the sizes

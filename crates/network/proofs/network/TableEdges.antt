@@ -7,10 +7,10 @@ use lib.Dec.{eqb}
 use lib.Ieee.{nan, Float, neg, binary32, add}
 use lib.ListN.{getD, set, length-set}
 use lib.Seq.{getD-set-same, getD-set-other}
-use borrow.Author.Tests.{eqb-true, eq-eqb, ne-eqb, lt-ltb}
+use borrow.Author.Tests.{eqb-true, eq-eqb, ne-eqb}
 use Rattle.network.specs.Network.{Edge}
-use Rattle.merge.specs.Mem.{Mem, Sound, weight-set, first-set, second-set, mark-set, diff-set}
-use Rattle.merge.specs.Steps.{turnAt, baseEdge, absorbAt, attachAt, joinEdge, shift, movedEdge}
+use Rattle.merge.specs.Mem.{Mem, Sound, weight-set, first-set, second-set, diff-set}
+use Rattle.merge.specs.Steps.{turnAt, absorbAt, attachAt, joinEdge, shift, movedEdge}
 use Rattle.network.specs.Net.{edgeOf, Like}
 
 pub like-refl : (x : Edge) → Like x x
@@ -71,43 +71,23 @@ words s j e h l = record {
 }
 
 -- ---- which step movedEdge is
-module _ (m b v g : ℕ) (s : Mem) (f : ℕ) (lt : f < m) where
+module _ (m b v g : ℕ) (s : Mem) (f : ℕ) where
   pub moved-none : getD (s .weight) f 0 ≡ 0 → movedEdge m b v g s f ≡ s
   unfolding movedEdge
-  moved-none e = rw (lt-ltb f m lt, eq-eqb (getD (s .weight) f 0) 0 e) refl
+  moved-none e = rw (eq-eqb (getD (s .weight) f 0) 0 e) refl
 
   module _ (live : getD (s .weight) f 0 ≡ 0 → ⊥) where
     pub moved-else : (getD (s .first) f 0 ≡ v → ⊥) → (getD (s .second) f 0 ≡ v → ⊥) → movedEdge m b v g s f ≡ s
     unfolding movedEdge
-    moved-else p q = rw (lt-ltb f m lt, ne-eqb (getD (s .weight) f 0) 0 live, ne-eqb (getD (s .first) f 0) v p, ne-eqb (getD (s .second) f 0) v q) refl
+    moved-else p q = rw (ne-eqb (getD (s .weight) f 0) 0 live, ne-eqb (getD (s .first) f 0) v p, ne-eqb (getD (s .second) f 0) v q) refl
 
     pub moved-one : getD (s .first) f 0 ≡ v → movedEdge m b v g s f ≡ joinEdge m b s f (getD (s .second) f 0) (shift false g (getD (s .weight) f 0) (getD (s .diff) f nan))
     unfolding movedEdge
-    moved-one p = rw (lt-ltb f m lt, ne-eqb (getD (s .weight) f 0) 0 live, eq-eqb (getD (s .first) f 0) v p) refl
+    moved-one p = rw (ne-eqb (getD (s .weight) f 0) 0 live, eq-eqb (getD (s .first) f 0) v p) refl
 
     pub moved-two : (getD (s .first) f 0 ≡ v → ⊥) → getD (s .second) f 0 ≡ v → movedEdge m b v g s f ≡ joinEdge m b s f (getD (s .first) f 0) (neg (shift true g (getD (s .weight) f 0) (getD (s .diff) f nan)))
     unfolding movedEdge
-    moved-two p q = rw (lt-ltb f m lt, ne-eqb (getD (s .weight) f 0) 0 live, ne-eqb (getD (s .first) f 0) v p, eq-eqb (getD (s .second) f 0) v q) refl
-
--- ---- which step baseEdge is
-module _ (m b : ℕ) (s : Mem) (f : ℕ) (lt : f < m) where
-  pub base-none : getD (s .weight) f 0 ≡ 0 → baseEdge m b s f ≡ s
-  unfolding baseEdge
-  base-none e = rw (lt-ltb f m lt, eq-eqb (getD (s .weight) f 0) 0 e) refl
-
-  module _ (live : getD (s .weight) f 0 ≡ 0 → ⊥) where
-    pub base-two : getD (s .second) f 0 ≡ b → baseEdge m b s f ≡ mark-set (turnAt s f) (getD (s .first) f 0) f
-    unfolding baseEdge
-    base-two p = rw (lt-ltb f m lt, ne-eqb (getD (s .weight) f 0) 0 live, eq-eqb (getD (s .second) f 0) b p) refl
-
-    module _ (far : getD (s .second) f 0 ≡ b → ⊥) where
-      pub base-one : getD (s .first) f 0 ≡ b → baseEdge m b s f ≡ mark-set s (getD (s .second) f 0) f
-      unfolding baseEdge
-      base-one p = rw (lt-ltb f m lt, ne-eqb (getD (s .weight) f 0) 0 live, ne-eqb (getD (s .second) f 0) b far, eq-eqb (getD (s .first) f 0) b p) refl
-
-      pub base-else : (getD (s .first) f 0 ≡ b → ⊥) → baseEdge m b s f ≡ s
-      unfolding baseEdge
-      base-else p = rw (lt-ltb f m lt, ne-eqb (getD (s .weight) f 0) 0 live, ne-eqb (getD (s .second) f 0) b far, ne-eqb (getD (s .first) f 0) b p) refl
+    moved-two p q = rw (ne-eqb (getD (s .weight) f 0) 0 live, ne-eqb (getD (s .first) f 0) v p, eq-eqb (getD (s .second) f 0) v q) refl
 
 -- ---- the edges after a step
 module _ (m n : ℕ) (s : Mem) (h : Sound m n s) where
@@ -133,21 +113,12 @@ module _ (m n : ℕ) (s : Mem) (h : Sound m n s) where
 
   module _ (b f c : ℕ) (x : Float) (hf : f < m) where
     pub attach-kept : (j : ℕ) → (j ≡ f → ⊥) → edgeOf (attachAt b s f c x) j ≡ edgeOf s j
-    unfolding edgeOf attachAt mark-set first-set second-set diff-set
+    unfolding edgeOf attachAt first-set second-set diff-set
     attach-kept j a = rw (getD-set-other (s .first) f j b 0 a, getD-set-other (s .second) f j c 0 a, getD-set-other (s .diff) f j x nan a) refl
 
     pub attach-new : edgeOf (attachAt b s f c x) f ≡ record { num = f; live = edgeOf s f .live; first = b; second = c; weight = getD (s .weight) f 0; diff = x }
-    unfolding edgeOf attachAt mark-set first-set second-set diff-set
+    unfolding edgeOf attachAt first-set second-set diff-set
     attach-new = rw (getD-set-same (s .first) f b 0 (omega (arith, h .l-first)), getD-set-same (s .second) f c 0 (omega (arith, h .l-second)), getD-set-same (s .diff) f x nan (omega (arith, h .l-diff))) refl
-
-  -- marks
-  pub mark-kept : (c f j : ℕ) → (j ≡ c → ⊥) → getD (mark-set s c f .mark) j 0 ≡ getD (s .mark) j 0
-  unfolding mark-set
-  mark-kept c f j a = getD-set-other (s .mark) c j f 0 a
-
-  pub mark-new : (c f : ℕ) → c < n → getD (mark-set s c f .mark) c 0 ≡ f
-  unfolding mark-set
-  mark-new c f a = getD-set-same (s .mark) c f 0 (omega (arith, h .l-mark))
 
   -- a turned edge
   module _ (f : ℕ) (hf : f < m) where
@@ -158,7 +129,3 @@ module _ (m n : ℕ) (s : Mem) (h : Sound m n s) where
     pub turn-new : edgeOf (turnAt s f) f ≡ record { num = f; live = edgeOf s f .live; first = getD (s .second) f 0; second = getD (s .first) f 0; weight = getD (s .weight) f 0; diff = neg (getD (s .diff) f nan) }
     unfolding edgeOf turnAt first-set second-set diff-set
     turn-new = rw (getD-set-same (s .first) f (getD (s .second) f 0) 0 (omega (arith, h .l-first)), getD-set-same (s .second) f (getD (s .first) f 0) 0 (omega (arith, h .l-second)), getD-set-same (s .diff) f (neg (getD (s .diff) f nan)) nan (omega (arith, h .l-diff))) refl
-
-pub mark-edges : (s : Mem) (c f j : ℕ) → edgeOf (mark-set s c f) j ≡ edgeOf s j
-unfolding edgeOf mark-set
-mark-edges s c f j = refl

@@ -31,27 +31,6 @@ mul-w-4 c = search needs
 slice-write-w-2 : tie.Need-slice-write-w-2
 slice-write-w-2 c = simp length-set (omega arith)
 
-cast-w : tie.Need-cast-w
-cast-w c = search needs
-
-mul-w-5 : tie.Need-mul-w-5
-mul-w-5 c = search needs
-
-mul-w-6 : tie.Need-mul-w-6
-mul-w-6 c = search needs
-
-add-w-3 : tie.Need-add-w-3
-add-w-3 c = search needs
-
-add-w-4 : tie.Need-add-w-4
-add-w-4 c = search needs
-
-mul-w-7 : tie.Need-mul-w-7
-mul-w-7 c = search needs
-
-slice-write-w-3 : tie.Need-slice-write-w-3
-slice-write-w-3 c = simp length-set (omega arith)
-
 mul-d : tie.Need-mul-d
 mul-d c = search needs
 
@@ -65,7 +44,7 @@ same-length-2 : tie.Need-same-length-2
 same-length-2 c = simp length-set
 
 returns : tie.Need-returns
-returns c = attach-does (c .args .m) (c .args .n) (c .args .w .now) (c .args .d .now) (c .pre .0) (c .args .b) (c .args .f) (c .args .c) (c .args .x) (c .pre .1 .0) (c .pre .1 .1)
+returns c = attach-does (c .args .m) (c .args .n) (c .args .w .now) (c .args .d .now) (c .pre .0) (c .args .b) (c .args .f) (c .args .c) (c .args .x) (c .pre .1)
 
 pub attach-spec : {M : Type 1} → statement M
 attach-spec =
@@ -79,13 +58,6 @@ attach-spec =
     add-w-2
     mul-w-4
     slice-write-w-2
-    cast-w
-    mul-w-5
-    mul-w-6
-    add-w-3
-    add-w-4
-    mul-w-7
-    slice-write-w-3
     mul-d
     slice-write-d
     same-length

@@ -70,11 +70,11 @@ mul-t-2 c = omega (arith, c .before .loop .inv .room .words, c .before .loop .in
 slice-read-t : tie.Need-slice-read-t Inv-loop μ-loop
 slice-read-t c = omega (arith, c .before .before .loop .inv .room .words, c .before .before .loop .inv .x-in)
 
-cast-moved-edge : tie.Need-cast-moved-edge Inv-loop μ-loop
-cast-moved-edge c = omega (arith, c .before .before .before .before .loop .inv .room .small, c .before .before .before .before .loop .inv .x-in)
+cast-take-edge : tie.Need-cast-take-edge Inv-loop μ-loop
+cast-take-edge c = omega (arith, c .before .before .before .before .loop .inv .room .small, c .before .before .before .before .loop .inv .x-in)
 
-moved-edge-requires : tie.Need-moved-edge-requires Inv-loop μ-loop
-moved-edge-requires c κs = (c .before .before .before .before .loop .inv .room, (c .before .before .before .before .loop .inv .sound, c .before .before .before .before .before .before .before .before .before .pre .1 .1))
+take-edge-requires : tie.Need-take-edge-requires Inv-loop μ-loop
+take-edge-requires c κs = (c .before .before .before .before .loop .inv .room, (c .before .before .before .before .loop .inv .sound, c .before .before .before .before .before .before .before .before .before .pre .1 .1))
 
 add-i : tie.Need-add-i Inv-loop μ-loop
 add-i c = omega (arith, c .before .before .before .before .before .before .before .before .loop-test .taken, c .before .before .before .before .before .before .before .before .before .before .before .slice-known3 .given (7 * (c .before .before .before .before .before .before .before .before .before .before .before .before .before .before .args .m) + 4 * (c .before .before .before .before .before .before .before .before .before .before .before .before .before .before .args .n) + c .before .before .before .before .before .before .before .before .before .before .before .before .before .before .args .v))
@@ -83,7 +83,7 @@ loop-less : tie.Need-loop-less Inv-loop μ-loop
 loop-less c = omega (arith, c .before .before .before .before .before .before .before .before .loop-test)
 
 loop-again : tie.Need-loop-again Inv-loop μ-loop
-loop-again c = let a = c .before .before .before .before .before .before .before .before .before .before .before .before .before .before .args in let k = c .before .before .before .before .before .before .before .before .before .loop in moved-turned (a .m) (a .n) (a .b) (a .v) (a .g) (c .before .before .before .before .before .before .before .before .before .before .before .before .before .before .pre .1 .1) (a .w .now) (a .d .now) (k .w) (k .d) _ _ _ (k .x) (k .i) _ (k .inv) (c .before .before .before .before .before .before .before .before .loop-test .taken) (c .before .before .before .before .moved-edge .ensures) (c .before .before .before .before .moved-edge .kept .0) (c .before .before .before .before .moved-edge .kept .1 .0)
+loop-again c = let a = c .before .before .before .before .before .before .before .before .before .before .before .before .before .before .args in let k = c .before .before .before .before .before .before .before .before .before .loop in moved-turned (a .m) (a .n) (a .b) (a .v) (a .g) (c .before .before .before .before .before .before .before .before .before .before .before .before .before .before .pre .1 .1) (a .w .now) (a .d .now) (k .w) (k .d) _ _ _ (k .x) (k .i) _ (k .inv) (c .before .before .before .before .before .before .before .before .loop-test .taken) (c .before .before .before .before .take-edge .ensures) (c .before .before .before .before .take-edge .kept .0) (c .before .before .before .before .take-edge .kept .1 .0)
 
 same-length : tie.Need-same-length Inv-loop μ-loop
 same-length c = c .before .loop .inv .same-w
@@ -119,8 +119,8 @@ walk-moved-spec =
     add-t
     mul-t-2
     slice-read-t
-    cast-moved-edge
-    moved-edge-requires
+    cast-take-edge
+    take-edge-requires
     add-i
     loop-less
     loop-again
