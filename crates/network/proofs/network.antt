@@ -2,6 +2,7 @@ pub mod Rows
 pub mod TableEdges
 pub mod Facing
 pub mod Moved
+pub mod MovedStep
 pub mod MovedWalk
 pub mod Prepared
 pub mod Circles

@@ -10,8 +10,8 @@ use lib.ListN.{length, getD, set, length-set}
 use lib.Seq.{getD-set-same, getD-set-other}
 use Rattle.network.specs.Network.{Region, gather, raised, bounded}
 use Rattle.merge.specs.Mem.{Mem, Sound, enext-set, rnext-set, size-set, elen-set, rlen-set}
-use Rattle.merge.specs.Steps.{splice, grow}
-use Rattle.network.specs.Net.{rows, edgeOf}
+use Rattle.merge.specs.Steps.{turned, splice, grow}
+use Rattle.network.specs.Net.{rows, edgeOf, edgeNow}
 use Rattle.merge.specs.Chain.{cur, Chains, own-joined, pos-joined, len-joined}
 use Rattle.merge.proofs.merge.SoundSet.{eq-or-ne, sound-enext, sound-rnext, sound-size, sound-elen, sound-rlen}
 use Rattle.network.proofs.network.Circles.{joined}
@@ -53,8 +53,8 @@ module _ (m b v : ℕ) (s : Mem) where
   abbrev pub after : Mem
   after = grow b v (splice m b v s)
 
-  pub after-edges : (j : ℕ) → edgeOf after j ≡ edgeOf s j
-  unfolding edgeOf grow splice enext-set rnext-set size-set elen-set rlen-set
+  pub after-edges : (j : ℕ) → edgeNow after j ≡ edgeNow s j
+  unfolding edgeNow turned edgeOf grow splice enext-set rnext-set size-set elen-set rlen-set
   after-edges j = refl
 
   pub after-stamp : after .stamp ≡ s .stamp

@@ -7,10 +7,10 @@ use native.Mathlib.Omega.{arith}
 use lib.ListN.{length, getD, set, length-set}
 use lib.Seq.{getD-set-same, getD-set-other}
 use Rattle.memory.proofs.tree.TreeLaws.{tree-set}
-use Rattle.merge.specs.Mem.{Mem, view, Room, enext-set, elen-set, rlen-set, count-set}
+use Rattle.merge.specs.Mem.{Mem, view, Room, enext-set, stamp-set, elen-set, rlen-set, count-set}
 use Rattle.merge.specs.Does.{Does}
 use Rattle.network.specs.Begin.{slotsFrom, regionsFrom, linkAt, linkEdge, linkFrom, Linkable}
-use Rattle.merge.proofs.merge.View.{enext-at, elen-at, first-at, second-at, enext-put, rnext-put, elen-put, rlen-put, count-put}
+use Rattle.merge.proofs.merge.View.{enext-at, elen-at, first-at, second-at, enext-put, rnext-put, elen-put, rlen-put, count-put, stamp-put}
 use Rattle.merge.proofs.merge.Leaf.{room-of}
 use Rattle.merge.proofs.merge.SoundSet.{eq-or-ne}
 use lib.Ieee.{Float}
@@ -45,7 +45,7 @@ unfolding slotsFrom
 slots-end m n w₀ w d i goal k h = let z : 2 * m + n - i ≡ 0 = omega arith in record { tables = ap (λ (x : ℕ). slotsFrom x (view m n w d) i) (sym z) ∙ k .left; tree = k .room .tree }
 
 abbrev stored : ℕ → ℕ → List ℕ → ℕ → List ℕ
-stored m n w x = set (set (set (set w (7 * m + n + x) x) (7 * m + 5 * n + x) 1) (7 * m + 4 * n + x) 1) (7 * m + 6 * n + x) 1000
+stored m n w x = set (set (set (set (set w (7 * m + n + x) x) (7 * m + 5 * n + x) 1) (7 * m + 4 * n + x) 1) (7 * m + 6 * n + x) 1000) (7 * m + 2 * n + x) 0
 
 pub regions-turn : (m n : ℕ) (w₀ w : List ℕ) (d : List Float) (x : ℕ) (goal : Mem) → Going m n regionsFrom w₀ w d n x goal → x < n → Going m n regionsFrom w₀ (stored m n w x) d n (x + 1) goal
 unfolding regionsFrom
@@ -55,22 +55,25 @@ regions-turn m n w₀ w d x goal k lt =
     let w₂ : List ℕ = set w₁ (7 * m + 5 * n + x) 1 in
     let w₃ : List ℕ = set w₂ (7 * m + 4 * n + x) 1 in
     let w₄ : List ℕ = set w₃ (7 * m + 6 * n + x) 1000 in
+    let w₅ : List ℕ = set w₄ (7 * m + 2 * n + x) 0 in
     let l₀ : 7 * m + 7 * n ≤ length w = k .room .words in
     let l₁ : length w₁ ≡ length w = length-set w (7 * m + n + x) x in
     let l₂ : length w₂ ≡ length w₁ = length-set w₁ (7 * m + 5 * n + x) 1 in
     let l₃ : length w₃ ≡ length w₂ = length-set w₂ (7 * m + 4 * n + x) 1 in
     let l₄ : length w₄ ≡ length w₃ = length-set w₃ (7 * m + 6 * n + x) 1000 in
+    let l₅ : length w₅ ≡ length w₄ = length-set w₄ (7 * m + 2 * n + x) 0 in
     record {
-      room = room-of m n w w₄ d d (k .room) (l₄ ∙ l₃ ∙ l₂ ∙ l₁) refl
-          (tree-set m w₃ (7 * m + 6 * n + x) 1000 (omega arith) (tree-set m w₂ (7 * m + 4 * n + x) 1 (omega arith) (tree-set m w₁ (7 * m + 5 * n + x) 1 (omega arith) (tree-set m w (7 * m + n + x) x (omega arith) (k .room .tree)))));
+      room = room-of m n w w₅ d d (k .room) (l₅ ∙ l₄ ∙ l₃ ∙ l₂ ∙ l₁) refl
+          (tree-set m w₄ (7 * m + 2 * n + x) 0 (omega arith) (tree-set m w₃ (7 * m + 6 * n + x) 1000 (omega arith) (tree-set m w₂ (7 * m + 4 * n + x) 1 (omega arith) (tree-set m w₁ (7 * m + 5 * n + x) 1 (omega arith) (tree-set m w (7 * m + n + x) x (omega arith) (k .room .tree))))));
       most = omega arith;
       left = ap (λ (s : Mem). regionsFrom (n - (x + 1)) s (x + 1))
-          (count-put m n w₃ d x 1000 lt (omega arith)
+          (stamp-put m n w₄ d x 0 lt (omega arith)
+          ∙ ap (λ (s : Mem). stamp-set s x 0) (count-put m n w₃ d x 1000 lt (omega arith)
           ∙ ap (λ (s : Mem). count-set s x 1000) (elen-put m n w₂ d x 1 lt (omega arith)
           ∙ ap (λ (s : Mem). elen-set s x 1) (rlen-put m n w₁ d x 1 lt (omega arith)
-          ∙ ap (λ (s : Mem). rlen-set s x 1) (rnext-put m n w d x x lt l₀))))
+          ∙ ap (λ (s : Mem). rlen-set s x 1) (rnext-put m n w d x x lt l₀)))))
           ∙ ap (λ (y : ℕ). regionsFrom y (view m n w d) x) (sym z) ∙ k .left;
-      same-w = l₄ ∙ l₃ ∙ l₂ ∙ l₁ ∙ k .same-w;
+      same-w = l₅ ∙ l₄ ∙ l₃ ∙ l₂ ∙ l₁ ∙ k .same-w;
     }
 
 pub regions-end : (m n : ℕ) (w₀ w : List ℕ) (d : List Float) (x : ℕ) (goal : Mem) → Going m n regionsFrom w₀ w d n x goal → n ≤ x → Does m n w d goal

@@ -1,8 +1,8 @@
 -- Edges as they stand: what facing an edge and stamping a node do to them. Assumes nothing.
 use mathlib.Core.Path.{_≡_, refl, sym, ap, _∙_}
 use mathlib.Core.Logic.{_⊎_, inl, inr, ⊎-elim}
-use mathlib.Core.Bool.{Bool, true, false, cond}
-use Prim.Native.Nat.{ℕ, _+_, _-_, _<_}
+use mathlib.Core.Bool.{Bool, true, false, not, cond}
+use Prim.Native.Nat.{ℕ, _+_, _-_, _≤_, _<_}
 use native.Mathlib.Omega.{arith}
 use lib.Dec.{ltb}
 use lib.Ieee.{nan, inf, fin, Float, neg}
@@ -10,15 +10,15 @@ use lib.ListN.{getD}
 use lib.Seq.{getD-set-same, getD-set-other}
 use borrow.Author.Tests.{ltb-true, lt-ltb, le-ltb, eq-eqb, ne-eqb}
 use Rattle.network.specs.Network.{Edge, turn, turnIf}
-use Rattle.merge.specs.Mem.{Mem, Sound, first-set, second-set, stamp-set, diff-set}
-use Rattle.merge.specs.Steps.{turnAt, turned, faceAt}
+use Rattle.merge.specs.Mem.{Mem, Sound, weight-set, first-set, second-set, stamp-set, diff-set}
+use Rattle.merge.specs.Steps.{turnAt, turned, faceAt, absorbAt, attachAt}
 use Rattle.network.specs.Net.{edgeOf, edgeNow}
 use Rattle.merge.proofs.merge.SoundSet.{eq-or-ne}
 use Rattle.merge.proofs.merge.Mates.{Mate}
 use Rattle.network.proofs.network.TableEdges.{live-word, turn-kept, turn-new}
 
 -- ---- turning
-not-twice : (b : Bool) → mathlib.Core.Bool.not (mathlib.Core.Bool.not b) ≡ b
+not-twice : (b : Bool) → not (not b) ≡ b
 not-twice true = refl
 not-twice false = refl
 
@@ -156,7 +156,7 @@ module _ (m n : ℕ) (s : Mem) (h : Sound m n s) (b k : ℕ) (hb : b < n) (newes
   pub stamp-newest : (x : ℕ) → (x ≡ b → ⊥) → getD (stamp-set s b k .stamp) x 0 < getD (stamp-set s b k .stamp) b 0
   stamp-newest x ne = omega (arith, at-b, else x ne, newest x)
 
-  pub stamp-most : (x : ℕ) → getD (stamp-set s b k .stamp) x 0 Prim.Native.Nat.≤ k
+  pub stamp-most : (x : ℕ) → getD (stamp-set s b k .stamp) x 0 ≤ k
   stamp-most x = ⊎-elim (λ e. rw e (omega (arith, at-b))) (λ e. omega (arith, else x e, newest x)) (eq-or-ne x b)
 
   module _ (j : ℕ) (proper : getD (s .first) j 0 ≡ getD (s .second) j 0 → ⊥) where
@@ -208,3 +208,17 @@ module _ (m n : ℕ) (s : Mem) (h : Sound m n s) (b k : ℕ) (hb : b < n) (newes
 
     pub stamp-now : edgeNow (stamp-set s b k) j ≡ turn b (edgeNow s j)
     stamp-now = ⊎-elim second-b (λ q. ⊎-elim first-b (λ p. neither p q) (eq-or-ne x b)) (eq-or-ne y b)
+
+-- ---- which way edges stand after a step
+pub absorb-turned : (s : Mem) (q f : ℕ) (x : Float) (j : ℕ) → turned (absorbAt s q f x) j ≡ turned s j
+unfolding turned absorbAt weight-set diff-set
+absorb-turned s q f x j = refl
+
+module _ (m n b : ℕ) (s : Mem) (h : Sound m n s) (f c : ℕ) (x : Float) (lt : f < m) where
+  pub attach-turned : (j : ℕ) → (j ≡ f → ⊥) → turned (attachAt b s f c x) j ≡ turned s j
+  unfolding turned attachAt first-set second-set diff-set
+  attach-turned j ne = rw (getD-set-other (s .first) f j b 0 ne, getD-set-other (s .second) f j c 0 ne) refl
+
+  pub attach-straight : getD (s .stamp) c 0 < getD (s .stamp) b 0 → turned (attachAt b s f c x) f ≡ false
+  unfolding turned attachAt first-set second-set diff-set
+  attach-straight p = rw (getD-set-same (s .first) f b 0 (omega (arith, h .l-first)), getD-set-same (s .second) f c 0 (omega (arith, h .l-second))) (le-ltb (getD (s .stamp) b 0) (getD (s .stamp) c 0) (omega arith))

@@ -9,17 +9,17 @@ use native.Mathlib.Omega.{arith}
 use borrow.Author.Tests.{le-ltb, eqb-true, eqb-false}
 use Rattle.merge.proofs.merge.Bias.{lt-or-le}
 use lib.ListN.{getD}
-use Rattle.network.specs.Network.{Edge, Link, link, find, absorb, absent, hand, combine, turn, turnIf, adjust, shifted, isZero}
+use Rattle.network.specs.Network.{Edge, Link, link, find, absorb, hand, combine, turn, turnIf, adjust, shifted, isZero}
 use Rattle.merge.specs.Mem.{Mem, Sound}
-use Rattle.merge.specs.Steps.{unbias, movedEdge, walkMoved}
+use Rattle.merge.specs.Steps.{unbias, takeEdge, walkMoved}
 use Rattle.merge.specs.Does.{Gains}
-use Rattle.network.specs.Net.{rows, edgeOf, Like}
+use Rattle.network.specs.Net.{rows, edgeNow, Like}
 use Rattle.merge.specs.Chain.{cur}
-use Rattle.merge.proofs.merge.SoundSteps.{sound-moved}
-use Rattle.merge.proofs.merge.Frames.{frame-moved}
+use Rattle.merge.proofs.merge.SoundSteps.{sound-take}
 use Rattle.network.proofs.network.Rows.{hits, find-no, find-like}
 use Rattle.network.proofs.network.TableEdges.{like-dead, like-then}
-use Rattle.network.proofs.network.Moved.{Setting, only, mid, Middle, Next, any-step, mid-base, mid-moved, mid-else, mid-dead, hit-only, absorb-none}
+use Rattle.network.proofs.network.Moved.{Setting, only, mid, Middle, Grounds, mid-base, mid-moved, mid-else, mid-dead, hit-only, absorb-none}
+use Rattle.network.proofs.network.MovedStep.{Next, any-step}
 use lib.Ieee.{Float}
 use lib.Dec.{eqb}
 
@@ -46,16 +46,10 @@ module _ (m b v g : ℕ) (P Q : ℕ → Edge) (S : Setting m b v g P Q) where
   none-done : (x c : ℕ) → find (rows (only P nothing) 0 m) x c ≡ none
   none-done x c = find-no (only P nothing) x c 0 m (λ j a d h. true≢false (sym (hit-only m b v g P Q S nothing x c j h .1)))
 
-  pub begin : (s : Mem) → ((j : ℕ) → j < m → Like (edgeOf s j) (Q j)) → ((j : ℕ) → j < m → Q j .live ≡ true → Q j .first ≡ b → getD (s .stamp) (Q j .second) 0 ≡ j) → Middle m b v P Q nothing s
-  begin s like marks = record {
-    like = λ j hj. go j hj (P j .live) refl (eqb b (P j .first)) refl (eqb v (P j .first)) refl;
-    marks = λ j hj l e.
-        let q : P j ≡ Q j = ready j hj l (λ w. S .apart (sym e ∙ w)) in
-        ap (λ (x : Edge). getD (s .stamp) (x .second) 0) q ∙ marks j hj (S .alike j ∙ l) (sym (ap (λ (x : Edge). x .first) q) ∙ e);
-    new-marks = λ j hj l e d k. absurd (true≢false (sym d));
-  }
+  pub begin : (s : Mem) → ((j : ℕ) → j < m → Like (edgeNow s j) (Q j)) → Middle m b v P Q (s .enext) (s .elen) (s .stamp) nothing s
+  begin s like = record { like = λ j hj. go j hj (P j .live) refl (eqb b (P j .first)) refl (eqb v (P j .first)) refl; links = refl; lens = refl; stamps = refl }
     where
-      go : (j : ℕ) → j < m → (u : Bool) → P j .live ≡ u → (x : Bool) → eqb b (P j .first) ≡ x → (y : Bool) → eqb v (P j .first) ≡ y → Like (edgeOf s j) (mid m b v P Q nothing j)
+      go : (j : ℕ) → j < m → (u : Bool) → P j .live ≡ u → (x : Bool) → eqb b (P j .first) ≡ x → (y : Bool) → eqb v (P j .first) ≡ y → Like (edgeNow s j) (mid m b v P Q nothing j)
       go j hj false ue x xe y ye = like-dead _ _ (like j hj .live ∙ S .alike j ∙ ue) (mid-dead m b v g P Q S nothing j ue)
       go j hj true ue true xe y ye =
           let fb : P j .first ≡ b = sym (eqb-true b (P j .first) xe) in
@@ -67,51 +61,51 @@ module _ (m b v g : ℕ) (P Q : ℕ → Edge) (S : Setting m b v g P Q) where
           like-then _ _ _ (like j hj) (sym (mid-else m b v g P Q S nothing j (λ w. eqb-false b (P j .first) xe (sym w)) fv ∙ ready j hj ue fv))
 
   -- ---- the walk
-  pub record Walked (s : Mem) (done : ℕ → Bool) (N : List ℕ) (x k : ℕ) : Type 0 where
-    pub done' : ℕ → Bool
-    pub middle : Middle m b v P Q done' s
-    pub more : (j : ℕ) → done j ≡ true → done' j ≡ true
-    pub seen : (i : ℕ) → i < k → cur N x i / 2 < m → P (cur N x i / 2) .live ≡ true → P (cur N x i / 2) .first ≡ v → done' (cur N x i / 2) ≡ true
+  module _ (N L T : List ℕ) (G : Grounds m b P N L T) where
+    pub record Walked (s : Mem) (done : ℕ → Bool) (x k : ℕ) : Type 0 where
+      pub done' : ℕ → Bool
+      pub middle : Middle m b v P Q N L T done' s
+      pub more : (j : ℕ) → done j ≡ true → done' j ≡ true
+      pub seen : (i : ℕ) → i < k → cur N x i / 2 < m → P (cur N x i / 2) .live ≡ true → P (cur N x i / 2) .first ≡ v → done' (cur N x i / 2) ≡ true
 
-  abbrev One : Mem → (ℕ → Bool) → ℕ → Type 0
-  One s done f = (done' : ℕ → Bool) × Middle m b v P Q done' s × ((j : ℕ) → done j ≡ true → done' j ≡ true) × (f < m → P f .live ≡ true → P f .first ≡ v → done' f ≡ true)
+    abbrev One : Mem → (ℕ → Bool) → ℕ → Type 0
+    One s done f = (done' : ℕ → Bool) × Middle m b v P Q N L T done' s × ((j : ℕ) → done j ≡ true → done' j ≡ true) × (f < m → P f .live ≡ true → P f .first ≡ v → done' f ≡ true)
 
-  -- a slot that is no edge's leaves all as it is
-  one-slot : (n : ℕ) (s : Mem) → Sound m n s → (done : ℕ → Bool) → Middle m b v P Q done s → (f : ℕ) → One (movedEdge m b v g s f) done f
-  one-slot n s h done I f = ⊎-elim
-      (λ lt. let t : Next m b v g P Q S n (movedEdge m b v g s f) done f = any-step m b v g P Q S n s h done I f lt in (t .done', t .middle, t .more, λ q. t .here))
-      (λ le. (done, subst (Middle m b v P Q done) (sym (past le)) I, λ j r. r, λ q. absurd (omega arith)))
-      (lt-or-le f m)
-    where
-      past : m ≤ f → movedEdge m b v g s f ≡ s
-      past le = unfold movedEdge in rw (le-ltb f m le) refl
+    -- a slot that is no edge's leaves all as it is
+    one-slot : (n : ℕ) (s : Mem) → Sound m n s → (done : ℕ → Bool) → Middle m b v P Q N L T done s → (f : ℕ) → One (takeEdge m b v g s f) done f
+    one-slot n s h done I f = ⊎-elim
+        (λ lt. let t : Next m b v g P Q S N L T G n (takeEdge m b v g s f) done f = any-step m b v g P Q S N L T G n s h done I f lt in (t .done', t .middle, t .more, λ q. t .here))
+        (λ le. (done, subst (Middle m b v P Q N L T done) (sym (past le)) I, λ j r. r, λ q. absurd (omega arith)))
+        (lt-or-le f m)
+      where
+        past : m ≤ f → takeEdge m b v g s f ≡ s
+        past le = unfold takeEdge in rw (le-ltb f m le) refl
 
-  pub walk : (n : ℕ) → Gains n b v g → (k : ℕ) (s : Mem) → Sound m n s → (done : ℕ → Bool) → Middle m b v P Q done s → (N : List ℕ) → s .enext ≡ N → (x : ℕ) → Walked (walkMoved k m b v g s x) done N x k
-  unfolding walkMoved cur
-  walk n ok zero s h done I N e x = record { done' = done; middle = I; more = λ j r. r; seen = λ i p. absurd (omega arith) }
-  walk n ok (suc k) s h done I N e x =
-      let one : One (movedEdge m b v g s (x / 2)) done (x / 2) = one-slot n s h done I (x / 2) in
-      let s' : Mem = movedEdge m b v g s (x / 2) in
-      let nx : getD (s .enext) x 0 ≡ getD N x 0 = ap (λ (l : List ℕ). getD l x 0) e in
-      let rest : Walked (walkMoved k m b v g s' (getD N x 0)) (one .0) N (getD N x 0) k
-      = walk n ok k s' (sound-moved m n b v g s (x / 2) h ok) (one .0) (one .1) N (frame-moved m b v g s (x / 2) .enext ∙ e) (getD N x 0) in
-      record {
-        done' = rest .done';
-        middle = subst (λ (y : ℕ). Middle m b v P Q (rest .done') (walkMoved k m b v g s' y)) (sym nx) (rest .middle);
-        more = λ j r. rest .more j (one .2 j r);
-        seen = elim-seen (rest .done') (λ q l r. rest .more (x / 2) (one .3 q l r)) (rest .seen);
-      }
-    where
-      elim-seen : (d : ℕ → Bool) → (x / 2 < m → P (x / 2) .live ≡ true → P (x / 2) .first ≡ v → d (x / 2) ≡ true)
-          → ((i : ℕ) → i < k → cur N (getD N x 0) i / 2 < m → P (cur N (getD N x 0) i / 2) .live ≡ true → P (cur N (getD N x 0) i / 2) .first ≡ v → d (cur N (getD N x 0) i / 2) ≡ true)
-          → (i : ℕ) → i < suc k → cur N x i / 2 < m → P (cur N x i / 2) .live ≡ true → P (cur N x i / 2) .first ≡ v → d (cur N x i / 2) ≡ true
-      elim-seen d a c zero p = a
-      elim-seen d a c (suc i) p = c i (omega arith)
+    pub walk : (n : ℕ) → Gains n b v g → (k : ℕ) (s : Mem) → Sound m n s → (done : ℕ → Bool) → Middle m b v P Q N L T done s → (x : ℕ) → Walked (walkMoved k m b v g s x) done x k
+    unfolding walkMoved cur
+    walk n ok zero s h done I x = record { done' = done; middle = I; more = λ j r. r; seen = λ i p. absurd (omega arith) }
+    walk n ok (suc k) s h done I x =
+        let one : One (takeEdge m b v g s (x / 2)) done (x / 2) = one-slot n s h done I (x / 2) in
+        let s' : Mem = takeEdge m b v g s (x / 2) in
+        let nx : getD (s .enext) x 0 ≡ getD N x 0 = ap (λ (l : List ℕ). getD l x 0) (I .links) in
+        let rest : Walked (walkMoved k m b v g s' (getD N x 0)) (one .0) (getD N x 0) k = walk n ok k s' (sound-take m n b v g s (x / 2) h ok) (one .0) (one .1) (getD N x 0) in
+        record {
+          done' = rest .done';
+          middle = subst (λ (y : ℕ). Middle m b v P Q N L T (rest .done') (walkMoved k m b v g s' y)) (sym nx) (rest .middle);
+          more = λ j r. rest .more j (one .2 j r);
+          seen = elim-seen (rest .done') (λ q l r. rest .more (x / 2) (one .3 q l r)) (rest .seen);
+        }
+      where
+        elim-seen : (d : ℕ → Bool) → (x / 2 < m → P (x / 2) .live ≡ true → P (x / 2) .first ≡ v → d (x / 2) ≡ true)
+            → ((i : ℕ) → i < k → cur N (getD N x 0) i / 2 < m → P (cur N (getD N x 0) i / 2) .live ≡ true → P (cur N (getD N x 0) i / 2) .first ≡ v → d (cur N (getD N x 0) i / 2) ≡ true)
+            → (i : ℕ) → i < suc k → cur N x i / 2 < m → P (cur N x i / 2) .live ≡ true → P (cur N x i / 2) .first ≡ v → d (cur N x i / 2) ≡ true
+        elim-seen d a c zero p = a
+        elim-seen d a c (suc i) p = c i (omega arith)
 
   -- ---- the end
-  pub finish : (s : Mem) (done : ℕ → Bool) → Middle m b v P Q done s → ((j : ℕ) → j < m → P j .live ≡ true → P j .first ≡ v → done j ≡ true) → (j : ℕ) → j < m → Like (edgeOf s j) (combine (rows P 0 m) b v (P j))
+  pub finish : (N L T : List ℕ) (s : Mem) (done : ℕ → Bool) → Middle m b v P Q N L T done s → ((j : ℕ) → j < m → P j .live ≡ true → P j .first ≡ v → done j ≡ true) → (j : ℕ) → j < m → Like (edgeNow s j) (combine (rows P 0 m) b v (P j))
   unfolding combine only link
-  finish s done I all j hj = go (P j .live) refl (eqb b (P j .first)) refl (eqb v (P j .first)) refl
+  finish N L T s done I all j hj = go (P j .live) refl (eqb b (P j .first)) refl (eqb v (P j .first)) refl
     where
       every : (c : ℕ) → find (rows (only P done) 0 m) v c ≡ find (rows P 0 m) v c
       every c = find-like (only P done) P v c 0 m (λ i p q. (one i (omega arith) (P i .live) refl (eqb v (P i .first)) refl, λ t. refl))
@@ -126,7 +120,7 @@ module _ (m b v g : ℕ) (P Q : ℕ → Edge) (S : Setting m b v g P Q) where
           one i lt false xe y ye = rw xe refl
 
       go : (u : Bool) → P j .live ≡ u → (x : Bool) → eqb b (P j .first) ≡ x → (y : Bool) → eqb v (P j .first) ≡ y
-          → Like (edgeOf s j) (cond x (absorb (find (rows P 0 m) v (P j .second)) (P j)) (cond y (hand b (find (rows P 0 m) b (P j .second)) (P j)) (P j)))
+          → Like (edgeNow s j) (cond x (absorb (find (rows P 0 m) v (P j .second)) (P j)) (cond y (hand b (find (rows P 0 m) b (P j .second)) (P j)) (P j)))
       go u ue true xe y ye =
           like-then _ _ _ (I .like j hj) (mid-base m b v g P Q S done j (sym (eqb-true b (P j .first) xe)) ∙ ap (λ (o : Option Link). absorb o (P j)) (every (P j .second)))
       go true ue false xe true ye =
@@ -135,38 +129,3 @@ module _ (m b v g : ℕ) (P Q : ℕ → Edge) (S : Setting m b v g P Q) where
       go false ue false xe true ye = like-dead _ _ (I .like j hj .live ∙ mid-dead m b v g P Q S done j ue) (unfold hand in rw ue refl)
       go u ue false xe false ye =
           like-then _ _ _ (I .like j hj) (mid-else m b v g P Q S done j (λ w. eqb-false b (P j .first) xe (sym w)) (λ w. eqb-false v (P j .first) ye (sym w)))
-
-  -- the marks at the end: each live edge from b is marked at its other end
-  pub finish-marks : (s : Mem) (done : ℕ → Bool) → Middle m b v P Q done s → ((j : ℕ) → j < m → P j .live ≡ true → P j .first ≡ v → done j ≡ true)
-      → (j : ℕ) → j < m → combine (rows P 0 m) b v (P j) .live ≡ true → combine (rows P 0 m) b v (P j) .first ≡ b → getD (s .stamp) (combine (rows P 0 m) b v (P j) .second) 0 ≡ j
-  unfolding combine
-  finish-marks s done I all j hj = go (P j .live) refl (eqb b (P j .first)) refl (eqb v (P j .first)) refl
-    where
-      free : (o : Option Link) → (P j .live && absent o) ≡ true → (P j .live ≡ true) × (o ≡ none)
-      free = unfold absent in λ o h. both (P j .live) o h
-        where
-          both : (x : Bool) (o : Option Link) → (x && absent o) ≡ true → (x ≡ true) × (o ≡ none)
-          both true none h = (refl, refl)
-          both true (some l) h = absurd (true≢false (sym (unfold absent in h)))
-          both false o h = absurd (true≢false (sym h))
-
-      kept-second : (o : Option Link) → absorb o (P j) .second ≡ P j .second
-      kept-second none = unfold absorb in refl
-      kept-second (some l) = unfold absorb in refl
-
-      kept-live : (o : Option Link) → absorb o (P j) .live ≡ P j .live
-      kept-live none = unfold absorb in refl
-      kept-live (some l) = unfold absorb in refl
-
-      go : (u : Bool) → P j .live ≡ u → (x : Bool) → eqb b (P j .first) ≡ x → (y : Bool) → eqb v (P j .first) ≡ y
-          → cond x (absorb (find (rows P 0 m) v (P j .second)) (P j)) (cond y (hand b (find (rows P 0 m) b (P j .second)) (P j)) (P j)) .live ≡ true
-          → cond x (absorb (find (rows P 0 m) v (P j .second)) (P j)) (cond y (hand b (find (rows P 0 m) b (P j .second)) (P j)) (P j)) .first ≡ b
-          → getD (s .stamp) (cond x (absorb (find (rows P 0 m) v (P j .second)) (P j)) (cond y (hand b (find (rows P 0 m) b (P j .second)) (P j)) (P j)) .second) 0 ≡ j
-      go u ue true xe y ye l e =
-          ap (λ (c : ℕ). getD (s .stamp) c 0) (kept-second (find (rows P 0 m) v (P j .second))) ∙ I .marks j hj (sym (kept-live (find (rows P 0 m) v (P j .second))) ∙ l) (sym (eqb-true b (P j .first) xe))
-      go u ue false xe true ye l e =
-          let fv : P j .first ≡ v = sym (eqb-true v (P j .first) ye) in
-          let t : (P j .live ≡ true) × (find (rows P 0 m) b (P j .second) ≡ none) = free (find (rows P 0 m) b (P j .second)) (unfold hand in l) in
-          let hs : hand b (find (rows P 0 m) b (P j .second)) (P j) .second ≡ P j .second = unfold hand in refl in
-          ap (λ (c : ℕ). getD (s .stamp) c 0) hs ∙ I .new-marks j hj (t .0) fv (all j hj (t .0) fv) (t .1)
-      go u ue false xe false ye l e = absurd (eqb-false b (P j .first) xe (sym e))

@@ -17,7 +17,6 @@ use Rattle.network.specs.Net.{rows}
 use Rattle.merge.proofs.merge.SoundSet.{eq-or-ne}
 use Rattle.network.proofs.network.Rows.{map-rows, has-rows}
 use Rattle.network.proofs.network.Moved.{Setting, same-no, same-yes}
-use Rattle.network.proofs.network.BaseWalk.{Plain}
 use lib.Ieee.{Float}
 use borrow.Author.Tests.{eqb-true, eqb-false}
 use Rattle.network.specs.Simple.{Simple}
@@ -87,14 +86,6 @@ module _ (m : ℕ) (E : ℕ → Edge) (num : (j : ℕ) → E j .num ≡ j) (simp
       go true true r t = absurd (true≢false (sym t))
       go true false r t = (refl, eqb-false (E e .num) (E j .num) r)
       go false y r t = absurd (true≢false (sym t))
-
-  pub plain : Plain m killed
-  unfolding kill
-  plain = record {
-    number = num;
-    proper = λ j h k w. simple .proper (E j) (has j h) (killed-live j k .0) w;
-    single = λ i j hi hj ki kj r. sym (num i) ∙ simple .single (E i) (E j) (has i hi) (has j hj) (killed-live i ki .0) (killed-live j kj .0) r ∙ num j;
-  }
 
   pub nodes-apart : pl .base ≡ pl .moved → ⊥
   unfolding plan planFor

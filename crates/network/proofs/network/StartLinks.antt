@@ -9,7 +9,7 @@ use lib.Dec.{ltb, eqb}
 use lib.ListN.{length, getD, set, length-set}
 use lib.Seq.{getD-set-same, getD-set-other}
 use borrow.Author.Tests.{lt-ltb, le-ltb}
-use Rattle.merge.specs.Mem.{Mem, enext-set, rnext-set, elen-set, rlen-set, count-set}
+use Rattle.merge.specs.Mem.{Mem, enext-set, rnext-set, stamp-set, elen-set, rlen-set, count-set}
 use Rattle.merge.specs.Chain.{cur, Chains, own-joined, pos-joined, len-joined}
 use Rattle.network.specs.Begin.{slotsFrom, regionsFrom, linkAt, linkEdge, linkFrom}
 use Rattle.merge.proofs.merge.Bias.{lt-or-le}
@@ -23,21 +23,21 @@ pub record Given (t s : Mem) : Type 0 where
   pub weight : t .weight ≡ s .weight
   pub first : t .first ≡ s .first
   pub second : t .second ≡ s .second
-  pub stamp : t .stamp ≡ s .stamp
   pub size : t .size ≡ s .size
   pub diff : t .diff ≡ s .diff
 
 pub given-refl : (s : Mem) → Given s s
-given-refl s = record { weight = refl; first = refl; second = refl; stamp = refl; size = refl; diff = refl }
+given-refl s = record { weight = refl; first = refl; second = refl; size = refl; diff = refl }
 
 pub given-then : (t u s : Mem) → Given t u → Given u s → Given t s
-given-then t u s a b = record { weight = a .weight ∙ b .weight; first = a .first ∙ b .first; second = a .second ∙ b .second; stamp = a .stamp ∙ b .stamp; size = a .size ∙ b .size; diff = a .diff ∙ b .diff }
+given-then t u s a b = record { weight = a .weight ∙ b .weight; first = a .first ∙ b .first; second = a .second ∙ b .second; size = a .size ∙ b .size; diff = a .diff ∙ b .diff }
 
 -- ---- slots
 pub record Slots (s t : Mem) (i k : ℕ) : Type 0 where
   pub given : Given t s
   pub l-enext : length (t .enext) ≡ length (s .enext)
   pub rnext : t .rnext ≡ s .rnext
+  pub stamp : t .stamp ≡ s .stamp
   pub elen : t .elen ≡ s .elen
   pub rlen : t .rlen ≡ s .rlen
   pub count : t .count ≡ s .count
@@ -46,13 +46,14 @@ pub record Slots (s t : Mem) (i k : ℕ) : Type 0 where
 
 pub slots-are : (k : ℕ) (s : Mem) (i : ℕ) → i + k ≤ length (s .enext) → Slots s (slotsFrom k s i) i k
 unfolding slotsFrom enext-set
-slots-are zero s i h = record { given = given-refl s; l-enext = refl; rnext = refl; elen = refl; rlen = refl; count = refl; below = λ x p. refl; own = λ x p q. absurd (omega arith) }
+slots-are zero s i h = record { given = given-refl s; l-enext = refl; rnext = refl; stamp = refl; elen = refl; rlen = refl; count = refl; below = λ x p. refl; own = λ x p q. absurd (omega arith) }
 slots-are (suc k) s i h =
     let r : Slots (enext-set s i i) (slotsFrom k (enext-set s i i) (i + 1)) (i + 1) k = slots-are k (enext-set s i i) (i + 1) (omega (arith, length-set (s .enext) i i)) in
     record {
-      given = record { weight = r .given .weight; first = r .given .first; second = r .given .second; stamp = r .given .stamp; size = r .given .size; diff = r .given .diff };
+      given = record { weight = r .given .weight; first = r .given .first; second = r .given .second; size = r .given .size; diff = r .given .diff };
       l-enext = r .l-enext ∙ length-set (s .enext) i i;
       rnext = r .rnext;
+      stamp = r .stamp;
       elen = r .elen;
       rlen = r .rlen;
       count = r .count;
@@ -68,32 +69,34 @@ pub record Regions (s t : Mem) (i k : ℕ) : Type 0 where
   pub given : Given t s
   pub enext : t .enext ≡ s .enext
   pub l-rnext : length (t .rnext) ≡ length (s .rnext)
+  pub l-stamp : length (t .stamp) ≡ length (s .stamp)
   pub l-elen : length (t .elen) ≡ length (s .elen)
   pub l-rlen : length (t .rlen) ≡ length (s .rlen)
   pub l-count : length (t .count) ≡ length (s .count)
-  pub below : (x : ℕ) → x < i → (getD (t .rnext) x 0 ≡ getD (s .rnext) x 0) × (getD (t .elen) x 0 ≡ getD (s .elen) x 0) × (getD (t .rlen) x 0 ≡ getD (s .rlen) x 0) × (getD (t .count) x 0 ≡ getD (s .count) x 0)
-  pub own : (x : ℕ) → i ≤ x → x < i + k → (getD (t .rnext) x 0 ≡ x) × (getD (t .elen) x 0 ≡ 1) × (getD (t .rlen) x 0 ≡ 1) × (getD (t .count) x 0 ≡ 1000)
+  pub below : (x : ℕ) → x < i → (getD (t .rnext) x 0 ≡ getD (s .rnext) x 0) × (getD (t .elen) x 0 ≡ getD (s .elen) x 0) × (getD (t .rlen) x 0 ≡ getD (s .rlen) x 0) × (getD (t .count) x 0 ≡ getD (s .count) x 0) × (getD (t .stamp) x 0 ≡ getD (s .stamp) x 0)
+  pub own : (x : ℕ) → i ≤ x → x < i + k → (getD (t .rnext) x 0 ≡ x) × (getD (t .elen) x 0 ≡ 1) × (getD (t .rlen) x 0 ≡ 1) × (getD (t .count) x 0 ≡ 1000) × (getD (t .stamp) x 0 ≡ 0)
 
-pub regions-are : (n k : ℕ) (s : Mem) (i : ℕ) → i + k ≤ n → length (s .rnext) ≡ n → length (s .elen) ≡ n → length (s .rlen) ≡ n → length (s .count) ≡ n → Regions s (regionsFrom k s i) i k
-unfolding regionsFrom rnext-set rlen-set elen-set count-set
-regions-are n zero s i h a b c d = record { given = given-refl s; enext = refl; l-rnext = refl; l-elen = refl; l-rlen = refl; l-count = refl; below = λ x p. (refl, refl, refl, refl); own = λ x p q. absurd (omega arith) }
-regions-are n (suc k) s i h a b c d =
-    let u : Mem = count-set (elen-set (rlen-set (rnext-set s i i) i 1) i 1) i 1000 in
-    let r : Regions u (regionsFrom k u (i + 1)) (i + 1) k = regions-are n k u (i + 1) (omega arith) (length-set (s .rnext) i i ∙ a) (length-set (s .elen) i 1 ∙ b) (length-set (s .rlen) i 1 ∙ c) (length-set (s .count) i 1000 ∙ d) in
+pub regions-are : (n k : ℕ) (s : Mem) (i : ℕ) → i + k ≤ n → length (s .rnext) ≡ n → length (s .elen) ≡ n → length (s .rlen) ≡ n → length (s .count) ≡ n → length (s .stamp) ≡ n → Regions s (regionsFrom k s i) i k
+unfolding regionsFrom rnext-set rlen-set elen-set count-set stamp-set
+regions-are n zero s i h a b c d f = record { given = given-refl s; enext = refl; l-rnext = refl; l-stamp = refl; l-elen = refl; l-rlen = refl; l-count = refl; below = λ x p. (refl, refl, refl, refl, refl); own = λ x p q. absurd (omega arith) }
+regions-are n (suc k) s i h a b c d f =
+    let u : Mem = stamp-set (count-set (elen-set (rlen-set (rnext-set s i i) i 1) i 1) i 1000) i 0 in
+    let r : Regions u (regionsFrom k u (i + 1)) (i + 1) k = regions-are n k u (i + 1) (omega arith) (length-set (s .rnext) i i ∙ a) (length-set (s .elen) i 1 ∙ b) (length-set (s .rlen) i 1 ∙ c) (length-set (s .count) i 1000 ∙ d) (length-set (s .stamp) i 0 ∙ f) in
     let t : Mem = regionsFrom k u (i + 1) in
     record {
-      given = record { weight = r .given .weight; first = r .given .first; second = r .given .second; stamp = r .given .stamp; size = r .given .size; diff = r .given .diff };
+      given = record { weight = r .given .weight; first = r .given .first; second = r .given .second; size = r .given .size; diff = r .given .diff };
       enext = r .enext;
       l-rnext = r .l-rnext ∙ length-set (s .rnext) i i;
+      l-stamp = r .l-stamp ∙ length-set (s .stamp) i 0;
       l-elen = r .l-elen ∙ length-set (s .elen) i 1;
       l-rlen = r .l-rlen ∙ length-set (s .rlen) i 1;
       l-count = r .l-count ∙ length-set (s .count) i 1000;
       below = λ x p. let q : x ≡ i → ⊥ = λ e. omega arith in let w = r .below x (omega arith) in
-          (w .0 ∙ getD-set-other (s .rnext) i x i 0 q, w .1 ∙ getD-set-other (s .elen) i x 1 0 q, w .2 ∙ getD-set-other (s .rlen) i x 1 0 q, w .3 ∙ getD-set-other (s .count) i x 1000 0 q);
+          (w .0 ∙ getD-set-other (s .rnext) i x i 0 q, w .1 ∙ getD-set-other (s .elen) i x 1 0 q, w .2 ∙ getD-set-other (s .rlen) i x 1 0 q, w .3 ∙ getD-set-other (s .count) i x 1000 0 q, w .4 ∙ getD-set-other (s .stamp) i x 0 0 q);
       own = λ x p q. ⊎-elim
           (λ e. let w = r .below i (omega arith) in
-          subst (λ (y : ℕ). (getD (t .rnext) y 0 ≡ y) × (getD (t .elen) y 0 ≡ 1) × (getD (t .rlen) y 0 ≡ 1) × (getD (t .count) y 0 ≡ 1000)) (sym e)
-          (w .0 ∙ getD-set-same (s .rnext) i i 0 (omega arith), w .1 ∙ getD-set-same (s .elen) i 1 0 (omega arith), w .2 ∙ getD-set-same (s .rlen) i 1 0 (omega arith), w .3 ∙ getD-set-same (s .count) i 1000 0 (omega arith)))
+          subst (λ (y : ℕ). (getD (t .rnext) y 0 ≡ y) × (getD (t .elen) y 0 ≡ 1) × (getD (t .rlen) y 0 ≡ 1) × (getD (t .count) y 0 ≡ 1000) × (getD (t .stamp) y 0 ≡ 0)) (sym e)
+          (w .0 ∙ getD-set-same (s .rnext) i i 0 (omega arith), w .1 ∙ getD-set-same (s .elen) i 1 0 (omega arith), w .2 ∙ getD-set-same (s .rlen) i 1 0 (omega arith), w .3 ∙ getD-set-same (s .count) i 1000 0 (omega arith), w .4 ∙ getD-set-same (s .stamp) i 0 0 (omega arith)))
           (λ e. r .own x (omega arith) (omega arith))
           (eq-or-ne x i);
     }
@@ -144,6 +147,7 @@ record LinkedOne (m n L a : ℕ) (s t : Mem) (I : Linked m n L s) : Type 0 where
   pos'' : ℕ → ℕ
   given : Given t s
   rnext : t .rnext ≡ s .rnext
+  stamp : t .stamp ≡ s .stamp
   rlen : t .rlen ≡ s .rlen
   count : t .count ≡ s .count
   l-enext : length (t .enext) ≡ 2 * m + n
@@ -157,8 +161,9 @@ unfolding linkAt enext-set elen-set swap own-joined
 link-one m n L a s I lt ha = record {
   own' = own-joined (I .own) (2 * m + a) L;
   pos'' = pos-joined (I .own) (I .pos') (lens m s) (2 * m + a) L;
-  given = record { weight = refl; first = refl; second = refl; stamp = refl; size = refl; diff = refl };
+  given = record { weight = refl; first = refl; second = refl; size = refl; diff = refl };
   rnext = refl;
+  stamp = refl;
   rlen = refl;
   count = refl;
   l-enext = length-set (set (s .enext) (2 * m + a) (getD (s .enext) L 0)) L (getD (s .enext) (2 * m + a) 0) ∙ length-set (s .enext) (2 * m + a) (getD (s .enext) L 0) ∙ I .l-enext;
@@ -204,14 +209,15 @@ link-one m n L a s I lt ha = record {
 pub record Kept (t s : Mem) : Type 0 where
   pub given : Given t s
   pub rnext : t .rnext ≡ s .rnext
+  pub stamp : t .stamp ≡ s .stamp
   pub rlen : t .rlen ≡ s .rlen
   pub count : t .count ≡ s .count
 
 kept-then : (t u s : Mem) → Kept t u → Kept u s → Kept t s
-kept-then t u s a b = record { given = given-then t u s (a .given) (b .given); rnext = a .rnext ∙ b .rnext; rlen = a .rlen ∙ b .rlen; count = a .count ∙ b .count }
+kept-then t u s a b = record { given = given-then t u s (a .given) (b .given); rnext = a .rnext ∙ b .rnext; stamp = a .stamp ∙ b .stamp; rlen = a .rlen ∙ b .rlen; count = a .count ∙ b .count }
 
 kept-of : (m n L a : ℕ) (s t : Mem) (I : Linked m n L s) → LinkedOne m n L a s t I → Kept t s
-kept-of m n L a s t I o = record { given = o .given; rnext = o .rnext; rlen = o .rlen; count = o .count }
+kept-of m n L a s t I o = record { given = o .given; rnext = o .rnext; stamp = o .stamp; rlen = o .rlen; count = o .count }
 
 half-even : (m n j a : ℕ) (s t : Mem) (I : Linked m n (2 * j) s) → LinkedOne m n (2 * j) a s t I → j < m → a ≡ getD (s .first) j 0 → Linked m n (2 * j + 1) t
 half-even m n j a s t I o lt e = record {
@@ -267,7 +273,7 @@ linked-edge m n j s I lt r =
 pub linked-all : (m n k : ℕ) (s : Mem) (j : ℕ) → Linked m n (2 * j) s → j + k ≤ m → InRange m n s → Linked m n (2 * (j + k)) (linkFrom k m s j) × Kept (linkFrom k m s j) s
 unfolding linkFrom
 linked-all m n zero s j I h r = let z : 2 * j ≡ 2 * (j + 0) = omega arith in
-    (subst (λ (x : ℕ). Linked m n x s) z I, record { given = given-refl s; rnext = refl; rlen = refl; count = refl })
+    (subst (λ (x : ℕ). Linked m n x s) z I, record { given = given-refl s; rnext = refl; stamp = refl; rlen = refl; count = refl })
 linked-all m n (suc k) s j I h r =
     let e : Linked m n (2 * (j + 1)) (linkEdge m s j) × Kept (linkEdge m s j) s = linked-edge m n j s I (omega arith) r in
     let w : Linked m n (2 * (j + 1 + k)) (linkFrom k m (linkEdge m s j) (j + 1)) × Kept (linkFrom k m (linkEdge m s j) (j + 1)) (linkEdge m s j)

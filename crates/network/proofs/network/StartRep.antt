@@ -8,13 +8,13 @@ use native.Mathlib.Omega.{arith}
 use lib.Dec.{eqb}
 use lib.IntN.{pos}
 use lib.Ieee.{nan, Float}
-use lib.ListN.{length, getD}
+use lib.ListN.{length, getD, List·getD-eq-default}
 use borrow.Author.Tests.{lt-ltb, le-ltb}
 use Rattle.arithmetic.proofs.SegLaws.{length-seg}
 use Rattle.network.specs.Network.{Edge, Region, State, sizeOf, gatesOf}
 use Rattle.memory.specs.Tree.{Weighed}
 use Rattle.merge.specs.Mem.{Mem, view, Room, Sound, total}
-use Rattle.merge.specs.Steps.{unbias}
+use Rattle.merge.specs.Steps.{unbias, turned}
 use Rattle.merge.specs.Does.{Does}
 use Rattle.network.specs.Net.{rows, edgeOf, regionOf, stateOf}
 use Rattle.network.specs.Rep.{Rep, Circled}
@@ -27,7 +27,8 @@ use Rattle.merge.proofs.merge.Leaf.{room-of}
 use Rattle.merge.proofs.merge.Bias.{lt-or-le, unbias-up}
 use Rattle.merge.proofs.merge.SoundSet.{eq-or-ne}
 use Rattle.network.proofs.network.Rows.{rows-ext}
-use Rattle.network.proofs.network.TableEdges.{like-refl}
+use Rattle.network.proofs.network.TableEdges.{like-of}
+use Rattle.network.proofs.network.Facing.{now-straight}
 use Rattle.network.proofs.network.Moved.{same-no, same-yes}
 use Rattle.network.specs.Simple.{Simple}
 use Rattle.network.proofs.network.StartLinks.{Given, given-then, Slots, slots-are, Regions, regions-are, ones, next-in, lens, Linked, Kept, range-of, linked-all}
@@ -99,7 +100,7 @@ module _ (m n : ℕ) (s : Mem) (lens₀ : Lengths m n s) (raw : Raw m n s) (smal
   S = slots-are (2 * m + n) s 0 (omega (arith, lens₀ .l-enext))
 
   G : Regions s₁ s₂ 0 n
-  G = regions-are n n s₁ 0 (omega arith) (ap length (S .rnext) ∙ lens₀ .l-rnext) (ap length (S .elen) ∙ lens₀ .l-elen) (ap length (S .rlen) ∙ lens₀ .l-rlen) (ap length (S .count) ∙ lens₀ .l-count)
+  G = regions-are n n s₁ 0 (omega arith) (ap length (S .rnext) ∙ lens₀ .l-rnext) (ap length (S .elen) ∙ lens₀ .l-elen) (ap length (S .rlen) ∙ lens₀ .l-rlen) (ap length (S .count) ∙ lens₀ .l-count) (ap length (S .stamp) ∙ lens₀ .l-stamp)
 
   given₂ : Given s₂ s
   given₂ = given-then s₂ s₁ s (G .given) (S .given)
@@ -163,6 +164,9 @@ module _ (m n : ℕ) (s : Mem) (lens₀ : Lengths m n s) (raw : Raw m n s) (smal
   count₃ : (x : ℕ) → x < n → getD (s₃ .count) x 0 ≡ 1000
   count₃ x h = ap (λ (l : List ℕ). getD l x 0) (all₃ .1 .count) ∙ G .own x (omega arith) (omega arith) .3
 
+  stamp₃ : (x : ℕ) → x < n → getD (s₃ .stamp) x 0 ≡ 0
+  stamp₃ x h = ap (λ (l : List ℕ). getD l x 0) (all₃ .1 .stamp) ∙ G .own x (omega arith) (omega arith) .4
+
   edge₃ : (j : ℕ) → edgeOf s₃ j ≡ edgeOf s j
   unfolding edgeOf
   edge₃ j = rw (given₃ .weight, given₃ .first, given₃ .second, given₃ .diff) refl
@@ -194,7 +198,7 @@ module _ (m n : ℕ) (s : Mem) (lens₀ : Lengths m n s) (raw : Raw m n s) (smal
     l-second = ap length (given₃ .second) ∙ lens₀ .l-second;
     l-enext = I .l-enext;
     l-rnext = ap length (all₃ .1 .rnext) ∙ G .l-rnext ∙ ap length (S .rnext) ∙ lens₀ .l-rnext;
-    l-stamp = ap length (given₃ .stamp) ∙ lens₀ .l-stamp;
+    l-stamp = ap length (all₃ .1 .stamp) ∙ G .l-stamp ∙ ap length (S .stamp) ∙ lens₀ .l-stamp;
     l-size = ap length (given₃ .size) ∙ lens₀ .l-size;
     l-elen = I .l-elen;
     l-rlen = ap length (all₃ .1 .rlen) ∙ G .l-rlen ∙ ap length (S .rlen) ∙ lens₀ .l-rlen;
@@ -209,7 +213,7 @@ module _ (m n : ℕ) (s : Mem) (lens₀ : Lengths m n s) (raw : Raw m n s) (smal
     counts = λ j h. omega (arith, count₃ j h);
   }
 
-  pub rep₃ : Rep m n (gatesIn s₃) n s₃ (firstOf m n s₃)
+  pub rep₃ : Rep m n (gatesIn s₃) 0 s₃ (firstOf m n s₃)
   unfolding firstOf stateOf
   rep₃ = record {
     E = edgeOf s₃;
@@ -225,19 +229,17 @@ module _ (m n : ℕ) (s : Mem) (lens₀ : Lengths m n s) (raw : Raw m n s) (smal
     light = subst (λ (l : List Region). gatesOf l < 2 ^ 32) (sym regions₃) (raw .gates);
     sound = sound₃;
     small = small;
-    like = λ j h. like-refl (edgeOf s₃ j);
+    like = λ j h. like-of _ _ (now-straight s₃ j (straight j h));
     sizes = λ x h e. sym (size-one (regionOf (gatesIn s₃) (λ y. y) s₃) (λ r. unfold regionOf in refl) 0 n x (omega arith) (omega arith) ∙ (unfold regionOf gatesIn in refl));
     rchains = ones (s₃ .rnext) n (λ x. getD (s₃ .rlen) x 0) rnext₃ rlen₃;
     circled = circled₃;
     leading = λ j h l. (refl, refl);
-    marks = λ j h l e. absurd (⊎-elim (λ w. out-first j h w) (λ w. out-second j h w) e);
+    stamps = λ x. ⊎-elim (λ h. omega (arith, stamp₃ x h)) (λ h. omega (arith, List·getD-eq-default (s₃ .stamp) 0 {n = x} (omega (arith, sound₃ .l-stamp)))) (lt-or-le x n);
   }
     where
-      out-first : (j : ℕ) → j < m → edgeOf s₃ j .first ≡ n → ⊥
-      out-first j h w = unfold edgeOf in omega (arith, sound₃ .first-in j h, w)
-
-      out-second : (j : ℕ) → j < m → edgeOf s₃ j .second ≡ n → ⊥
-      out-second j h w = unfold edgeOf in omega (arith, sound₃ .second-in j h, w)
+      -- no edge is turned where no node was a base
+      straight : (j : ℕ) → j < m → turned s₃ j ≡ false
+      straight j h = unfold turned in rw (stamp₃ (getD (s₃ .first) j 0) (sound₃ .first-in j h), stamp₃ (getD (s₃ .second) j 0) (sound₃ .second-in j h)) (le-ltb 0 0 (omega arith))
 
 -- ---- begin
 module _ (m n : ℕ) (w : List ℕ) (d : List Float) (sp : Space m n w d) (raw : Raw m n (view m n w d)) (w₁ : List ℕ) (D₁ : Weighed m w w₁) where
@@ -275,7 +277,7 @@ module _ (m n : ℕ) (w : List ℕ) (d : List Float) (sp : Space m n w d) (raw :
           let e : linkFrom m m (regionsFrom n (slotsFrom (2 * m + n) s₀ 0) 0) 0 ≡ view m n w₄ d₄ = sym (D₄ .tables ∙ ap (λ (u : Mem). linkFrom m m u 0) tables₃) in
           record {
             room = room-of m n w₃ w₄ d₃ d₄ room₃ lw₄ ld₄ (D₄ .tree);
-            rep = subst (λ (u : Mem). Rep m n (gatesIn u) n u (firstOf m n u)) e (rep₃ m n s₀ l₀ raw (sp .small));
+            rep = subst (λ (u : Mem). Rep m n (gatesIn u) 0 u (firstOf m n u)) e (rep₃ m n s₀ l₀ raw (sp .small));
             net = ap (firstOf m n) (sym e) ∙ net₃ m n s₀ l₀ raw (sp .small);
             sizes = ap gatesIn (sym e) ∙ gates₃ m n s₀ l₀ raw (sp .small);
           }

@@ -8,43 +8,43 @@ use native.Mathlib.Omega.{arith}
 use lib.Dec.{eqb, ltb}
 use lib.ListN.{getD}
 use lib.Seq.{getD-set-same, getD-set-other}
-use borrow.Author.Tests.{eqb-true}
 use Rattle.network.specs.Network.{Edge, Region, State, Plan, sizeOf, plan, planFor, kill, turn, turnIf, adjust, prepare, combine}
-use Rattle.merge.specs.Mem.{Mem, Sound, weight-set}
-use Rattle.merge.specs.Steps.{unbias, walkBase, pruned, movedEdge, walkMoved, movedAll, readied}
+use Rattle.merge.specs.Mem.{Mem, Sound, weight-set, stamp-set}
+use Rattle.merge.specs.Steps.{unbias, turned, pruned, takeEdge, walkMoved, movedAll}
 use Rattle.merge.specs.Does.{Gains}
-use Rattle.network.specs.Net.{rows, edgeOf, regionOf, Like}
+use Rattle.network.specs.Net.{rows, edgeOf, edgeNow, regionOf, Like}
 use Rattle.merge.specs.Chain.{cur}
 use Rattle.network.specs.Rep.{Rep, Circled}
-use Rattle.merge.proofs.merge.SoundSet.{eq-or-ne, sound-weight}
-use Rattle.merge.proofs.merge.SoundSteps.{sound-moved}
+use Rattle.merge.proofs.merge.SoundSet.{eq-or-ne, sound-weight, sound-stamp}
+use Rattle.merge.proofs.merge.SoundSteps.{sound-take}
 use Rattle.merge.proofs.merge.Leaf.{total-less}
-use Rattle.merge.proofs.merge.Frames.{Frame, frame-moved-all, Beside, beside-refl, beside-walk-base, Same}
-use Rattle.network.proofs.network.TableEdges.{like-dead, like-then, like-at, live-word, word-dead, Words, words}
+use Rattle.merge.proofs.merge.Frames.{Frame, frame-moved-all, Beside, Same}
+use Rattle.network.proofs.network.TableEdges.{like-of, like-dead, like-then, like-at, live-word, word-dead}
+use Rattle.network.proofs.network.Facing.{now-live, Stands, stands, stands-in, stamp-newest, stamp-most, stamp-now}
+use Rattle.network.proofs.network.Rows.{has-rows}
 use Rattle.network.proofs.network.Chained.{circled-by, circled-less, at-end, met}
 use Rattle.network.proofs.network.Dropping.{Pruned, prune-is}
-use Rattle.network.proofs.network.Moved.{same-no, same-yes, Setting, Middle}
-use Rattle.network.proofs.network.MovedWalk.{begin, Walked, walk, finish, finish-marks}
-use Rattle.network.proofs.network.BaseWalk.{Plain, Ready, Walked as WalkedBase, ready-walk, ready-still}
+use Rattle.network.proofs.network.Moved.{same-no, same-yes, Setting, Middle, Grounds}
+use Rattle.network.proofs.network.MovedWalk.{begin, Walked, walk, finish}
 use Rattle.merge.proofs.merge.Counts.{Counted}
-use Rattle.network.proofs.network.Prepared.{plain, nodes-apart, setting}
+use Rattle.network.proofs.network.Prepared.{nodes-apart, setting}
 
 pub sound-walk-moved : (m n b v g k : ℕ) (s : Mem) (x : ℕ) → Gains n b v g → Sound m n s → Sound m n (walkMoved k m b v g s x)
 unfolding walkMoved
 sound-walk-moved m n b v g zero s x ok h = h
-sound-walk-moved m n b v g (suc k) s x ok h = sound-walk-moved m n b v g k (movedEdge m b v g s (x / 2)) (getD (s .enext) x 0) ok (sound-moved m n b v g s (x / 2) h ok)
+sound-walk-moved m n b v g (suc k) s x ok h = sound-walk-moved m n b v g k (takeEdge m b v g s (x / 2)) (getD (s .enext) x 0) ok (sound-take m n b v g s (x / 2) h ok)
 
 pub sound-moved-all : (m n b v g : ℕ) (s : Mem) → Gains n b v g → Sound m n s → Sound m n (movedAll m b v g s)
 unfolding movedAll
 sound-moved-all m n b v g s ok h = sound-walk-moved m n b v g (getD (s .elen) v 0 - 1) s (getD (s .enext) (2 * m + v) 0) ok h
 
-pub counted-edges : (s t : Mem) → Counted s t → (j : ℕ) → edgeOf s j ≡ edgeOf t j
-unfolding edgeOf
-counted-edges s t c j = rw (c .weight, c .first, c .second, c .diff) refl
+counted-edges : (s t : Mem) → Counted s t → (j : ℕ) → edgeNow s j ≡ edgeNow t j
+unfolding edgeNow turned edgeOf
+counted-edges s t c j = rw (c .weight, c .first, c .second, c .stamp, c .diff) refl
 
-same-edges : (s t : Mem) → Same s t → (j : ℕ) → edgeOf s j ≡ edgeOf t j
-unfolding edgeOf
-same-edges s t c j = rw (c .weight, c .first, c .second, c .diff) refl
+same-edges : (s t : Mem) → Same s t → (j : ℕ) → edgeNow s j ≡ edgeNow t j
+unfolding edgeNow turned edgeOf
+same-edges s t c j = rw (c .weight, c .first, c .second, c .stamp, c .diff) refl
 
 -- preparing turns an edge or leaves its ends
 pub prep-ends : (pl : Plan) (e : Edge) → ((prepare pl e .first ≡ e .first) × (prepare pl e .second ≡ e .second)) ⊎ ((prepare pl e .second ≡ e .first) × (prepare pl e .first ≡ e .second))
@@ -70,12 +70,10 @@ pub prep-live : (pl : Plan) (e : Edge) → prepare pl e .live ≡ kill (pl .edge
 unfolding kill prepare turn turnIf adjust
 prep-live pl e = refl
 
-module _ (m n : ℕ) (gates : ℕ → ℕ) (last : ℕ) (s : Mem) (t : State) (R : Rep m n gates last s t) where
+module _ (m n : ℕ) (gates : ℕ → ℕ) (past : ℕ) (s : Mem) (t : State) (R : Rep m n gates past s t) where
   -- ---- ends of live edges
   pub ends-in : (j : ℕ) → j < m → R .E j .live ≡ true → (R .E j .first < n) × (R .E j .second < n)
-  ends-in j h l =
-      let w : Words s j (R .E j) = words s j (R .E j) (R .like j h .whole l) l in
-      (omega (arith, w .first-is, R .sound .first-in j h), omega (arith, w .second-is, R .sound .second-in j h))
+  ends-in j h l = stands-in m n s j (R .E j) (R .sound) h (stands s j (R .E j) (R .like j h .whole l) l)
 
   module _ (e : ℕ) (lt : e < m) (l : R .E e .live ≡ true) where
     abbrev pub rs : List Region
@@ -147,17 +145,17 @@ module _ (m n : ℕ) (gates : ℕ → ℕ) (last : ℕ) (s : Mem) (t : State) (R
     unfolding weight-set
     dead₁ = getD-set-same (s .weight) e 0 0 (omega (arith, R .sound .l-weight))
 
-    kept₁ : (j : ℕ) → (j ≡ e → ⊥) → edgeOf s₁ j ≡ edgeOf s j
-    unfolding edgeOf weight-set
+    kept₁ : (j : ℕ) → (j ≡ e → ⊥) → edgeNow s₁ j ≡ edgeNow s j
+    unfolding edgeNow turned edgeOf weight-set
     kept₁ j w = rw (getD-set-other (s .weight) e j 0 0 w) refl
 
     pub same₁ : (s₁ .stamp ≡ s .stamp) × (s₁ .enext ≡ s .enext) × (s₁ .elen ≡ s .elen) × (s₁ .rnext ≡ s .rnext) × (s₁ .rlen ≡ s .rlen) × (s₁ .size ≡ s .size) × (s₁ .count ≡ s .count)
     unfolding weight-set
     same₁ = (refl, refl, refl, refl, refl, refl, refl)
 
-    like₁ : (j : ℕ) → j < m → Like (edgeOf s₁ j) (killed j)
+    like₁ : (j : ℕ) → j < m → Like (edgeNow s₁ j) (killed j)
     like₁ j h = ⊎-elim
-        (λ w. subst (λ (i : ℕ). Like (edgeOf s₁ i) (killed i)) (sym w) (like-dead _ _ (word-dead s₁ e dead₁) killed-gone))
+        (λ w. subst (λ (i : ℕ). Like (edgeNow s₁ i) (killed i)) (sym w) (like-dead _ _ (now-live s₁ e ∙ word-dead s₁ e dead₁) killed-gone))
         (λ w. like-at _ _ _ (kept₁ j w) (like-then _ _ _ (R .like j h) (sym (killed-else j w))))
         (eq-or-ne j e)
 
@@ -168,54 +166,44 @@ module _ (m n : ℕ) (gates : ℕ → ℕ) (last : ℕ) (s : Mem) (t : State) (R
         (λ w. let q : killed j ≡ R .E j = killed-else j w in (sym (ap (λ (x : Edge). x .live) q) ∙ k, q))
         (eq-or-ne j e)
 
-    lived-end : (j x : ℕ) → killed j .live ≡ true → (killed j .first ≡ x) ⊎ (killed j .second ≡ x) → (R .E j .live ≡ true) × ((R .E j .first ≡ x) ⊎ (R .E j .second ≡ x))
-    lived-end j x k h =
-        let q : (R .E j .live ≡ true) × (killed j ≡ R .E j) = lived j k in
-        (q .0, ⊎-elim (λ w. inl (sym (ap (λ (y : Edge). y .first) (q .1)) ∙ w)) (λ w. inr (sym (ap (λ (y : Edge). y .second) (q .1)) ∙ w)) h)
-
-    -- ---- the base's edges are turned and marked
+    -- ---- the base is stamped, and its edges stand from it
     abbrev pub s₂ : Mem
-    s₂ = readied m (pl .base) last s₁
+    s₂ = stamp-set s₁ (pl .base) (past + 1)
 
     pub beside₂ : Beside s₂ s₁
-    unfolding readied
-    beside₂ = go (eqb (pl .base) last)
-      where
-        go : (x : Bool) → Beside (cond x s₁ (walkBase m (pl .base) s₁)) s₁
-        go true = beside-refl s₁
-        go false = beside-walk-base m (pl .base) s₁
-
-    plain₁ : Plain m killed
-    plain₁ = plain m (R .E) (R .number) (R .simple) e lt l rs
-
-    circled₁ : Circled m n (R .node) killed s₁ (R .eown) (R .epos) (R .elens)
-    circled₁ = circled-by m n (R .node) killed s s₁ (R .eown) (R .epos) (R .elens) (same₁ .1) (same₁ .2) (circled-less m n (R .node) (R .E) killed s (R .eown) (R .epos) (R .elens) lived (R .circled))
-
-    walked₂ : WalkedBase m (pl .base) killed plain₁ n (R .node) s₂
-    unfolding readied
-    walked₂ = go (eqb (pl .base) last) refl
-      where
-        go : (x : Bool) → eqb (pl .base) last ≡ x → WalkedBase m (pl .base) killed plain₁ n (R .node) (cond x s₁ (walkBase m (pl .base) s₁))
-        go true w = record {
-          ready = ready-still m (pl .base) killed plain₁ s₁ like₁ (λ j h k d.
-              let bl : pl .base ≡ last = eqb-true (pl .base) last w in
-              let q : (R .E j .live ≡ true) × (killed j ≡ R .E j) = lived j k in
-              let r : (R .E j .live ≡ true) × ((R .E j .first ≡ last) ⊎ (R .E j .second ≡ last)) = lived-end j last k (⊎-elim (λ y. inl (y ∙ bl)) (λ y. inr (y ∙ bl)) d) in
-              let u : (R .E j .first ≡ last) × (getD (s .stamp) (R .E j .second) 0 ≡ j) = R .marks j h (r .0) (r .1) in
-              (ap (λ (y : Edge). y .first) (q .1) ∙ u .0 ∙ sym bl, ap (λ (y : List ℕ). getD y (killed j .second) 0) (same₁ .0) ∙ ap (λ (y : Edge). getD (s .stamp) (y .second) 0) (q .1) ∙ u .1));
-          o = R .eown;
-          q = R .epos;
-          l = R .elens;
-          circled = circled₁;
-          sound = sound₁;
-        }
-        go false w = ready-walk m (pl .base) killed plain₁ n (R .node) base-in base-leads s₁ (R .eown) (R .epos) (R .elens) circled₁ sound₁ like₁
+    unfolding stamp-set
+    beside₂ = record { rnext = refl; size = refl; rlen = refl; count = refl }
 
     pub sound₂ : Sound m n s₂
-    sound₂ = walked₂ .sound
+    sound₂ = sound-stamp m n s₁ sound₁ (pl .base) (past + 1)
 
-    ready₂ : Ready m (pl .base) killed plain₁ s₂
-    ready₂ = walked₂ .ready
+    newest₁ : (x : ℕ) → getD (s₁ .stamp) x 0 < past + 1
+    newest₁ x = subst (λ (y : List ℕ). getD y x 0 < past + 1) (sym (same₁ .0)) (omega (arith, R .stamps x))
+
+    circled₂ : Circled m n (R .node) killed s₂ (R .eown) (R .epos) (R .elens)
+    unfolding stamp-set
+    circled₂ = circled-by m n (R .node) killed s s₂ (R .eown) (R .epos) (R .elens) (same₁ .1) (same₁ .2) (circled-less m n (R .node) (R .E) killed s (R .eown) (R .epos) (R .elens) lived (R .circled))
+
+    proper : (j : ℕ) → j < m → killed j .live ≡ true → killed j .first ≡ killed j .second → ⊥
+    proper j h k w = let q : (R .E j .live ≡ true) × (killed j ≡ R .E j) = lived j k in
+        R .simple .proper (R .E j) (has-rows (R .E) 0 m j (omega arith) (omega arith)) (q .0) (sym (ap (λ (x : Edge). x .first) (q .1)) ∙ w ∙ ap (λ (x : Edge). x .second) (q .1))
+
+    like₂ : (j : ℕ) → j < m → Like (edgeNow s₂ j) (turn (pl .base) (killed j))
+    like₂ j h = go (killed j .live) refl
+      where
+        same-live : edgeNow s₂ j .live ≡ edgeNow s₁ j .live
+        same-live = let e : edgeOf s₂ j .live ≡ edgeOf s₁ j .live = unfold edgeOf stamp-set in refl in now-live s₂ j ∙ e ∙ sym (now-live s₁ j)
+
+        turn-live : turn (pl .base) (killed j) .live ≡ killed j .live
+        turn-live = unfold turn turnIf in refl
+
+        go : (u : Bool) → killed j .live ≡ u → Like (edgeNow s₂ j) (turn (pl .base) (killed j))
+        go false u = like-dead _ _ (same-live ∙ like₁ j h .live ∙ u) (turn-live ∙ u)
+        go true u =
+            let is : edgeNow s₁ j ≡ killed j = like₁ j h .whole u in
+            let w : Stands s₁ j (killed j) = stands s₁ j (killed j) is u in
+            let apart₁ : getD (s₁ .first) j 0 ≡ getD (s₁ .second) j 0 → ⊥ = λ r. proper j h u (⊎-elim (λ p. sym (p .0) ∙ r ∙ p .1) (λ p. sym (p .1) ∙ sym r ∙ p .0) (w .ends)) in
+            like-of _ _ (stamp-now m n s₁ sound₁ (pl .base) (past + 1) base-in newest₁ j apart₁ ∙ ap (turn (pl .base)) is)
 
     -- ---- the moved node's edges go to the base
     module _ (g : ℕ) (gain : unbias g ≡ pl .gain) (g-in : g ≤ 2000) (s₃ : Mem) (counted : Counted s₃ s₂) (sound₃ : Sound m n s₃) where
@@ -229,21 +217,22 @@ module _ (m n : ℕ) (gates : ℕ → ℕ) (last : ℕ) (s : Mem) (t : State) (R
       S = setting m (R .E) (R .number) (R .simple) e lt l rs g gain
 
       -- the moved node's chain is pruned
-      like₃ : (j : ℕ) → j < m → Like (edgeOf s₃ j) (ready j)
-      like₃ j h = like-at _ _ _ (counted-edges s₃ s₂ counted j) (ready₂ .like j h)
+      like₃ : (j : ℕ) → j < m → Like (edgeNow s₃ j) (ready j)
+      like₃ j h = like-at _ _ _ (counted-edges s₃ s₂ counted j) (like₂ j h)
 
       abbrev pub sₚ : Mem
       sₚ = pruned m (pl .moved) s₃
 
       pub prunedₚ : Pruned m n (R .node) killed s₃ sₚ
-      prunedₚ = prune-is m n (R .node) killed (pl .moved) moved-in moved-leads s₃ (walked₂ .o) (walked₂ .q) (walked₂ .l)
-          (circled-by m n (R .node) killed s₂ s₃ (walked₂ .o) (walked₂ .q) (walked₂ .l) (counted .enext) (counted .elen) (walked₂ .circled)) sound₃
-          (λ j h k. live-word s₃ j (like₃ j h .live ∙ (unfold turn turnIf in k)))
+      prunedₚ = prune-is m n (R .node) killed (pl .moved) moved-in moved-leads s₃ (R .eown) (R .epos) (R .elens)
+          (circled-by m n (R .node) killed s₂ s₃ (R .eown) (R .epos) (R .elens) (counted .enext) (counted .elen) circled₂) sound₃
+          (λ j h k. live-word s₃ j (sym (now-live s₃ j) ∙ like₃ j h .live ∙ (unfold turn turnIf in k)))
 
-      middleₚ : Middle m (pl .base) (pl .moved) prep ready (λ j. false) sₚ
-      middleₚ = begin m (pl .base) (pl .moved) g prep ready S sₚ
-          (λ j h. like-at _ _ _ (same-edges sₚ s₃ (prunedₚ .same) j) (like₃ j h))
-          (λ j h k w. ap (λ (y : List ℕ). getD y (ready j .second) 0) (prunedₚ .same .stamp ∙ counted .stamp) ∙ ready₂ .marks j h k w)
+      stampₚ : sₚ .stamp ≡ s₂ .stamp
+      stampₚ = prunedₚ .same .stamp ∙ counted .stamp
+
+      middleₚ : Middle m (pl .base) (pl .moved) prep ready (sₚ .enext) (sₚ .elen) (sₚ .stamp) (λ j. false) sₚ
+      middleₚ = begin m (pl .base) (pl .moved) g prep ready S sₚ (λ j h. like-at _ _ _ (same-edges sₚ s₃ (prunedₚ .same) j) (like₃ j h))
 
       abbrev pub s₄ : Mem
       s₄ = movedAll m (pl .base) (pl .moved) g sₚ
@@ -275,22 +264,49 @@ module _ (m n : ℕ) (gates : ℕ → ℕ) (last : ℕ) (s : Mem) (t : State) (R
       pub circled₄ : Circled m n (R .node) killed s₄ o₄ q₄ l₄
       circled₄ = circled-by m n (R .node) killed sₚ s₄ o₄ q₄ l₄ (frame₄ .enext) (frame₄ .elen) (prunedₚ .circled)
 
-      walked : Walked m (pl .base) (pl .moved) g prep ready S s₄ (λ j. false) (sₚ .enext) (getD (sₚ .enext) (2 * m + pl .moved) 0) (getD (sₚ .elen) (pl .moved) 0 - 1)
+      -- an end of an edge before is one of the edge as prepared
+      ended : (j x : ℕ) → (prep j .first ≡ x) ⊎ (prep j .second ≡ x) → (killed j .first ≡ x) ⊎ (killed j .second ≡ x)
+      ended j x d = go d (prep-ends pl (R .E j))
+        where
+          go : (prep j .first ≡ x) ⊎ (prep j .second ≡ x) → ((prep j .first ≡ R .E j .first) × (prep j .second ≡ R .E j .second)) ⊎ ((prep j .second ≡ R .E j .first) × (prep j .first ≡ R .E j .second)) → (killed j .first ≡ x) ⊎ (killed j .second ≡ x)
+          go (inl w) (inl p) = inl (kill-ends pl (R .E j) .0 ∙ sym (p .0) ∙ w)
+          go (inl w) (inr p) = inr (kill-ends pl (R .E j) .1 ∙ sym (p .1) ∙ w)
+          go (inr w) (inl p) = inr (kill-ends pl (R .E j) .1 ∙ sym (p .1) ∙ w)
+          go (inr w) (inr p) = inl (kill-ends pl (R .E j) .0 ∙ sym (p .0) ∙ w)
+
+      -- the ends of live edges lead their regions
+      leads : (j x : ℕ) → j < m → killed j .live ≡ true → (killed j .first ≡ x) ⊎ (killed j .second ≡ x) → (x < n) × (R .node x ≡ x)
+      leads j x h k d =
+          let q : (R .E j .live ≡ true) × (killed j ≡ R .E j) = lived j k in
+          ⊎-elim
+          (λ w. subst (λ (y : ℕ). (y < n) × (R .node y ≡ y)) (sym (ap (λ (z : Edge). z .first) (q .1)) ∙ w) (ends-in j h (q .0) .0, R .leading j h (q .0) .0))
+          (λ w. subst (λ (y : ℕ). (y < n) × (R .node y ≡ y)) (sym (ap (λ (z : Edge). z .second) (q .1)) ∙ w) (ends-in j h (q .0) .1, R .leading j h (q .0) .1))
+          d
+
+      reach : (j x : ℕ) → j < m → prep j .live ≡ true → (prep j .first ≡ x) ⊎ (prep j .second ≡ x) → (i : ℕ) × (i < getD (sₚ .elen) x 0 - 1) × (cur (sₚ .enext) (getD (sₚ .enext) (2 * m + x) 0) i / 2 ≡ j)
+      reach j x h k d =
+          let kl : killed j .live ≡ true = sym (prep-live pl (R .E j)) ∙ k in
+          let y : (x < n) × (R .node x ≡ x) = leads j x h kl (ended j x d) in
+          met m n (R .node) killed sₚ o₄ q₄ l₄ (prunedₚ .circled) j x (y .0) (y .1) (at-end m o₄ j (killed j) x h (prunedₚ .circled .ends j h kl) (ended j x d))
+
+      grounds : Grounds m (pl .base) prep (sₚ .enext) (sₚ .elen) (sₚ .stamp)
+      grounds = record {
+        reach = reach;
+        newest = λ x w. subst (λ (y : List ℕ). getD y x 0 < getD y (pl .base) 0) (sym stampₚ) (stamp-newest m n s₁ sound₁ (pl .base) (past + 1) base-in newest₁ x w);
+      }
+
+      walked : Walked m (pl .base) (pl .moved) g prep ready S (sₚ .enext) (sₚ .elen) (sₚ .stamp) grounds s₄ (λ j. false) (getD (sₚ .enext) (2 * m + pl .moved) 0) (getD (sₚ .elen) (pl .moved) 0 - 1)
       unfolding movedAll
-      walked = walk m (pl .base) (pl .moved) g prep ready S n ok (getD (sₚ .elen) (pl .moved) 0 - 1) sₚ (prunedₚ .sound) (λ j. false) middleₚ (sₚ .enext) refl (getD (sₚ .enext) (2 * m + pl .moved) 0)
+      walked = walk m (pl .base) (pl .moved) g prep ready S (sₚ .enext) (sₚ .elen) (sₚ .stamp) grounds n ok (getD (sₚ .elen) (pl .moved) 0 - 1) sₚ (prunedₚ .sound) (λ j. false) middleₚ (getD (sₚ .enext) (2 * m + pl .moved) 0)
 
       all-done : (j : ℕ) → j < m → prep j .live ≡ true → prep j .first ≡ pl .moved → walked .done' j ≡ true
       all-done j h k w =
-          let kl : killed j .live ≡ true = sym (prep-live pl (R .E j)) ∙ k in
-          let d : (killed j .first ≡ pl .moved) ⊎ (killed j .second ≡ pl .moved) = ⊎-elim (λ y. inl (kill-ends pl (R .E j) .0 ∙ sym (y .0) ∙ w)) (λ y. inr (kill-ends pl (R .E j) .1 ∙ sym (y .1) ∙ w)) (prep-ends pl (R .E j)) in
-          let u : (i : ℕ) × (i < getD (sₚ .elen) (pl .moved) 0 - 1) × (cur (sₚ .enext) (getD (sₚ .enext) (2 * m + pl .moved) 0) i / 2 ≡ j)
-          = met m n (R .node) killed sₚ o₄ q₄ l₄ (prunedₚ .circled) j (pl .moved) moved-in moved-leads (at-end m o₄ j (killed j) (pl .moved) h (prunedₚ .circled .ends j h kl) d) in
+          let u : (i : ℕ) × (i < getD (sₚ .elen) (pl .moved) 0 - 1) × (cur (sₚ .enext) (getD (sₚ .enext) (2 * m + pl .moved) 0) i / 2 ≡ j) = reach j (pl .moved) h k (inl w) in
           ap (walked .done') (sym (u .2)) ∙ walked .seen (u .0) (u .1) (subst (λ (y : ℕ). y < m) (sym (u .2)) h)
           (ap (λ (y : ℕ). prep y .live) (u .2) ∙ k) (ap (λ (y : ℕ). prep y .first) (u .2) ∙ w)
 
-      pub like₄ : (j : ℕ) → j < m → Like (edgeOf s₄ j) (combine (rows prep 0 m) (pl .base) (pl .moved) (prep j))
-      like₄ = finish m (pl .base) (pl .moved) g prep ready S s₄ (walked .done') (walked .middle) all-done
+      pub like₄ : (j : ℕ) → j < m → Like (edgeNow s₄ j) (combine (rows prep 0 m) (pl .base) (pl .moved) (prep j))
+      like₄ = finish m (pl .base) (pl .moved) g prep ready S (sₚ .enext) (sₚ .elen) (sₚ .stamp) s₄ (walked .done') (walked .middle) all-done
 
-      pub marks₄ : (j : ℕ) → j < m → combine (rows prep 0 m) (pl .base) (pl .moved) (prep j) .live ≡ true → combine (rows prep 0 m) (pl .base) (pl .moved) (prep j) .first ≡ pl .base
-          → getD (s₄ .stamp) (combine (rows prep 0 m) (pl .base) (pl .moved) (prep j) .second) 0 ≡ j
-      marks₄ = finish-marks m (pl .base) (pl .moved) g prep ready S s₄ (walked .done') (walked .middle) all-done
+      pub stamps₄ : (x : ℕ) → getD (s₄ .stamp) x 0 ≤ past + 1
+      stamps₄ x = subst (λ (y : List ℕ). getD y x 0 ≤ past + 1) (sym (frame₄ .stamp ∙ stampₚ)) (stamp-most m n s₁ sound₁ (pl .base) (past + 1) base-in newest₁ x)

@@ -13,8 +13,8 @@ use Rattle.network.proofs.Restrict.{prepare-num, combine-num}
 use Rattle.network.proofs.Ends.{combine-live}
 use Rattle.network.proofs.Choice.{size-base}
 use Rattle.network.proofs.SimpleLaws.{Turned, step-simple}
-use Rattle.merge.specs.Mem.{Mem, Sound, weight-set}
-use Rattle.merge.specs.Steps.{unbias, accepts, walkRaise, pruned, movedAll, readied, handed, then, merged}
+use Rattle.merge.specs.Mem.{Mem, Sound, weight-set, stamp-set}
+use Rattle.merge.specs.Steps.{unbias, accepts, walkRaise, pruned, movedAll, handed, then, merged}
 use Rattle.network.specs.Net.{rows, regionOf}
 use Rattle.merge.specs.Chain.{cur, Chains, own-joined, pos-joined, len-joined}
 use Rattle.network.specs.Rep.{Rep, Circled, Ends}
@@ -27,7 +27,7 @@ use Rattle.merge.proofs.merge.Counts.{Gained, Gives, raise}
 use Rattle.network.proofs.network.Sums.{accepts-is, accepted-sum, size-else, gates-move}
 use Rattle.network.proofs.network.After.{swap, swapped, chains-len, after, after-edges, after-stamp, after-count, after-rnext, after-enext, after-size, after-elen, after-rlen, sound-after, sum-there, all-yes, all-no}
 use Rattle.network.proofs.network.Prepared.{at-rows, setting}
-use Rattle.network.proofs.network.StepEdges.{prep-ends, prep-live, base-in, moved-in, base-leads, moved-leads, apart, beside₂, sound₂, same₁, beside₄, o₄, q₄, l₄, circled₄, sound₄, like₄, marks₄}
+use Rattle.network.proofs.network.StepEdges.{prep-ends, prep-live, base-in, moved-in, base-leads, moved-leads, apart, beside₂, sound₂, same₁, beside₄, o₄, q₄, l₄, circled₄, sound₄, like₄, stamps₄}
 use lib.Dec.{eqb}
 use borrow.Author.Tests.{eqb-true}
 use Rattle.arithmetic.specs.Seq.{all}
@@ -61,7 +61,7 @@ combine-ends es b v e ns = go (eqb b (e .first)) refl (eqb v (e .first)) refl (f
     go false xe true ye o = (rw ye refl, ts)
     go false xe false ye o = (rw ye refl, ts)
 
-module _ (m n : ℕ) (gates : ℕ → ℕ) (last : ℕ) (s : Mem) (t : State) (R : Rep m n gates last s t) (e : ℕ) (lt : e < m) (l : R .E e .live ≡ true) where
+module _ (m n : ℕ) (gates : ℕ → ℕ) (past : ℕ) (s : Mem) (t : State) (R : Rep m n gates past s t) (e : ℕ) (lt : e < m) (l : R .E e .live ≡ true) where
   abbrev rs : List Region
   rs = rows (regionOf gates (R .node) s) 0 n
 
@@ -84,28 +84,28 @@ module _ (m n : ℕ) (gates : ℕ → ℕ) (last : ℕ) (s : Mem) (t : State) (R
   node' = own-joined (R .node) b v
 
   abbrev s₂ : Mem
-  s₂ = readied m b last (weight-set s e 0)
+  s₂ = stamp-set (weight-set s e 0) b (past + 1)
 
   hb : b < n
-  hb = base-in m n gates last s t R e lt l
+  hb = base-in m n gates past s t R e lt l
 
   hv : v < n
-  hv = moved-in m n gates last s t R e lt l
+  hv = moved-in m n gates past s t R e lt l
 
   lb : R .node b ≡ b
-  lb = base-leads m n gates last s t R e lt l
+  lb = base-leads m n gates past s t R e lt l
 
   lv : R .node v ≡ v
-  lv = moved-leads m n gates last s t R e lt l
+  lv = moved-leads m n gates past s t R e lt l
 
   ne : b ≡ v → ⊥
-  ne = apart m n gates last s t R e lt l
+  ne = apart m n gates past s t R e lt l
 
   rnext₂ : s₂ .rnext ≡ s .rnext
-  rnext₂ = beside₂ m n gates last s t R e lt l .rnext ∙ same₁ m n gates last s t R e lt l .3
+  rnext₂ = beside₂ m n gates past s t R e lt l .rnext ∙ same₁ m n gates past s t R e lt l .3
 
   count₂ : s₂ .count ≡ s .count
-  count₂ = beside₂ m n gates last s t R e lt l .count ∙ same₁ m n gates last s t R e lt l .6
+  count₂ = beside₂ m n gates past s t R e lt l .count ∙ same₁ m n gates past s t R e lt l .6
 
   node-moved : (x : ℕ) → R .node x ≡ v → node' x ≡ b
   unfolding own-joined
@@ -137,19 +137,19 @@ module _ (m n : ℕ) (gates : ℕ → ℕ) (last : ℕ) (s : Mem) (t : State) (R
     s₆ = after m b v s₄
 
     sound₃ : Sound m n s₃
-    sound₃ = G .sound m (sound₂ m n gates last s t R e lt l)
+    sound₃ = G .sound m (sound₂ m n gates past s t R e lt l)
 
     still₄ : Beside s₄ s₃
-    still₄ = beside₄ m n gates last s t R e lt l g gain g-in s₃ (G .else) sound₃
+    still₄ = beside₄ m n gates past s t R e lt l g gain g-in s₃ (G .else) sound₃
 
     rnext₄ : s₄ .rnext ≡ s .rnext
     rnext₄ = still₄ .rnext ∙ G .else .rnext ∙ rnext₂
 
     size₄ : s₄ .size ≡ s .size
-    size₄ = still₄ .size ∙ G .else .size ∙ beside₂ m n gates last s t R e lt l .size ∙ same₁ m n gates last s t R e lt l .5
+    size₄ = still₄ .size ∙ G .else .size ∙ beside₂ m n gates past s t R e lt l .size ∙ same₁ m n gates past s t R e lt l .5
 
     rlen₄ : s₄ .rlen ≡ s .rlen
-    rlen₄ = still₄ .rlen ∙ G .else .rlen ∙ beside₂ m n gates last s t R e lt l .rlen ∙ same₁ m n gates last s t R e lt l .4
+    rlen₄ = still₄ .rlen ∙ G .else .rlen ∙ beside₂ m n gates past s t R e lt l .rlen ∙ same₁ m n gates past s t R e lt l .4
 
     count₆ : s₆ .count ≡ s₃ .count
     count₆ = after-count m b v s₄ ∙ still₄ .count
@@ -207,19 +207,19 @@ module _ (m n : ℕ) (gates : ℕ → ℕ) (last : ℕ) (s : Mem) (t : State) (R
 
     -- owners, places and lengths in the chains of slots, before they are joined
     abbrev o : ℕ → ℕ
-    o = o₄ m n gates last s t R e lt l g gain g-in s₃ (G .else) sound₃
+    o = o₄ m n gates past s t R e lt l g gain g-in s₃ (G .else) sound₃
 
     abbrev q : ℕ → ℕ
-    q = q₄ m n gates last s t R e lt l g gain g-in s₃ (G .else) sound₃
+    q = q₄ m n gates past s t R e lt l g gain g-in s₃ (G .else) sound₃
 
     abbrev len : ℕ → ℕ
-    len = l₄ m n gates last s t R e lt l g gain g-in s₃ (G .else) sound₃
+    len = l₄ m n gates past s t R e lt l g gain g-in s₃ (G .else) sound₃
 
     abbrev killed : ℕ → Edge
     killed j = kill (pl .edge) (R .E j)
 
     C : Circled m n (R .node) killed s₄ o q len
-    C = circled₄ m n gates last s t R e lt l g gain g-in s₃ (G .else) sound₃
+    C = circled₄ m n gates past s t R e lt l g gain g-in s₃ (G .else) sound₃
 
     abbrev eown' : ℕ → ℕ
     eown' = own-joined o (2 * m + b) (2 * m + v)
@@ -236,7 +236,7 @@ module _ (m n : ℕ) (gates : ℕ → ℕ) (last : ℕ) (s : Mem) (t : State) (R
 
     echains' : Chains (s₆ .enext) (2 * m + n) eown' (pos-joined o q len (2 * m + b) (2 * m + v)) (len-joined len (2 * m + b) (2 * m + v))
     echains' = subst (λ (N : List ℕ). Chains N (2 * m + n) eown' (pos-joined o q len (2 * m + b) (2 * m + v)) (len-joined len (2 * m + b) (2 * m + v))) (sym (after-enext m b v s₄))
-        (swapped (s₄ .enext) (2 * m + n) o q len (C .echains) (sound₄ m n gates last s t R e lt l g gain g-in s₃ (G .else) sound₃ .l-enext) (2 * m + b) (2 * m + v) (omega (arith, hb)) (omega (arith, hv)) (C .header b hb lb) (C .header v hv lv) (λ w. ne (omega arith)))
+        (swapped (s₄ .enext) (2 * m + n) o q len (C .echains) (sound₄ m n gates past s t R e lt l g gain g-in s₃ (G .else) sound₃ .l-enext) (2 * m + b) (2 * m + v) (omega (arith, hb)) (omega (arith, hv)) (C .header b hb lb) (C .header v hv lv) (λ w. ne (omega arith)))
 
     -- a node that leads afterwards led before, and is not the moved node
     was-leader : (x : ℕ) → node' x ≡ x → (R .node x ≡ x) × (x ≡ v → ⊥)
@@ -250,7 +250,7 @@ module _ (m n : ℕ) (gates : ℕ → ℕ) (last : ℕ) (s : Mem) (t : State) (R
 
     lengths' : (x : ℕ) → x < n → node' x ≡ x → len-joined len (2 * m + b) (2 * m + v) (2 * m + x) ≡ getD (s₆ .elen) x 0
     unfolding len-joined
-    lengths' x h w = ⊎-elim here there (eq-or-ne x b) ∙ sym (ap (λ (y : List ℕ). getD y x 0) (after-elen m b v s₄) ∙ sum-there (s₄ .elen) n b v x (sound₄ m n gates last s t R e lt l g gain g-in s₃ (G .else) sound₃ .l-elen) hb)
+    lengths' x h w = ⊎-elim here there (eq-or-ne x b) ∙ sym (ap (λ (y : List ℕ). getD y x 0) (after-elen m b v s₄) ∙ sum-there (s₄ .elen) n b v x (sound₄ m n gates past s t R e lt l g gain g-in s₃ (G .else) sound₃ .l-elen) hb)
       where
         here : x ≡ b → cond (eqb (2 * m + b) (2 * m + x)) (len (2 * m + b) + len (2 * m + v)) (len (2 * m + x)) ≡ cond (eqb b x) (getD (s₄ .elen) b 0 + getD (s₄ .elen) v 0) (getD (s₄ .elen) x 0)
         here z = rw (same-yes (2 * m + b) (2 * m + x) (omega arith), same-yes b x (sym z)) (ap (λ (y : ℕ). y + len (2 * m + v)) (C .lengths b hb lb) ∙ ap (λ (y : ℕ). getD (s₄ .elen) b 0 + y) (C .lengths v hv lv))
@@ -309,14 +309,8 @@ module _ (m n : ℕ) (gates : ℕ → ℕ) (last : ℕ) (s : Mem) (t : State) (R
         go (inl p) w = (end-to _ _ _ (c .0) (p .0) (w .0), end-to _ _ _ (c .1) (p .1) (w .1))
         go (inr p) w = (end-to _ _ _ (c .0) (p .1) (w .1), end-to _ _ _ (c .1) (p .0) (w .0))
 
-    second-far : (j : ℕ) → j < m → E' j .live ≡ true → E' j .second ≡ b → ⊥
-    second-far j h k w =
-        let pt : Turned b v (prep j) = prepared-second j h (lived j k) in
-        pt .0 (sym (to-else b v (prep j .second) (pt .1)) ∙ sym (combine-ends (rows prep 0 m) b v (prep j) (pt .1) .1) ∙ w)
-
-    marks' : (j : ℕ) → j < m → E' j .live ≡ true → (E' j .first ≡ b) ⊎ (E' j .second ≡ b) → (E' j .first ≡ b) × (getD (s₆ .stamp) (E' j .second) 0 ≡ j)
-    marks' j h k (inl w) = (w, ap (λ (y : List ℕ). getD y (E' j .second) 0) (after-stamp m b v s₄) ∙ marks₄ m n gates last s t R e lt l g gain g-in s₃ (G .else) sound₃ j h k w)
-    marks' j h k (inr w) = absurd (second-far j h k w)
+    stamps' : (x : ℕ) → getD (s₆ .stamp) x 0 ≤ past + 1
+    stamps' x = subst (λ (y : List ℕ). getD y x 0 ≤ past + 1) (sym (after-stamp m b v s₄)) (stamps₄ m n gates past s t R e lt l g gain g-in s₃ (G .else) sound₃ x)
 
     -- ---- the sizes
     sizes' : (x : ℕ) → x < n → node' x ≡ x → getD (s₆ .size) x 0 ≡ sizeOf (rows (regionOf gates node' s₆) 0 n) x
@@ -337,7 +331,7 @@ module _ (m n : ℕ) (gates : ℕ → ℕ) (last : ℕ) (s : Mem) (t : State) (R
             ∙ R .sizes x h o ∙ sym (size-else pl x q (λ z. r (o ∙ z)) rs))
             (eq-or-ne (R .node x) v)
 
-    pub rep' : Rep m n gates b s₆ (step t e)
+    pub rep' : Rep m n gates (past + 1) s₆ (step t e)
     rep' = record {
       E = E';
       node = node';
@@ -350,14 +344,14 @@ module _ (m n : ℕ) (gates : ℕ → ℕ) (last : ℕ) (s : Mem) (t : State) (R
       number = λ j. combine-num (rows prep 0 m) b v (prep j) ∙ prepare-num pl (R .E j) ∙ R .number j;
       simple = subst (λ (x : List Edge). Simple x) edges' (step-simple t e (subst (λ (x : List Edge). Simple x) (sym (R .edges)) (R .simple)));
       light = subst (λ (x : ℕ). x < 2 ^ 32) (sym (gates-move pl rs) ∙ ap gatesOf moved-rows) (R .light);
-      sound = sound-after m b v s₄ n hb hv (sound₄ m n gates last s t R e lt l g gain g-in s₃ (G .else) sound₃);
+      sound = sound-after m b v s₄ n hb hv (sound₄ m n gates past s t R e lt l g gain g-in s₃ (G .else) sound₃);
       small = R .small;
-      like = λ j h. like-at _ _ _ (after-edges m b v s₄ j) (like₄ m n gates last s t R e lt l g gain g-in s₃ (G .else) sound₃ j h);
+      like = λ j h. like-at _ _ _ (after-edges m b v s₄ j) (like₄ m n gates past s t R e lt l g gain g-in s₃ (G .else) sound₃ j h);
       sizes = sizes';
       rchains = rchains';
       circled = record { echains = echains'; header = header'; lengths = lengths'; ends = ends' };
       leading = leading';
-      marks = marks';
+      stamps = stamps';
     }
 
     yes' : all (bounded 1000) (raised (pl .gain) rs v) ≡ true
@@ -368,9 +362,9 @@ module _ (m n : ℕ) (gates : ℕ → ℕ) (last : ℕ) (s : Mem) (t : State) (R
   -- ---- the whole merge
   unfoldable pub MergeIs : Option Mem → Type 0
   MergeIs none = all (bounded 1000) (raised (pl .gain) rs v) ≡ false
-  MergeIs (some s') = (all (bounded 1000) (raised (pl .gain) rs v) ≡ true) × Rep m n gates b s' (step t e)
+  MergeIs (some s') = (all (bounded 1000) (raised (pl .gain) rs v) ≡ true) × Rep m n gates (past + 1) s' (step t e)
 
-  pub merge-is : (g : ℕ) → unbias g ≡ pl .gain → g ≤ 2000 → MergeIs (merged m last e b v g s)
+  pub merge-is : (g : ℕ) → unbias g ≡ pl .gain → g ≤ 2000 → MergeIs (merged m (past + 1) e b v g s)
   unfolding MergeIs merged then handed Gives
   merge-is g gain g-in = go (walkRaise (getD (s .rlen) v 0) g s₂ v)
       (raise g (s .rnext) n (getD (s .rlen) v 0) v s₂ (ap length count₂ ∙ R .sound .l-count) rnext₂ (λ i p. R .rchains .inside v i hv lv p)

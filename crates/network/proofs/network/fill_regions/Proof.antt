@@ -89,6 +89,24 @@ mul-w-11 c = omega (arith, c .loop-test .taken, c .before .loop .inv .room .word
 slice-write-w-4 : tie.Need-slice-write-w-4 Inv-loop μ-loop
 slice-write-w-4 c = let h = c .before .loop .inv .room .words in simp length-set (omega arith)
 
+mul-w-12 : tie.Need-mul-w-12 Inv-loop μ-loop
+mul-w-12 c = omega (arith, c .loop-test .taken, c .before .loop .inv .room .words, c .before .loop .inv .room .small)
+
+mul-w-13 : tie.Need-mul-w-13 Inv-loop μ-loop
+mul-w-13 c = omega (arith, c .loop-test .taken, c .before .loop .inv .room .words, c .before .loop .inv .room .small)
+
+add-w-9 : tie.Need-add-w-9 Inv-loop μ-loop
+add-w-9 c = omega (arith, c .loop-test .taken, c .before .loop .inv .room .words, c .before .loop .inv .room .small)
+
+add-w-10 : tie.Need-add-w-10 Inv-loop μ-loop
+add-w-10 c = omega (arith, c .loop-test .taken, c .before .loop .inv .room .words, c .before .loop .inv .room .small)
+
+mul-w-14 : tie.Need-mul-w-14 Inv-loop μ-loop
+mul-w-14 c = omega (arith, c .loop-test .taken, c .before .loop .inv .room .words, c .before .loop .inv .room .small)
+
+slice-write-w-5 : tie.Need-slice-write-w-5 Inv-loop μ-loop
+slice-write-w-5 c = let h = c .before .loop .inv .room .words in simp length-set (omega arith)
+
 add-x : tie.Need-add-x Inv-loop μ-loop
 add-x c = omega (arith, c .loop-test .taken, c .before .loop .inv .room .words, c .before .loop .inv .room .small)
 
@@ -135,6 +153,12 @@ fill-regions-spec =
     add-w-8
     mul-w-11
     slice-write-w-4
+    mul-w-12
+    mul-w-13
+    add-w-9
+    add-w-10
+    mul-w-14
+    slice-write-w-5
     add-x
     loop-less
     loop-again
