@@ -70,12 +70,12 @@ secondAt e = 4 * e
 abbrev pub enextAt : ℕ → ℕ
 enextAt e = 5 * e
 
--- of each node: the next region of its chain, its mark, its size, the lengths of its two chains, its count
+-- of each node: the next region of its chain, its stamp, its size, the lengths of its two chains, its count
 abbrev pub rnextAt : ℕ → ℕ → ℕ
 rnextAt e v = 7 * e + v
 
-abbrev pub markAt : ℕ → ℕ → ℕ
-markAt e v = 7 * e + 2 * v
+abbrev pub stampAt : ℕ → ℕ → ℕ
+stampAt e v = 7 * e + 2 * v
 
 abbrev pub nodeSizeAt : ℕ → ℕ → ℕ
 nodeSizeAt e v = 7 * e + 3 * v
@@ -124,7 +124,7 @@ abbrev pub mergeParts : ℕ → ℕ → ℕ → List Part
 mergeParts n k e =
     part 0 n ∷ part (sizesAt n) (k + 1) ∷ part (countsAt n k) (k + 1)
     ∷ part (tablesAt n + weightAt) e ∷ part (tablesAt n + treeAt e) (2 * e) ∷ part (tablesAt n + firstAt e) e ∷ part (tablesAt n + secondAt e) e
-    ∷ part (tablesAt n + enextAt e) (2 * e + (k + 1)) ∷ part (tablesAt n + rnextAt e (k + 1)) (k + 1) ∷ part (tablesAt n + markAt e (k + 1)) (k + 1)
+    ∷ part (tablesAt n + enextAt e) (2 * e + (k + 1)) ∷ part (tablesAt n + rnextAt e (k + 1)) (k + 1) ∷ part (tablesAt n + stampAt e (k + 1)) (k + 1)
     ∷ part (tablesAt n + nodeSizeAt e (k + 1)) (k + 1) ∷ part (tablesAt n + elenAt e (k + 1)) (k + 1) ∷ part (tablesAt n + rlenAt e (k + 1)) (k + 1)
     ∷ part (tablesAt n + nodeCountAt e (k + 1)) (k + 1) ∷ []
 

@@ -7,7 +7,7 @@ use lib.Ieee.{binary32, fits, nan, Float}
 use lib.ListN.{length, getD, set}
 use Rattle.arithmetic.specs.Seg.{seg}
 use Rattle.memory.specs.Tree.{Tree}
-use Rattle.memory.specs.Layout.{weightAt, firstAt, secondAt, enextAt, rnextAt, markAt, nodeSizeAt, elenAt, rlenAt, nodeCountAt, tableWords}
+use Rattle.memory.specs.Layout.{weightAt, firstAt, secondAt, enextAt, rnextAt, stampAt, nodeSizeAt, elenAt, rlenAt, nodeCountAt, tableWords}
 
 -- stamp holds the number of the merge in which a node was the base last, 0 if in none
 pub record Mem : Type 0 where
@@ -31,7 +31,7 @@ view m n w d = record {
   second = seg w (secondAt m) m;
   enext = seg w (enextAt m) (2 * m + n);
   rnext = seg w (rnextAt m n) n;
-  stamp = seg w (markAt m n) n;
+  stamp = seg w (stampAt m n) n;
   size = seg w (nodeSizeAt m n) n;
   elen = seg w (elenAt m n) n;
   rlen = seg w (rlenAt m n) n;

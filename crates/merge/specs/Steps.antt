@@ -73,17 +73,17 @@ joinsAt m b c s f =
     false
 
 -- the first edge that joins b and c among those of the next k slots from slot x on, or m
-unfoldable pub hunt : ℕ → ℕ → ℕ → ℕ → Mem → ℕ → ℕ
-hunt zero m b c s x = m
-hunt (suc k) m b c s x = cond (joinsAt m b c s (x / 2)) (x / 2) (hunt k m b c s (getD (s .enext) x 0))
+unfoldable pub seek : ℕ → ℕ → ℕ → ℕ → Mem → ℕ → ℕ
+seek zero m b c s x = m
+seek (suc k) m b c s x = cond (joinsAt m b c s (x / 2)) (x / 2) (seek k m b c s (getD (s .enext) x 0))
 
 -- the same along the whole of node h's chain
-unfoldable pub huntAll : ℕ → ℕ → ℕ → Mem → ℕ → ℕ
-huntAll m b c s h = hunt (getD (s .elen) h 0 - 1) m b c s (getD (s .enext) (2 * m + h) 0)
+unfoldable pub seekAll : ℕ → ℕ → ℕ → Mem → ℕ → ℕ
+seekAll m b c s h = seek (getD (s .elen) h 0 - 1) m b c s (getD (s .enext) (2 * m + h) 0)
 
 -- the number of the base's live edge to c, or m: looked for along the shorter of their chains
 unfoldable pub mate : ℕ → ℕ → Mem → ℕ → ℕ
-mate m b s c = cond (ltb (getD (s .elen) b 0) (getD (s .elen) c 0)) (huntAll m b c s b) (huntAll m b c s c)
+mate m b s c = cond (ltb (getD (s .elen) b 0) (getD (s .elen) c 0)) (seekAll m b c s b) (seekAll m b c s c)
 
 -- edge q takes up edge f, whose difference is x
 unfoldable pub absorbAt : Mem → ℕ → ℕ → Float → Mem

@@ -8,7 +8,7 @@ ghost use lib.Ieee.{binary32, fits, add};
 ghost use Rattle.arithmetic.specs.Rounding.{scale};
 ghost use lib.ListN.{getD};
 ghost use Rattle.merge.specs.Mem.{Mem, view, Room, Sound, stamp-set};
-ghost use Rattle.merge.specs.Steps.{unbias, spent, passed, kept, still, dropAt, pruned, faceAt, joinsAt, huntAll, mate, absorbAt, attachAt, joinEdge, shift, movedEdge, takeEdge, movedAll, walkRaise, splice, grow, handed, merged};
+ghost use Rattle.merge.specs.Steps.{unbias, spent, passed, kept, still, dropAt, pruned, faceAt, joinsAt, seekAll, mate, absorbAt, attachAt, joinEdge, shift, movedEdge, takeEdge, movedAll, walkRaise, splice, grow, handed, merged};
 ghost use Rattle.merge.specs.Does.{Does, Raised, Passes, Slots, Apart, Joins, Gains, Fit};
 
 // The f32 that an f64 is.
@@ -170,11 +170,11 @@ fn joins(w: &[u32], d: &[f64], m: usize, n: usize, b: u32, c: u32, f: usize) -> 
 }
 
 // The first edge of node h's chain that joins b and c, or m.
-fn hunt(w: &[u32], d: &[f64], m: usize, n: usize, b: u32, c: u32, h: u32) -> usize
+fn seek(w: &[u32], d: &[f64], m: usize, n: usize, b: u32, c: u32, h: u32) -> usize
     requires { ⌜ Room m n (now w) (now d) ⌝ }
     requires { ⌜ Sound m n (view m n (now w) (now d)) ⌝ }
     requires { ⌜ h < n ⌝ }
-    ensures { λ r. ⌜ r ≡ huntAll m b c (view m n (now (w .entry)) (now (d .entry))) h ⌝ }
+    ensures { λ r. ⌜ r ≡ seekAll m b c (view m n (now (w .entry)) (now (d .entry))) h ⌝ }
 {
     let l = w[7 * m + 4 * n + h as usize];
     let mut x = w[5 * m + (2 * m + h as usize)];
@@ -201,9 +201,9 @@ fn mate(w: &[u32], d: &[f64], m: usize, n: usize, b: u32, c: u32) -> usize
     let p = w[7 * m + 4 * n + b as usize];
     let q = w[7 * m + 4 * n + c as usize];
     if p < q {
-        return hunt(w, d, m, n, b, c, b);
+        return seek(w, d, m, n, b, c, b);
     }
-    hunt(w, d, m, n, b, c, c)
+    seek(w, d, m, n, b, c, c)
 }
 
 // Edge q takes up edge f, whose difference is x.

@@ -8,7 +8,7 @@ use lib.Dec.{eqb, ltb}
 use lib.ListN.{getD}
 use borrow.Author.Tests.{ltb-true, eqb-true, eqb-false, lt-ltb, eq-eqb, ne-eqb}
 use Rattle.merge.specs.Mem.{Mem}
-use Rattle.merge.specs.Steps.{joinsAt, hunt, huntAll, mate}
+use Rattle.merge.specs.Steps.{joinsAt, seek, seekAll, mate}
 use Rattle.merge.specs.Chain.{cur}
 
 -- edge q is live and its ends are b and c
@@ -50,48 +50,48 @@ module _ (m b c : ℕ) (s : Mem) where
       go (inl e) = rw (lt-ltb q m (t .q-in), alive, eq-eqb (getD (s .first) q 0) b (e .0)) (eq-eqb (getD (s .second) q 0) c (e .1))
       go (inr e) = rw (lt-ltb q m (t .q-in), alive, ne-eqb (getD (s .first) q 0) b (λ w. ne (sym w ∙ e .0)), eq-eqb (getD (s .first) q 0) c (e .0)) (eq-eqb (getD (s .second) q 0) b (e .1))
 
-  hunt-is : (k x : ℕ) → hunt k m b c s x < m → Mate m b s c (hunt k m b c s x)
-  unfolding hunt
-  hunt-is zero x h = absurd (omega arith)
-  hunt-is (suc k) x h = go (joinsAt m b c s (x / 2)) refl (hunt-is k (getD (s .enext) x 0)) h
+  seek-is : (k x : ℕ) → seek k m b c s x < m → Mate m b s c (seek k m b c s x)
+  unfolding seek
+  seek-is zero x h = absurd (omega arith)
+  seek-is (suc k) x h = go (joinsAt m b c s (x / 2)) refl (seek-is k (getD (s .enext) x 0)) h
     where
-      go : (t : Bool) → joinsAt m b c s (x / 2) ≡ t → (hunt k m b c s (getD (s .enext) x 0) < m → Mate m b s c (hunt k m b c s (getD (s .enext) x 0)))
-          → cond t (x / 2) (hunt k m b c s (getD (s .enext) x 0)) < m → Mate m b s c (cond t (x / 2) (hunt k m b c s (getD (s .enext) x 0)))
+      go : (t : Bool) → joinsAt m b c s (x / 2) ≡ t → (seek k m b c s (getD (s .enext) x 0) < m → Mate m b s c (seek k m b c s (getD (s .enext) x 0)))
+          → cond t (x / 2) (seek k m b c s (getD (s .enext) x 0)) < m → Mate m b s c (cond t (x / 2) (seek k m b c s (getD (s .enext) x 0)))
       go true e ih h = joins-is (x / 2) e
       go false e ih h = ih h
 
-  hunt-finds : (k x i : ℕ) → i < k → joinsAt m b c s (cur (s .enext) x i / 2) ≡ true → hunt k m b c s x < m
-  unfolding hunt cur
-  hunt-finds zero x i p h = absurd (omega arith)
-  hunt-finds (suc k) x i p h = go (joinsAt m b c s (x / 2)) refl i p h (hunt-finds k (getD (s .enext) x 0))
+  seek-finds : (k x i : ℕ) → i < k → joinsAt m b c s (cur (s .enext) x i / 2) ≡ true → seek k m b c s x < m
+  unfolding seek cur
+  seek-finds zero x i p h = absurd (omega arith)
+  seek-finds (suc k) x i p h = go (joinsAt m b c s (x / 2)) refl i p h (seek-finds k (getD (s .enext) x 0))
     where
       go : (t : Bool) → joinsAt m b c s (x / 2) ≡ t → (i : ℕ) → i < suc k → joinsAt m b c s (cur (s .enext) x i / 2) ≡ true
-          → ((j : ℕ) → j < k → joinsAt m b c s (cur (s .enext) (getD (s .enext) x 0) j / 2) ≡ true → hunt k m b c s (getD (s .enext) x 0) < m)
-          → cond t (x / 2) (hunt k m b c s (getD (s .enext) x 0)) < m
+          → ((j : ℕ) → j < k → joinsAt m b c s (cur (s .enext) (getD (s .enext) x 0) j / 2) ≡ true → seek k m b c s (getD (s .enext) x 0) < m)
+          → cond t (x / 2) (seek k m b c s (getD (s .enext) x 0)) < m
       go true e i p h ih = joins-is (x / 2) e .q-in
       go false e zero p h ih = absurd (true≢false (sym h ∙ e))
       go false e (suc j) p h ih = ih j (omega arith) h
 
   pub mate-is : mate m b s c < m → Mate m b s c (mate m b s c)
-  unfolding mate huntAll
+  unfolding mate seekAll
   mate-is = go (ltb (getD (s .elen) b 0) (getD (s .elen) c 0))
     where
-      go : (t : Bool) → cond t (hunt (getD (s .elen) b 0 - 1) m b c s (getD (s .enext) (2 * m + b) 0)) (hunt (getD (s .elen) c 0 - 1) m b c s (getD (s .enext) (2 * m + c) 0)) < m
-          → Mate m b s c (cond t (hunt (getD (s .elen) b 0 - 1) m b c s (getD (s .enext) (2 * m + b) 0)) (hunt (getD (s .elen) c 0 - 1) m b c s (getD (s .enext) (2 * m + c) 0)))
-      go true h = hunt-is (getD (s .elen) b 0 - 1) (getD (s .enext) (2 * m + b) 0) h
-      go false h = hunt-is (getD (s .elen) c 0 - 1) (getD (s .enext) (2 * m + c) 0) h
+      go : (t : Bool) → cond t (seek (getD (s .elen) b 0 - 1) m b c s (getD (s .enext) (2 * m + b) 0)) (seek (getD (s .elen) c 0 - 1) m b c s (getD (s .enext) (2 * m + c) 0)) < m
+          → Mate m b s c (cond t (seek (getD (s .elen) b 0 - 1) m b c s (getD (s .enext) (2 * m + b) 0)) (seek (getD (s .elen) c 0 - 1) m b c s (getD (s .enext) (2 * m + c) 0)))
+      go true h = seek-is (getD (s .elen) b 0 - 1) (getD (s .enext) (2 * m + b) 0) h
+      go false h = seek-is (getD (s .elen) c 0 - 1) (getD (s .enext) (2 * m + c) 0) h
 
   -- edge j has a slot in node h's chain
   abbrev pub Reached : ℕ → ℕ → Type 0
   Reached h j = (i : ℕ) × (i < getD (s .elen) h 0 - 1) × (cur (s .enext) (getD (s .enext) (2 * m + h) 0) i / 2 ≡ j)
 
   pub mate-finds : (j : ℕ) → Mate m b s c j → (b ≡ c → ⊥) → Reached b j → Reached c j → mate m b s c < m
-  unfolding mate huntAll
+  unfolding mate seekAll
   mate-finds j t ne p q = go (ltb (getD (s .elen) b 0) (getD (s .elen) c 0))
     where
-      found : (h : ℕ) → Reached h j → hunt (getD (s .elen) h 0 - 1) m b c s (getD (s .enext) (2 * m + h) 0) < m
-      found h r = hunt-finds (getD (s .elen) h 0 - 1) (getD (s .enext) (2 * m + h) 0) (r .0) (r .1) (rw (r .2) (joins-of j t ne))
+      found : (h : ℕ) → Reached h j → seek (getD (s .elen) h 0 - 1) m b c s (getD (s .enext) (2 * m + h) 0) < m
+      found h r = seek-finds (getD (s .elen) h 0 - 1) (getD (s .enext) (2 * m + h) 0) (r .0) (r .1) (rw (r .2) (joins-of j t ne))
 
-      go : (t : Bool) → cond t (hunt (getD (s .elen) b 0 - 1) m b c s (getD (s .enext) (2 * m + b) 0)) (hunt (getD (s .elen) c 0 - 1) m b c s (getD (s .enext) (2 * m + c) 0)) < m
+      go : (t : Bool) → cond t (seek (getD (s .elen) b 0 - 1) m b c s (getD (s .enext) (2 * m + b) 0)) (seek (getD (s .elen) c 0 - 1) m b c s (getD (s .enext) (2 * m + c) 0)) < m
       go true = found b p
       go false = found c q

@@ -9,7 +9,7 @@ use lib.ListN.{length, getD, set, length-set}
 use borrow.Author.Tests.{le-leb, lt-leb, le-ltb, lt-ltb}
 use Rattle.memory.proofs.tree.TreeLaws.{tree-set}
 use Rattle.merge.specs.Mem.{Mem, view, Room, Sound, count-set}
-use Rattle.merge.specs.Steps.{joinsAt, hunt, huntAll, mate, takeEdge, walkMoved, movedAll, accepts, walkRaise}
+use Rattle.merge.specs.Steps.{joinsAt, seek, seekAll, mate, takeEdge, walkMoved, movedAll, accepts, walkRaise}
 use Rattle.merge.specs.Does.{Does, Raised, Gains}
 use Rattle.merge.proofs.merge.View.{enext-at, rnext-at, count-at, elen-at, rlen-at, count-put}
 use Rattle.merge.proofs.merge.Leaf.{room-of}
@@ -149,46 +149,46 @@ module _ (m n g : ℕ) (hg : g ≤ 2000) where
         subst (λ (o : Option Mem). Raised m n w d o true) (ap (λ (y : ℕ). walkRaise y g (view m n w d) x) (sym z) ∙ k .left) (refl, record { tables = refl; tree = k .room .tree })
 
 -- ---- along a chain, for the edge that joins two nodes
-pub record Hunting (m n b c : ℕ) (w : List ℕ) (d : List Float) (l x i goal : ℕ) : Type 0 where
+pub record Seeking (m n b c : ℕ) (w : List ℕ) (d : List Float) (l x i goal : ℕ) : Type 0 where
   pub x-in : x < 2 * m + n
   pub some-i : 1 ≤ i
-  pub left : hunt (l - i) m b c (view m n w d) x ≡ goal
+  pub left : seek (l - i) m b c (view m n w d) x ≡ goal
 
 module _ (m n b c : ℕ) (w : List ℕ) (d : List Float) (h : Sound m n (view m n w d)) where
-  pub hunt-start : (v : ℕ) → v < n → Hunting m n b c w d (getD w (7 * m + 4 * n + v) 0) (getD w (5 * m + (2 * m + v)) 0) 1 (huntAll m b c (view m n w d) v)
-  unfolding huntAll
-  hunt-start v lt = record {
+  pub seek-start : (v : ℕ) → v < n → Seeking m n b c w d (getD w (7 * m + 4 * n + v) 0) (getD w (5 * m + (2 * m + v)) 0) 1 (seekAll m b c (view m n w d) v)
+  unfolding seekAll
+  seek-start v lt = record {
     x-in = omega (arith, enext-at m n w d (2 * m + v) (omega arith), h .enext-in (2 * m + v) (omega arith));
     some-i = omega arith;
     left = rw (elen-at m n w d v lt, enext-at m n w d (2 * m + v) (omega arith)) refl;
   }
 
-  module _ (l x i goal : ℕ) (k : Hunting m n b c w d l x i goal) where
+  module _ (l x i goal : ℕ) (k : Seeking m n b c w d l x i goal) where
     module _ (lt : i < l) where
-      hunt-step : hunt (l - i) m b c (view m n w d) x ≡ cond (joinsAt m b c (view m n w d) (x / 2)) (x / 2) (hunt (l - (i + 1)) m b c (view m n w d) (getD (view m n w d .enext) x 0))
-      unfolding hunt
-      hunt-step = let z : l - i ≡ suc (l - (i + 1)) = omega arith in rw z refl
+      seek-step : seek (l - i) m b c (view m n w d) x ≡ cond (joinsAt m b c (view m n w d) (x / 2)) (x / 2) (seek (l - (i + 1)) m b c (view m n w d) (getD (view m n w d .enext) x 0))
+      unfolding seek
+      seek-step = let z : l - i ≡ suc (l - (i + 1)) = omega arith in rw z refl
 
-      pub hunt-found : (t : Bool) → t ≡ joinsAt m b c (view m n w d) (x / 2) → t ≡ true → x / 2 ≡ goal
-      hunt-found t e y = sym (hunt-step ∙ (rw (sym e ∙ y) refl)) ∙ k .left
+      pub seek-found : (t : Bool) → t ≡ joinsAt m b c (view m n w d) (x / 2) → t ≡ true → x / 2 ≡ goal
+      seek-found t e y = sym (seek-step ∙ (rw (sym e ∙ y) refl)) ∙ k .left
 
-      pub hunt-turn : (t : Bool) → t ≡ joinsAt m b c (view m n w d) (x / 2) → t ≡ false → Hunting m n b c w d l (getD w (5 * m + x) 0) (i + 1) goal
-      hunt-turn t e y = record {
+      pub seek-turn : (t : Bool) → t ≡ joinsAt m b c (view m n w d) (x / 2) → t ≡ false → Seeking m n b c w d l (getD w (5 * m + x) 0) (i + 1) goal
+      seek-turn t e y = record {
         x-in = omega (arith, enext-at m n w d x (k .x-in), h .enext-in x (k .x-in));
         some-i = omega arith;
-        left = ap (hunt (l - (i + 1)) m b c (view m n w d)) (sym (enext-at m n w d x (k .x-in))) ∙ sym (hunt-step ∙ (rw (sym e ∙ y) refl)) ∙ k .left;
+        left = ap (seek (l - (i + 1)) m b c (view m n w d)) (sym (enext-at m n w d x (k .x-in))) ∙ sym (seek-step ∙ (rw (sym e ∙ y) refl)) ∙ k .left;
       }
 
-    pub hunt-end : l ≤ i → m ≡ goal
-    unfolding hunt
-    hunt-end le = let z : l - i ≡ 0 = omega arith in ap (λ (y : ℕ). hunt y m b c (view m n w d) x) (sym z) ∙ k .left
+    pub seek-end : l ≤ i → m ≡ goal
+    unfolding seek
+    seek-end le = let z : l - i ≡ 0 = omega arith in ap (λ (y : ℕ). seek y m b c (view m n w d) x) (sym z) ∙ k .left
 
 -- ---- along the shorter of two chains
 module _ (m n b c : ℕ) (w : List ℕ) (d : List Float) (hb : b < n) (hc : c < n) (r : ℕ) where
-  pub mate-first : getD w (7 * m + 4 * n + b) 0 < getD w (7 * m + 4 * n + c) 0 → r ≡ huntAll m b c (view m n w d) b → r ≡ mate m b (view m n w d) c
+  pub mate-first : getD w (7 * m + 4 * n + b) 0 < getD w (7 * m + 4 * n + c) 0 → r ≡ seekAll m b c (view m n w d) b → r ≡ mate m b (view m n w d) c
   unfolding mate
   mate-first p e = rw (elen-at m n w d b hb, elen-at m n w d c hc, lt-ltb (getD w (7 * m + 4 * n + b) 0) (getD w (7 * m + 4 * n + c) 0) p) e
 
-  pub mate-second : getD w (7 * m + 4 * n + c) 0 ≤ getD w (7 * m + 4 * n + b) 0 → r ≡ huntAll m b c (view m n w d) c → r ≡ mate m b (view m n w d) c
+  pub mate-second : getD w (7 * m + 4 * n + c) 0 ≤ getD w (7 * m + 4 * n + b) 0 → r ≡ seekAll m b c (view m n w d) c → r ≡ mate m b (view m n w d) c
   unfolding mate
   mate-second p e = rw (elen-at m n w d b hb, elen-at m n w d c hc, le-ltb (getD w (7 * m + 4 * n + b) 0) (getD w (7 * m + 4 * n + c) 0) p) e

@@ -27,7 +27,10 @@ same-length-2 : tie.Need-same-length-2
 same-length-2 c = search needs
 
 returns : tie.Need-returns
-returns c = let a = c .before .before .before .before .before .before .before .before .before .before .before .before .before .before .before .before .before .before .before .before .args in let p = c .before .before .before .before .before .before .before .before .before .before .before .before .before .before .before .pair-all in let s = c .before .before .before .before .before .before .before .before .before .before .before .sort-pairs in edged (a .f) (a .w .now) (a .d .now) (a .vel .now) (a .n) (a .k) (a .t) (c .before .before .before .before .before .before .before .before .before .before .before .before .before .before .before .before .before .before .before .before .pre) (p .last .0) (p .result) (p .ensures .0) (p .ensures .1) (s .last .0) (s .kept .0) (s .ensures) (c .before .before .before .before .before .before .before .count-runs .result) (c .before .before .before .before .before .before .before .count-runs .ensures) (a .wide) (c .before .before .before .before .gather .last .0) (c .before .before .before .before .gather .last .1 .0) (c .before .before .before .before .gather .result) (c .before .before .before .before .gather .ensures)
+returns c =
+    let g = c .before .before .before .before .gather in
+    let c′ = c .before .before .before .before .before .before .before .count-runs in
+    let a = c .before .before .before .before .before .before .before .before .before .before .before .before .before .before .before .before .before .before .before .before .args in let p = c .before .before .before .before .before .before .before .before .before .before .before .before .before .before .before .pair-all in let s = c .before .before .before .before .before .before .before .before .before .before .before .sort-pairs in edged (a .f) (a .w .now) (a .d .now) (a .vel .now) (a .n) (a .k) (a .t) (c .before .before .before .before .before .before .before .before .before .before .before .before .before .before .before .before .before .before .before .before .pre) (p .last .0) (p .result) (p .ensures .0) (p .ensures .1) (s .last .0) (s .kept .0) (s .ensures) (c′ .result) (c′ .ensures) (a .wide) (g .last .0) (g .last .1 .0) (g .result) (g .ensures)
 
 pub find-edges-spec : {M : Type 1} → statement M
 find-edges-spec =

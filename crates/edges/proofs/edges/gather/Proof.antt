@@ -25,10 +25,14 @@ begin-requires : tie.Need-begin-requires Inv-loop μ-loop
 begin-requires c κs = search needs
 
 loop-holds : tie.Need-loop-holds Inv-loop μ-loop
-loop-holds c = let a = c .before .before .before .before .before .before .before .args in (omega (arith, c .before .before .before .if1 .left), going-begin (a .wide) (a .w .now) (a .d .now) (a .vel .now) (a .n) (a .m) (a .t) (a .c) (c .before .before .before .before .before .before .before .pre) (c .begin .result) (omega (arith, c .before .before .before .if1 .left)) (c .begin .ensures .0 ∙ ap begun (c .before .pair-at .ensures)) (c .begin .ensures .1))
+loop-holds c =
+    let i = c .before .before .before .if1 in
+    let a = c .before .before .before .before .before .before .before .args in (omega (arith, i .left), going-begin (a .wide) (a .w .now) (a .d .now) (a .vel .now) (a .n) (a .m) (a .t) (a .c) (c .before .before .before .before .before .before .before .pre) (c .begin .result) (omega (arith, i .left)) (c .begin .ensures .0 ∙ ap begun (c .before .pair-at .ensures)) (c .begin .ensures .1))
 
 gather-one-requires : tie.Need-gather-one-requires Inv-loop μ-loop
-gather-one-requires c κs = let a = c .before .before .before .before .before .before .before .before .before .before .before .args in let l = c .before .before .before .loop in (going-ready (a .wide) (a .w .now) (a .d .now) (a .vel .now) (a .n) (a .m) (a .t) (a .c) (c .before .before .before .before .before .before .before .before .before .before .before .pre) (l .w) (l .d) (l .s) (l .i) (l .inv .1), (going-slot (a .wide) (a .w .now) (a .d .now) (a .vel .now) (a .n) (a .m) (a .t) (a .c) (c .before .before .before .before .before .before .before .before .before .before .before .pre) (l .w) (l .d) (l .s) (l .i) (l .inv .1), (c .before .before .loop-test .taken, omega (arith, l .inv .1 .few, c .before .before .loop-test .taken, c .before .before .before .before .before .before .before .before .before .before .before .pre .ready .small))))
+gather-one-requires c κs =
+    let p = c .before .before .before .before .before .before .before .before .before .before .before .pre in
+    let a = c .before .before .before .before .before .before .before .before .before .before .before .args in let l = c .before .before .before .loop in (going-ready (a .wide) (a .w .now) (a .d .now) (a .vel .now) (a .n) (a .m) (a .t) (a .c) (p) (l .w) (l .d) (l .s) (l .i) (l .inv .1), (going-slot (a .wide) (a .w .now) (a .d .now) (a .vel .now) (a .n) (a .m) (a .t) (a .c) (p) (l .w) (l .d) (l .s) (l .i) (l .inv .1), (c .before .before .loop-test .taken, omega (arith, l .inv .1 .few, c .before .before .loop-test .taken, p .ready .small))))
 
 add-i : tie.Need-add-i Inv-loop μ-loop
 add-i c = omega (arith, c .before .before .before .before .before .before .before .loop-test .taken, c .before .before .before .before .before .before .before .before .before .before .before .before .before .before .before .before .pre .ready .small)
@@ -37,7 +41,10 @@ loop-less : tie.Need-loop-less Inv-loop μ-loop
 loop-less c = omega (arith, c .before .before .before .before .before .before .before .loop-test .taken)
 
 loop-again : tie.Need-loop-again Inv-loop μ-loop
-loop-again c = let a = c .before .before .before .before .before .before .before .before .before .before .before .before .before .before .before .before .args in let l = c .before .before .before .before .before .before .before .before .loop in (omega (arith, c .before .before .before .before .before .before .before .loop-test .taken), going-on (a .wide) (a .w .now) (a .d .now) (a .vel .now) (a .n) (a .m) (a .t) (a .c) (c .before .before .before .before .before .before .before .before .before .before .before .before .before .before .before .before .pre) (l .w) (l .d) (l .s) (l .i) (l .inv .1) (c .before .before .before .before .gather-one .last .0) (c .before .before .before .before .gather-one .last .1 .0) (c .before .before .before .before .gather-one .result) (c .before .before .before .before .before .before .before .loop-test .taken) (c .before .before .before .before .gather-one .ensures))
+loop-again c =
+    let g = c .before .before .before .before .gather-one in
+    let l′ = c .before .before .before .before .before .before .before .loop-test in
+    let a = c .before .before .before .before .before .before .before .before .before .before .before .before .before .before .before .before .args in let l = c .before .before .before .before .before .before .before .before .loop in (omega (arith, l′ .taken), going-on (a .wide) (a .w .now) (a .d .now) (a .vel .now) (a .n) (a .m) (a .t) (a .c) (c .before .before .before .before .before .before .before .before .before .before .before .before .before .before .before .before .pre) (l .w) (l .d) (l .s) (l .i) (l .inv .1) (g .last .0) (g .last .1 .0) (g .result) (l′ .taken) (g .ensures))
 
 put-edge-requires : tie.Need-put-edge-requires Inv-loop μ-loop
 put-edge-requires c κs = let a = c .before .before .before .before .before .before .before .before .before .before .before .args in let l = c .before .before .before .loop in let z = going-slot (a .wide) (a .w .now) (a .d .now) (a .vel .now) (a .n) (a .m) (a .t) (a .c) (c .before .before .before .before .before .before .before .before .before .before .before .pre) (l .w) (l .d) (l .s) (l .i) (l .inv .1) in (z .words, z .diffs, z .place)
@@ -52,7 +59,9 @@ same-length-2 : tie.Need-same-length-2 Inv-loop μ-loop
 same-length-2 c = let a = c .before .before .before .before .before .before .before .before .before .before .before .before .before .before .before .before .before .args in let l = c .before .before .before .before .before .before .before .before .before .loop in c .before .before .before .before .before .put-edge .kept .1 .0 ∙ ld (a .wide) (a .w .now) (a .d .now) (a .vel .now) (a .n) (a .m) (a .t) (a .c) (c .before .before .before .before .before .before .before .before .before .before .before .before .before .before .before .before .before .pre) (l .w) (l .d) (l .s) (l .i) (l .inv .1)
 
 returns-2 : tie.Need-returns-2 Inv-loop μ-loop
-returns-2 c = let a = c .before .before .before .before .before .before .before .before .before .before .before .before .before .before .before .before .before .args in let l = c .before .before .before .before .before .before .before .before .before .loop in going-end (a .wide) (a .w .now) (a .d .now) (a .vel .now) (a .n) (a .m) (a .t) (a .c) (c .before .before .before .before .before .before .before .before .before .before .before .before .before .before .before .before .before .pre) (l .w) (l .d) (l .s) (l .i) (l .inv .1) (c .before .before .before .before .before .put-edge .last .0) (c .before .before .before .before .before .put-edge .last .1 .0) (c .before .before .before .before .before .before .before .before .loop-test .left) (c .before .before .before .before .before .put-edge .ensures .0) (c .before .before .before .before .before .put-edge .ensures .1)
+returns-2 c =
+    let p = c .before .before .before .before .before .put-edge in
+    let a = c .before .before .before .before .before .before .before .before .before .before .before .before .before .before .before .before .before .args in let l = c .before .before .before .before .before .before .before .before .before .loop in going-end (a .wide) (a .w .now) (a .d .now) (a .vel .now) (a .n) (a .m) (a .t) (a .c) (c .before .before .before .before .before .before .before .before .before .before .before .before .before .before .before .before .before .pre) (l .w) (l .d) (l .s) (l .i) (l .inv .1) (p .last .0) (p .last .1 .0) (c .before .before .before .before .before .before .before .before .loop-test .left) (p .ensures .0) (p .ensures .1)
 
 pub gather-spec : {M : Type 1} → statement M
 gather-spec =

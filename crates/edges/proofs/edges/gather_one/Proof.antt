@@ -19,7 +19,10 @@ same-length : tie.Need-same-length
 same-length c = search needs
 
 returns : tie.Need-returns
-returns c = let a = c .before .before .before .before .before .before .before .before .args in turned-on (a .wide) (a .t) (a .c) (pairAt (a .w .now) (a .vel .now) (a .n) (a .i)) (a .s) (c .go-on .result) (c .before .before .before .pair-at .result) (c .before .before .same-labels .result) (c .before .before .before .pair-at .ensures) (c .before .before .same-labels .ensures) (c .before .if1 .taken) (c .go-on .ensures .0) (c .go-on .ensures .1) (a .w .now) (a .d .now)
+returns c =
+    let p = c .before .before .before .pair-at in
+    let s′ = c .before .before .same-labels in
+    let a = c .before .before .before .before .before .before .before .before .args in turned-on (a .wide) (a .t) (a .c) (pairAt (a .w .now) (a .vel .now) (a .n) (a .i)) (a .s) (c .go-on .result) (p .result) (s′ .result) (p .ensures) (s′ .ensures) (c .before .if1 .taken) (c .go-on .ensures .0) (c .go-on .ensures .1) (a .w .now) (a .d .now)
 
 put-edge-requires : tie.Need-put-edge-requires
 put-edge-requires c κs = search needs
@@ -37,7 +40,11 @@ same-length-3 : tie.Need-same-length-3
 same-length-3 c = search needs
 
 returns-2 : tie.Need-returns-2
-returns-2 c = let a = c .before .before .before .before .before .before .before .before .before .before .before .before .before .before .before .before .args in turned-off (a .wide) (a .t) (a .c) (pairAt (a .w .now) (a .vel .now) (a .n) (a .i)) (a .s) (c .begin .result) (c .before .before .before .before .before .before .before .before .before .before .before .pair-at .result) (c .before .before .before .before .before .before .before .before .before .before .same-labels .result) (c .before .before .before .before .before .before .before .before .before .before .before .pair-at .ensures) (c .before .before .before .before .before .before .before .before .before .before .same-labels .ensures) (c .before .before .before .before .before .before .before .before .before .if1 .left) (c .begin .ensures .0) (c .begin .ensures .1) (a .w .now) (c .before .before .before .before .before .before .put-edge .last .0) (a .d .now) (c .before .before .before .before .before .before .put-edge .last .1 .0) (c .before .before .before .before .before .before .put-edge .ensures .0) (c .before .before .before .before .before .before .put-edge .ensures .1)
+returns-2 c =
+    let p = c .before .before .before .before .before .before .put-edge in
+    let p′ = c .before .before .before .before .before .before .before .before .before .before .before .pair-at in
+    let s′ = c .before .before .before .before .before .before .before .before .before .before .same-labels in
+    let a = c .before .before .before .before .before .before .before .before .before .before .before .before .before .before .before .before .args in turned-off (a .wide) (a .t) (a .c) (pairAt (a .w .now) (a .vel .now) (a .n) (a .i)) (a .s) (c .begin .result) (p′ .result) (s′ .result) (p′ .ensures) (s′ .ensures) (c .before .before .before .before .before .before .before .before .before .if1 .left) (c .begin .ensures .0) (c .begin .ensures .1) (a .w .now) (p .last .0) (a .d .now) (p .last .1 .0) (p .ensures .0) (p .ensures .1)
 
 pub gather-one-spec : {M : Type 1} → statement M
 gather-one-spec =

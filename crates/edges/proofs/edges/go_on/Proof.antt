@@ -13,7 +13,9 @@ add-t3 c = search needs
 
 returns : tie.Need-returns
 unfolding plus
-returns c = let s = c .before .before .before .before .before .args .s in let p = c .before .before .before .before .before .args .p in let e : s .count + 1 ≡ suc (s .count) = omega arith in ((λ j. record { one = s .one; two = s .two; count = e j; sum1 = add binary64 (s .sum1) (p .vel1); sum2 = add binary64 (s .sum2) (p .vel2) }), refl)
+returns c =
+    let a = c .before .before .before .before .before .args in
+    let s = a .s in let p = a .p in let e : s .count + 1 ≡ suc (s .count) = omega arith in ((λ j. record { one = s .one; two = s .two; count = e j; sum1 = add binary64 (s .sum1) (p .vel1); sum2 = add binary64 (s .sum2) (p .vel2) }), refl)
 
 pub go-on-spec : {M : Type 1} → statement M
 go-on-spec = tie.close (tie.spec add-t3 returns)

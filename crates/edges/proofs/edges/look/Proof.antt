@@ -26,7 +26,10 @@ is-next : (c : tie.After-known-told Inv-loop μ-loop) → next (shape (c .before
 is-next c = sym (c .before .before .before .step .ensures) ∙ ap answer (c .before .s .given .1)
 
 inside : (c : tie.After-known-told Inv-loop μ-loop) → c .before .s .given .0 .0 < c .before .before .before .before .before .before .before .args .f .rays * c .before .before .before .before .before .before .before .args .f .gates
-inside c = next-in (shape (c .before .before .before .before .before .before .before .args .f)) (c .before .before .before .before .loop .h) (way (c .before .before .before .before .before .before .before .args .d)) (c .before .s .given .0 .0) (c .before .before .before .before .loop .inv .0) (is-next c)
+inside c =
+    let a = c .before .before .before .before .before .before .before .args in
+    let l = c .before .before .before .before .loop in
+    next-in (shape (a .f)) (l .h) (way (a .d)) (c .before .s .given .0 .0) (l .inv .0) (is-next c)
 
 loop-holds : tie.Need-loop-holds Inv-loop μ-loop
 loop-holds c = (c .before .before .pre .inside, begins (shape (c .before .before .args .f)) (way (c .before .before .args .d)) (c .before .before .args .labels .now) (c .reach .result) (c .before .before .args .g) (c .reach .ensures))
@@ -41,7 +44,10 @@ enum-told : tie.Need-enum-told Inv-loop μ-loop
 enum-told c = search needs
 
 returns : tie.Need-returns Inv-loop μ-loop
-returns c = sym (c .before .before .before .loop .inv .1 ∙ none-on (shape (c .before .before .before .before .before .before .args .f)) (way (c .before .before .before .before .before .before .args .d)) (c .before .before .before .before .before .before .args .labels .now) (c .before .before .before .loop .left) (c .before .before .before .loop .h) (sym (c .before .before .step .ensures) ∙ ap answer (c .enum-told .given .1)))
+returns c =
+    let l = c .before .before .before .loop in
+    let a = c .before .before .before .before .before .before .args in
+    sym (l .inv .1 ∙ none-on (shape (a .f)) (way (a .d)) (a .labels .now) (l .left) (l .h) (sym (c .before .before .step .ensures) ∙ ap answer (c .enum-told .given .1)))
 
 mul-if1 : tie.Need-mul-if1 Inv-loop μ-loop
 mul-if1 c = omega (arith, inside c, c .before .before .before .before .before .before .before .pre .small)
@@ -50,10 +56,16 @@ shared-slice-read-if1 : tie.Need-shared-slice-read-if1 Inv-loop μ-loop
 shared-slice-read-if1 c = omega (arith, inside (c .before), c .before .before .before .before .before .before .before .before .pre .whole)
 
 returns-2 : tie.Need-returns-2 Inv-loop μ-loop
-returns-2 c = sym (c .before .before .before .before .before .before .loop .inv .1 ∙ seen-on (shape (c .before .before .before .before .before .before .before .before .before .args .f)) (way (c .before .before .before .before .before .before .before .before .before .args .d)) (c .before .before .before .before .before .before .before .before .before .args .labels .now) (c .before .before .before .before .before .before .loop .left) (c .before .before .before .before .before .before .loop .h) (c .before .before .before .s .given .0 .0) (is-next (c .before .before)) (c .if1 .taken))
+returns-2 c =
+    let l = c .before .before .before .before .before .before .loop in
+    let a = c .before .before .before .before .before .before .before .before .before .args in
+    sym (l .inv .1 ∙ seen-on (shape (a .f)) (way (a .d)) (a .labels .now) (l .left) (l .h) (c .before .before .before .s .given .0 .0) (is-next (c .before .before)) (c .if1 .taken))
 
 returns-3 : tie.Need-returns-3 Inv-loop μ-loop
-returns-3 c = sym (c .before .before .before .before .before .before .before .loop .inv .1 ∙ ap (λ (x : ℕ). edges.look (shape (c .before .before .before .before .before .before .before .before .before .before .args .f)) (way (c .before .before .before .before .before .before .before .before .before .before .args .d)) (c .before .before .before .before .before .before .before .before .before .before .args .labels .now) (suc x) (c .before .before .before .before .before .before .before .loop .h)) (c .if2 .taken) ∙ last-on (shape (c .before .before .before .before .before .before .before .before .before .before .args .f)) (way (c .before .before .before .before .before .before .before .before .before .before .args .d)) (c .before .before .before .before .before .before .before .before .before .before .args .labels .now) (c .before .before .before .before .before .before .before .loop .h) (c .before .before .before .before .s .given .0 .0) (is-next (c .before .before .before)) (c .before .if1 .left))
+returns-3 c =
+    let a = c .before .before .before .before .before .before .before .before .before .before .args in
+    let l = c .before .before .before .before .before .before .before .loop in
+    sym (l .inv .1 ∙ ap (λ (x : ℕ). edges.look (shape (a .f)) (way (a .d)) (a .labels .now) (suc x) (l .h)) (c .if2 .taken) ∙ last-on (shape (a .f)) (way (a .d)) (a .labels .now) (l .h) (c .before .before .before .before .s .given .0 .0) (is-next (c .before .before .before)) (c .before .if1 .left))
 
 sub-left : tie.Need-sub-left Inv-loop μ-loop
 sub-left c = search needs
@@ -62,7 +74,11 @@ loop-less : tie.Need-loop-less Inv-loop μ-loop
 loop-less c = search needs
 
 loop-again : tie.Need-loop-again Inv-loop μ-loop
-loop-again c = (inside (c .before .before .before), c .before .before .before .before .before .before .before .loop .inv .1 ∙ skip-on (shape (c .before .before .before .before .before .before .before .before .before .before .args .f)) (way (c .before .before .before .before .before .before .before .before .before .before .args .d)) (c .before .before .before .before .before .before .before .before .before .before .args .labels .now) (c .before .before .before .before .before .before .before .loop .left) (c .before .before .before .before .before .before .before .loop .h) (c .before .before .before .before .s .given .0 .0) (is-next (c .before .before .before)) (c .before .if1 .left) ∙ ap (λ (x : ℕ). edges.look (shape (c .before .before .before .before .before .before .before .before .before .before .args .f)) (way (c .before .before .before .before .before .before .before .before .before .before .args .d)) (c .before .before .before .before .before .before .before .before .before .before .args .labels .now) x (c .before .before .before .before .s .given .0 .0)) (omega (arith, c .if2 .left)))
+loop-again c =
+    let a = c .before .before .before .before .before .before .before .before .before .before .args in
+    let l = c .before .before .before .before .before .before .before .loop in
+    let s′ = c .before .before .before .before .s in
+    (inside (c .before .before .before), l .inv .1 ∙ skip-on (shape (a .f)) (way (a .d)) (a .labels .now) (l .left) (l .h) (s′ .given .0 .0) (is-next (c .before .before .before)) (c .before .if1 .left) ∙ ap (λ (x : ℕ). edges.look (shape (a .f)) (way (a .d)) (a .labels .now) x (s′ .given .0 .0)) (omega (arith, c .if2 .left)))
 
 pub look-spec : {M : Type 1} → statement M
 look-spec =

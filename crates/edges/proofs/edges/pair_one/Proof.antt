@@ -36,7 +36,9 @@ same-length c = search needs
 -- what the look said
 known : (c : tie.After-look) → sees (shape (c .before .before .before .before .args .f)) (seg (c .before .before .before .before .args .w .now) 0 (c .before .before .before .before .args .n)) (way (c .before .before .before .before .args .d)) (c .before .before .before .before .args .g) ≡ answer (c .look .result)
 unfolding seg
-known c = ap (λ (x : ℕ). sees (shape (c .before .before .before .before .args .f)) (seg (c .before .before .before .before .args .w .now) 0 x) (way (c .before .before .before .before .args .d)) (c .before .before .before .before .args .g)) {x = c .before .before .before .before .args .n} {y = c .before .before .before .before .args .n - 0} (omega arith) ∙ sym (c .look .ensures)
+known c =
+    let a = c .before .before .before .before .args in
+    ap (λ (x : ℕ). sees (shape (a .f)) (seg (a .w .now) 0 x) (way (a .d)) (a .g)) {x = a .n} {y = a .n - 0} (omega arith) ∙ sym (c .look .ensures)
 
 saw : (c : tie.After-s) → sees (shape (c .before .before .before .before .before .before .args .f)) (seg (c .before .before .before .before .before .before .args .w .now) 0 (c .before .before .before .before .before .before .args .n)) (way (c .before .before .before .before .before .before .args .d)) (c .before .before .before .before .before .before .args .g) ≡ some (c .s .given .0 .0)
 saw c = known (c .before .before) ∙ ap answer (c .s .given .1)
@@ -63,7 +65,9 @@ same-length-2 : tie.Need-same-length-2
 same-length-2 c = search needs
 
 returns-2 : tie.Need-returns-2
-returns-2 c = let a = c .before .before .before .before .before .before .before .before .before .before .args in saw-other (a .n) (a .w .now) (a .g) (a .c) (sees (shape (a .f)) (seg (a .w .now) 0 (a .n)) (way (a .d)) (a .g)) (c .before .before .before .before .s .given .0 .0) (saw (c .before .before .before .before)) (c .before .before .before .before .before .before .before .before .before .before .pre .inside) (inside (c .before .before .before .before)) (c .if1 .taken)
+returns-2 c =
+    let b = c .before .before .before .before in
+    let a = b .before .before .before .before .before .before .args in saw-other (a .n) (a .w .now) (a .g) (a .c) (sees (shape (a .f)) (seg (a .w .now) 0 (a .n)) (way (a .d)) (a .g)) (b .s .given .0 .0) (saw (b)) (b .before .before .before .before .before .before .pre .inside) (inside (b)) (c .if1 .taken)
 
 cast-w : tie.Need-cast-w
 cast-w c = search needs
@@ -99,7 +103,9 @@ same-length-3 : tie.Need-same-length-3
 same-length-3 c = search needs
 
 returns-3 : tie.Need-returns-3
-returns-3 c = let a = c .before .before .before .before .before .before .before .before .before .before .args in saw-less (a .n) (a .w .now) (a .g) (a .c) (sees (shape (a .f)) (seg (a .w .now) 0 (a .n)) (way (a .d)) (a .g)) (c .before .before .before .before .s .given .0 .0) (saw (c .before .before .before .before)) (c .before .before .before .before .before .before .before .before .before .before .pre .inside) (inside (c .before .before .before .before)) (c .if1 .left)
+returns-3 c =
+    let b = c .before .before .before .before in
+    let a = b .before .before .before .before .before .before .args in saw-less (a .n) (a .w .now) (a .g) (a .c) (sees (shape (a .f)) (seg (a .w .now) 0 (a .n)) (way (a .d)) (a .g)) (b .s .given .0 .0) (saw (b)) (b .before .before .before .before .before .before .pre .inside) (inside (b)) (c .if1 .left)
 
 pub pair-one-spec : {M : Type 1} → statement M
 pair-one-spec =

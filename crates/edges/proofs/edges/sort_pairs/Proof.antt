@@ -33,16 +33,27 @@ add-labels-of-5 : tie.Need-add-labels-of-5
 add-labels-of-5 c = search needs
 
 labels-of-requires-2 : tie.Need-labels-of-requires-2
-labels-of-requires-2 c κs = let a = c .before .before .before .before .before .before .before .before .before .before .args in reads-two (a .w .now) (a .n) (a .m) (a .k) (c .before .before .before .before .before .before .before .before .before .before .pre) (c .before .before .before .before .before .before .before .number .last .0) (c .before .before .before .before .before .before .before .number .ensures) (c .before .before .before .labels-of .last .0) (c .before .before .before .labels-of .ensures)
+labels-of-requires-2 c κs =
+    let n′ = c .before .before .before .before .before .before .before .number in
+    let l = c .before .before .before .labels-of in
+    let a = c .before .before .before .before .before .before .before .before .before .before .args in reads-two (a .w .now) (a .n) (a .m) (a .k) (c .before .before .before .before .before .before .before .before .before .before .pre) (n′ .last .0) (n′ .ensures) (l .last .0) (l .ensures)
 
 sort2-requires : tie.Need-sort2-requires
-sort2-requires c κs = let a = c .before .before .before .before .before .before .before .before .before .before .before .before .before .before .args in sort-lay (a .w .now) (a .n) (a .m) (a .k) (c .before .before .before .before .before .before .before .before .before .before .before .before .before .before .pre) (c .before .before .before .before .before .before .before .before .before .before .before .number .last .0) (c .before .before .before .before .before .before .before .before .before .before .before .number .ensures) (c .before .before .before .before .before .before .before .labels-of .last .0) (c .before .before .before .before .before .before .before .labels-of .ensures) (c .before .before .before .labels-of2 .last .0) (c .before .before .before .labels-of2 .ensures)
+sort2-requires c κs =
+    let n′ = c .before .before .before .before .before .before .before .before .before .before .before .number in
+    let l = c .before .before .before .before .before .before .before .labels-of in
+    let l′ = c .before .before .before .labels-of2 in
+    let a = c .before .before .before .before .before .before .before .before .before .before .before .before .before .before .args in sort-lay (a .w .now) (a .n) (a .m) (a .k) (c .before .before .before .before .before .before .before .before .before .before .before .before .before .before .pre) (n′ .last .0) (n′ .ensures) (l .last .0) (l .ensures) (l′ .last .0) (l′ .ensures)
 
 same-length : tie.Need-same-length
 same-length c = search needs
 
 returns : tie.Need-returns
-returns c = let a = c .before .before .before .before .before .before .before .before .before .before .before .before .before .before .before .before .before .args in sort-done (a .w .now) (a .n) (a .m) (a .k) (c .before .before .before .before .before .before .before .before .before .before .before .before .before .before .before .before .before .pre) (c .before .before .before .before .before .before .before .before .before .before .before .before .before .before .number .last .0) (c .before .before .before .before .before .before .before .before .before .before .before .before .before .before .number .ensures) (c .before .before .before .before .before .before .before .before .before .before .labels-of .last .0) (c .before .before .before .before .before .before .before .before .before .before .labels-of .ensures) (c .before .before .before .before .before .before .labels-of2 .last .0) (c .before .before .before .before .before .before .labels-of2 .ensures) (c .before .before .sort2 .last .0) (c .before .before .sort2 .ensures .0) (c .before .before .sort2 .ensures .1)
+returns c =
+    let n′ = c .before .before .before .before .before .before .before .before .before .before .before .before .before .before .number in
+    let l = c .before .before .before .before .before .before .before .before .before .before .labels-of in
+    let l′ = c .before .before .before .before .before .before .labels-of2 in
+    let a = c .before .before .before .before .before .before .before .before .before .before .before .before .before .before .before .before .before .args in sort-done (a .w .now) (a .n) (a .m) (a .k) (c .before .before .before .before .before .before .before .before .before .before .before .before .before .before .before .before .before .pre) (n′ .last .0) (n′ .ensures) (l .last .0) (l .ensures) (l′ .last .0) (l′ .ensures) (c .before .before .sort2 .last .0) (c .before .before .sort2 .ensures .0) (c .before .before .sort2 .ensures .1)
 
 pub sort-pairs-spec : {M : Type 1} → statement M
 sort-pairs-spec =

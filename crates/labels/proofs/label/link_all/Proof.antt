@@ -33,7 +33,10 @@ link-requires c κs = let s = c .before .before .before .before in
     (still-treed (a .u .now) (l .u) (a .n) (l .inv .2) (s .pre .0) (J .rs) (J .forest), ((omega (arith, l .inv .1), s .pre .1 .1 (omega arith)), omega arith))
 
 add-g : tie.Need-add-g Inv-loop μ-loop
-add-g c = omega (arith, words-long (c .before .before .before .before .before .before .before .args .u .now) (c .before .before .before .before .before .before .before .args .n) (c .before .before .before .before .before .before .before .pre .1 .0), c .before .before .before .before .before .before .before .pre .0 .small)
+add-g c =
+    let a = c .before .before .before .before .before .before .before .args in
+    let p = c .before .before .before .before .before .before .before .pre in
+    omega (arith, words-long (a .u .now) (a .n) (p .1 .0), p .0 .small)
 
 loop-less : tie.Need-loop-less Inv-loop μ-loop
 loop-less c = omega arith

@@ -28,7 +28,9 @@ sub-hi : tie.Need-sub-hi Inv-loop μ-loop
 sub-hi c = omega arith
 
 loop-holds : tie.Need-loop-holds Inv-loop μ-loop
-loop-holds c = start (c .before .before .before .before .args .limits .now) (c .before .before .before .before .pre .0) (c .before .before .before .before .args .x) (c .before .before .before .before .args .m) (length (c .before .before .before .before .args .limits .now)) refl (c .before .before .if1 .left)
+loop-holds c =
+    let a = c .before .before .before .before .args in
+    start (a .limits .now) (c .before .before .before .before .pre .0) (a .x) (a .m) (length (a .limits .now)) refl (c .before .before .if1 .left)
 
 add-loop : tie.Need-add-loop Inv-loop μ-loop
 add-loop c = omega arith

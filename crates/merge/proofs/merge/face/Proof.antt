@@ -79,7 +79,9 @@ slice-read-q : tie.Need-slice-read-q
 slice-read-q c = omega (arith, ends (c .before .before .before .before), c .before .before .before .before .pre .0 .words, c .before .before .before .before .pre .0 .small)
 
 returns : tie.Need-returns
-returns c = let a = c .before .before .before .before .before .args in face-stays (a .m) (a .n) (a .w .now) (a .d .now) (c .before .before .before .before .before .pre .0) (a .f) (c .before .before .before .before .before .pre .1 .1) (c .before .before .before .before .before .pre .1 .0) (c .if1 .taken)
+returns c =
+    let p = c .before .before .before .before .before .pre in
+    let a = c .before .before .before .before .before .args in face-stays (a .m) (a .n) (a .w .now) (a .d .now) (p .0) (a .f) (p .1 .1) (p .1 .0) (c .if1 .taken)
 
 mul-w : tie.Need-mul-w
 mul-w c = search needs
@@ -125,7 +127,9 @@ same-length-2 c = search needs
 
 returns-2 : tie.Need-returns-2
 unfolding neg
-returns-2 c = let a = c .before .before .before .before .before .before .args in face-turns (a .m) (a .n) (a .w .now) (a .d .now) (c .before .before .before .before .before .before .pre .0) (a .f) (c .before .before .before .before .before .before .pre .1 .1) (c .before .before .before .before .before .before .pre .1 .0) (c .before .if1 .left)
+returns-2 c =
+    let p = c .before .before .before .before .before .before .pre in
+    let a = c .before .before .before .before .before .before .args in face-turns (a .m) (a .n) (a .w .now) (a .d .now) (p .0) (a .f) (p .1 .1) (p .1 .0) (c .before .if1 .left)
 
 pub face-spec : {M : Type 1} → statement M
 face-spec =

@@ -183,7 +183,9 @@ same-length : tie.Need-same-length
 same-length c = simp length-set
 
 returns : tie.Need-returns
-returns c = let a = c .before .before .before .before .before .before .args in grow-does (a .m) (a .n) (a .w .now) (a .d .now) (c .before .before .before .before .before .before .pre .0) (a .b) (a .v) (c .before .before .before .before .before .before .pre .1 .b-in) (c .before .before .before .before .before .before .pre .1 .v-in)
+returns c =
+    let p = c .before .before .before .before .before .before .pre in
+    let a = c .before .before .before .before .before .before .args in grow-does (a .m) (a .n) (a .w .now) (a .d .now) (p .0) (a .b) (a .v) (p .1 .b-in) (p .1 .v-in)
 
 pub grow-spec : {M : Type 1} → statement M
 grow-spec =

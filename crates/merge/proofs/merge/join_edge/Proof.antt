@@ -13,7 +13,9 @@ face-requires : tie.Need-face-requires
 face-requires c κs = let p = c .before .before .before .before .before .before .before .before .pre in (p .0, (p .1 .0, c .before .before .if1 .taken))
 
 absorb-requires : tie.Need-absorb-requires
-absorb-requires c κs = let a = c .before .before .before .before .before .before .before .before .before .before .before .before .before .before .before .args in let p = c .before .before .before .before .before .before .before .before .before .before .before .before .before .before .before .pre in let y = c .before .before .before .before .before .before .before .before .before .before .mate in let z = c .before .before .before .before .before .before .face in let u = face-room (a .m) (a .n) (a .w .now) (a .d .now) (y .result) (z .last .0) (z .last .1 .0) (p .0) (p .1 .0) (c .before .before .before .before .before .before .before .before .before .if1 .taken) (z .kept .0) (z .kept .1 .0) (z .ensures) in (u .0, (u .1, (join-apart (a .m) (a .n) (a .b) (view (a .m) (a .n) (a .w .now) (a .d .now)) (a .f) (a .c) (y .result) (p .1 .1 .0) (y .ensures) (c .before .before .before .before .before .before .before .before .before .if1 .taken), p .1 .1 .1)))
+absorb-requires c κs =
+    let i = c .before .before .before .before .before .before .before .before .before .if1 in
+    let a = c .before .before .before .before .before .before .before .before .before .before .before .before .before .before .before .args in let p = c .before .before .before .before .before .before .before .before .before .before .before .before .before .before .before .pre in let y = c .before .before .before .before .before .before .before .before .before .before .mate in let z = c .before .before .before .before .before .before .face in let u = face-room (a .m) (a .n) (a .w .now) (a .d .now) (y .result) (z .last .0) (z .last .1 .0) (p .0) (p .1 .0) (i .taken) (z .kept .0) (z .kept .1 .0) (z .ensures) in (u .0, (u .1, (join-apart (a .m) (a .n) (a .b) (view (a .m) (a .n) (a .w .now) (a .d .now)) (a .f) (a .c) (y .result) (p .1 .1 .0) (y .ensures) (i .taken), p .1 .1 .1)))
 
 same-length : tie.Need-same-length
 same-length c = search needs
@@ -34,7 +36,9 @@ same-length-4 : tie.Need-same-length-4
 same-length-4 c = search needs
 
 returns-2 : tie.Need-returns-2
-returns-2 c = let a = c .before .before .before .before .before .before .before .before .before .before .before .before .before .args in join-attaches (a .m) (a .n) (a .b) (view (a .m) (a .n) (a .w .now) (a .d .now)) (a .f) (a .c) (c .before .before .before .before .before .before .before .before .mate .result) (a .x) _ _ (c .before .before .before .before .before .before .before .before .mate .ensures) (c .before .before .before .before .before .before .before .if1 .left) (c .before .before .before .before .attach .ensures)
+returns-2 c =
+    let m′ = c .before .before .before .before .before .before .before .before .mate in
+    let a = c .before .before .before .before .before .before .before .before .before .before .before .before .before .args in join-attaches (a .m) (a .n) (a .b) (view (a .m) (a .n) (a .w .now) (a .d .now)) (a .f) (a .c) (m′ .result) (a .x) _ _ (m′ .ensures) (c .before .before .before .before .before .before .before .if1 .left) (c .before .before .before .before .attach .ensures)
 
 pub join-edge-spec : {M : Type 1} → statement M
 join-edge-spec =

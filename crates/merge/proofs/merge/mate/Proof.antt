@@ -40,17 +40,21 @@ mul-q-3 c = omega (arith, c .before .before .before .pre .0 .words, c .before .b
 shared-slice-read-q : tie.Need-shared-slice-read-q
 shared-slice-read-q c = omega (arith, c .before .before .before .before .pre .0 .words, c .before .before .before .before .pre .0 .small, c .before .before .before .before .pre .1 .1 .0, c .before .before .before .before .pre .1 .1 .1)
 
-hunt-requires : tie.Need-hunt-requires
-hunt-requires c κs = (c .before .before .before .before .before .pre .0, (c .before .before .before .before .before .pre .1 .0, c .before .before .before .before .before .pre .1 .1 .0))
+seek-requires : tie.Need-seek-requires
+seek-requires c κs = (c .before .before .before .before .before .pre .0, (c .before .before .before .before .before .pre .1 .0, c .before .before .before .before .before .pre .1 .1 .0))
 
 returns : tie.Need-returns
-returns c = let a = c .before .before .before .before .before .before .args in mate-first (a .m) (a .n) (a .b) (a .c) (a .w .now) (a .d .now) (c .before .before .before .before .before .before .pre .1 .1 .0) (c .before .before .before .before .before .before .pre .1 .1 .1) (c .hunt .result) (c .before .if1 .taken) (c .hunt .ensures)
+returns c =
+    let p = c .before .before .before .before .before .before .pre in
+    let a = c .before .before .before .before .before .before .args in mate-first (a .m) (a .n) (a .b) (a .c) (a .w .now) (a .d .now) (p .1 .1 .0) (p .1 .1 .1) (c .seek .result) (c .before .if1 .taken) (c .seek .ensures)
 
-hunt-requires-2 : tie.Need-hunt-requires-2
-hunt-requires-2 c κs = (c .before .before .before .before .before .pre .0, (c .before .before .before .before .before .pre .1 .0, c .before .before .before .before .before .pre .1 .1 .1))
+seek-requires-2 : tie.Need-seek-requires-2
+seek-requires-2 c κs = (c .before .before .before .before .before .pre .0, (c .before .before .before .before .before .pre .1 .0, c .before .before .before .before .before .pre .1 .1 .1))
 
 returns-2 : tie.Need-returns-2
-returns-2 c = let a = c .before .before .before .before .before .before .args in mate-second (a .m) (a .n) (a .b) (a .c) (a .w .now) (a .d .now) (c .before .before .before .before .before .before .pre .1 .1 .0) (c .before .before .before .before .before .before .pre .1 .1 .1) (c .hunt2 .result) (c .before .if1 .left) (c .hunt2 .ensures)
+returns-2 c =
+    let p = c .before .before .before .before .before .before .pre in
+    let a = c .before .before .before .before .before .before .args in mate-second (a .m) (a .n) (a .b) (a .c) (a .w .now) (a .d .now) (p .1 .1 .0) (p .1 .1 .1) (c .seek2 .result) (c .before .if1 .left) (c .seek2 .ensures)
 
 pub mate-spec : {M : Type 1} → statement M
 mate-spec =
@@ -68,7 +72,7 @@ mate-spec =
     add-q-2
     mul-q-3
     shared-slice-read-q
-    hunt-requires
+    seek-requires
     returns
-    hunt-requires-2
+    seek-requires-2
     returns-2)

@@ -52,7 +52,9 @@ slice-read-z : tie.Need-slice-read-z
 slice-read-z c = search needs
 
 shift-up-requires : tie.Need-shift-up-requires
-shift-up-requires c κs = let a = c .before .before .before .before .before .before .before .before .args in (moved-single (a .m) (a .n) (a .w .now) (a .d .now) (c .before .before .before .before .before .before .before .before .pre .0) (a .b) (a .v) (a .g) (a .f) (c .before .before .before .before .before .before .before .before .pre .1 .1 .1) (c .before .before .before .before .before .before .before .before .pre .1 .0), c .before .before .before .before .before .before .before .before .pre .1 .1 .0 .g-in)
+shift-up-requires c κs =
+    let p = c .before .before .before .before .before .before .before .before .pre in
+    let a = c .before .before .before .before .before .before .before .before .args in (moved-single (a .m) (a .n) (a .w .now) (a .d .now) (p .0) (a .b) (a .v) (a .g) (a .f) (p .1 .1 .1) (p .1 .0), p .1 .1 .0 .g-in)
 
 join-edge-requires : tie.Need-join-edge-requires
 join-edge-requires c κs = let a = c .before .before .before .before .before .before .before .before .before .before .before .args in let p = c .before .before .before .before .before .before .before .before .before .before .before .pre in (
@@ -73,10 +75,15 @@ same-length-2 : tie.Need-same-length-2
 same-length-2 c = search needs
 
 returns-2 : tie.Need-returns-2
-returns-2 c = let a = c .before .before .before .before .before .before .before .before .before .before .before .before .before .before .before .before .args in moved-first (a .m) (a .n) (a .w .now) (a .d .now) (c .before .before .before .before .before .before .before .before .before .before .before .before .before .before .before .before .pre .0) (a .b) (a .v) (a .g) (a .f) (c .before .before .before .before .before .before .before .before .before .before .before .before .before .before .before .before .pre .1 .1 .1) (c .before .before .before .before .before .before .before .before .before .before .before .before .if1 .left) _ _ (c .before .before .before .before .before .before .before .shift-up .result) (c .before .before .before .before .before .before .before .before .if2 .taken) (c .before .before .before .before .before .before .before .shift-up .ensures) (c .before .before .before .before .join-edge .ensures)
+returns-2 c =
+    let p = c .before .before .before .before .before .before .before .before .before .before .before .before .before .before .before .before .pre in
+    let s = c .before .before .before .before .before .before .before .shift-up in
+    let a = c .before .before .before .before .before .before .before .before .before .before .before .before .before .before .before .before .args in moved-first (a .m) (a .n) (a .w .now) (a .d .now) (p .0) (a .b) (a .v) (a .g) (a .f) (p .1 .1 .1) (c .before .before .before .before .before .before .before .before .before .before .before .before .if1 .left) _ _ (s .result) (c .before .before .before .before .before .before .before .before .if2 .taken) (s .ensures) (c .before .before .before .before .join-edge .ensures)
 
 shift-down-requires : tie.Need-shift-down-requires
-shift-down-requires c κs = let a = c .before .before .before .before .before .before .before .before .before .args in (moved-single (a .m) (a .n) (a .w .now) (a .d .now) (c .before .before .before .before .before .before .before .before .before .pre .0) (a .b) (a .v) (a .g) (a .f) (c .before .before .before .before .before .before .before .before .before .pre .1 .1 .1) (c .before .before .before .before .before .before .before .before .before .pre .1 .0), c .before .before .before .before .before .before .before .before .before .pre .1 .1 .0 .g-in)
+shift-down-requires c κs =
+    let p = c .before .before .before .before .before .before .before .before .before .pre in
+    let a = c .before .before .before .before .before .before .before .before .before .args in (moved-single (a .m) (a .n) (a .w .now) (a .d .now) (p .0) (a .b) (a .v) (a .g) (a .f) (p .1 .1 .1) (p .1 .0), p .1 .1 .0 .g-in)
 
 join-edge-requires-2 : tie.Need-join-edge-requires-2
 unfolding neg
@@ -99,10 +106,15 @@ same-length-4 c = search needs
 
 returns-3 : tie.Need-returns-3
 unfolding neg
-returns-3 c = let a = c .before .before .before .before .before .before .before .before .before .before .before .before .before .before .before .before .before .args in moved-second (a .m) (a .n) (a .w .now) (a .d .now) (c .before .before .before .before .before .before .before .before .before .before .before .before .before .before .before .before .before .pre .0) (a .b) (a .v) (a .g) (a .f) (c .before .before .before .before .before .before .before .before .before .before .before .before .before .before .before .before .before .pre .1 .1 .1) (c .before .before .before .before .before .before .before .before .before .before .before .before .before .if1 .left) _ _ (neg (c .before .before .before .before .before .before .before .shift-down .result)) (c .before .before .before .before .before .before .before .before .before .if2 .left) (c .before .before .before .before .before .before .before .before .if3 .taken) (ap (λ (x : Float). neg x) (c .before .before .before .before .before .before .before .shift-down .ensures)) (c .before .before .before .before .join-edge2 .ensures)
+returns-3 c =
+    let p = c .before .before .before .before .before .before .before .before .before .before .before .before .before .before .before .before .before .pre in
+    let s = c .before .before .before .before .before .before .before .shift-down in
+    let a = c .before .before .before .before .before .before .before .before .before .before .before .before .before .before .before .before .before .args in moved-second (a .m) (a .n) (a .w .now) (a .d .now) (p .0) (a .b) (a .v) (a .g) (a .f) (p .1 .1 .1) (c .before .before .before .before .before .before .before .before .before .before .before .before .before .if1 .left) _ _ (neg (s .result)) (c .before .before .before .before .before .before .before .before .before .if2 .left) (c .before .before .before .before .before .before .before .before .if3 .taken) (ap (λ (x : Float). neg x) (s .ensures)) (c .before .before .before .before .join-edge2 .ensures)
 
 returns-4 : tie.Need-returns-4
-returns-4 c = let a = c .before .before .before .before .before .before .before .before .before .args in moved-far (a .m) (a .n) (a .w .now) (a .d .now) (c .before .before .before .before .before .before .before .before .before .pre .0) (a .b) (a .v) (a .g) (a .f) (c .before .before .before .before .before .before .before .before .before .pre .1 .1 .1) (c .before .before .before .before .before .if1 .left) (c .before .if2 .left) (c .if3 .left)
+returns-4 c =
+    let p = c .before .before .before .before .before .before .before .before .before .pre in
+    let a = c .before .before .before .before .before .before .before .before .before .args in moved-far (a .m) (a .n) (a .w .now) (a .d .now) (p .0) (a .b) (a .v) (a .g) (a .f) (p .1 .1 .1) (c .before .before .before .before .before .if1 .left) (c .before .if2 .left) (c .if3 .left)
 
 pub moved-edge-spec : {M : Type 1} → statement M
 moved-edge-spec =

@@ -20,7 +20,9 @@ same-length-2 : tie.Need-same-length-2
 same-length-2 c = search needs
 
 returns : tie.Need-returns
-returns c = let a = c .before .before .before .before .before .before .before .before .before .before .before .before .before .args in pass-drops (a .m) (a .n) (a .b) (a .p) (a .x) still (view (a .m) (a .n) (a .w .now) (a .d .now)) _ _ (c .before .before .before .before .before .before .before .before .is-spent .result) (c .before .before .before .before .before .before .before .before .is-spent .ensures) (c .before .before .before .before .before .before .before .if1 .taken) (c .before .before .before .before .drop-slot .ensures)
+returns c =
+    let i = c .before .before .before .before .before .before .before .before .is-spent in
+    let a = c .before .before .before .before .before .before .before .before .before .before .before .before .before .args in pass-drops (a .m) (a .n) (a .b) (a .p) (a .x) still (view (a .m) (a .n) (a .w .now) (a .d .now)) _ _ (i .result) (i .ensures) (c .before .before .before .before .before .before .before .if1 .taken) (c .before .before .before .before .drop-slot .ensures)
 
 same-length-3 : tie.Need-same-length-3
 same-length-3 c = search needs

@@ -83,7 +83,9 @@ pass-slot-requires : tie.Need-pass-slot-requires Inv-loop μ-loop
 pass-slot-requires c κs = let a = c .before .before .before .before .before .before .before .before .before .args in let k = c .before .before .before .before .loop in (k .inv .room, prune-slots (a .m) (a .n) (a .b) (c .before .before .before .before .before .before .before .before .before .pre .1 .1) (a .w .now) (a .d .now) (k .w) (k .d) _ (k .p) (k .x) (k .i) _ (k .inv) (c .before .before .before .loop-test .taken))
 
 add-i : tie.Need-add-i Inv-loop μ-loop
-add-i c = omega (arith, c .before .before .before .before .before .before .before .before .loop-test .taken, c .before .before .before .before .before .before .before .before .before .before .before .slice-known3 .given (7 * (c .before .before .before .before .before .before .before .before .before .before .before .before .before .before .args .m) + 4 * (c .before .before .before .before .before .before .before .before .before .before .before .before .before .before .args .n) + c .before .before .before .before .before .before .before .before .before .before .before .before .before .before .args .b))
+add-i c =
+    let a = c .before .before .before .before .before .before .before .before .before .before .before .before .before .before .args in
+    omega (arith, c .before .before .before .before .before .before .before .before .loop-test .taken, c .before .before .before .before .before .before .before .before .before .before .before .slice-known3 .given (7 * (a .m) + 4 * (a .n) + a .b))
 
 loop-less : tie.Need-loop-less Inv-loop μ-loop
 loop-less c = omega (arith, c .before .before .before .before .before .before .before .before .loop-test)

@@ -12,7 +12,9 @@ face-requires : tie.Need-face-requires
 face-requires c κs = let p = c .before .before .before .before .before .pre in (p .0, (p .1 .0, c .before .before .if1 .left))
 
 moved-edge-requires : tie.Need-moved-edge-requires
-moved-edge-requires c κs = let a = c .before .before .before .before .before .before .before .before .before .before .before .before .args in let p = c .before .before .before .before .before .before .before .before .before .before .before .before .pre in let z = c .before .before .before .before .before .before .face in let u = face-room (a .m) (a .n) (a .w .now) (a .d .now) (a .f) (z .last .0) (z .last .1 .0) (p .0) (p .1 .0) (c .before .before .before .before .before .before .before .before .before .if1 .left) (z .kept .0) (z .kept .1 .0) (z .ensures) in (u .0, (u .1, (p .1 .1, c .before .before .before .before .before .before .before .before .before .if1 .left)))
+moved-edge-requires c κs =
+    let i = c .before .before .before .before .before .before .before .before .before .if1 in
+    let a = c .before .before .before .before .before .before .before .before .before .before .before .before .args in let p = c .before .before .before .before .before .before .before .before .before .before .before .before .pre in let z = c .before .before .before .before .before .before .face in let u = face-room (a .m) (a .n) (a .w .now) (a .d .now) (a .f) (z .last .0) (z .last .1 .0) (p .0) (p .1 .0) (i .left) (z .kept .0) (z .kept .1 .0) (z .ensures) in (u .0, (u .1, (p .1 .1, i .left)))
 
 same-length : tie.Need-same-length
 same-length c = search needs

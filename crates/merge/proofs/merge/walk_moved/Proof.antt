@@ -77,13 +77,17 @@ take-edge-requires : tie.Need-take-edge-requires Inv-loop μ-loop
 take-edge-requires c κs = (c .before .before .before .before .loop .inv .room, (c .before .before .before .before .loop .inv .sound, c .before .before .before .before .before .before .before .before .before .pre .1 .1))
 
 add-i : tie.Need-add-i Inv-loop μ-loop
-add-i c = omega (arith, c .before .before .before .before .before .before .before .before .loop-test .taken, c .before .before .before .before .before .before .before .before .before .before .before .slice-known3 .given (7 * (c .before .before .before .before .before .before .before .before .before .before .before .before .before .before .args .m) + 4 * (c .before .before .before .before .before .before .before .before .before .before .before .before .before .before .args .n) + c .before .before .before .before .before .before .before .before .before .before .before .before .before .before .args .v))
+add-i c =
+    let a = c .before .before .before .before .before .before .before .before .before .before .before .before .before .before .args in
+    omega (arith, c .before .before .before .before .before .before .before .before .loop-test .taken, c .before .before .before .before .before .before .before .before .before .before .before .slice-known3 .given (7 * (a .m) + 4 * (a .n) + a .v))
 
 loop-less : tie.Need-loop-less Inv-loop μ-loop
 loop-less c = omega (arith, c .before .before .before .before .before .before .before .before .loop-test)
 
 loop-again : tie.Need-loop-again Inv-loop μ-loop
-loop-again c = let a = c .before .before .before .before .before .before .before .before .before .before .before .before .before .before .args in let k = c .before .before .before .before .before .before .before .before .before .loop in moved-turned (a .m) (a .n) (a .b) (a .v) (a .g) (c .before .before .before .before .before .before .before .before .before .before .before .before .before .before .pre .1 .1) (a .w .now) (a .d .now) (k .w) (k .d) _ _ _ (k .x) (k .i) _ (k .inv) (c .before .before .before .before .before .before .before .before .loop-test .taken) (c .before .before .before .before .take-edge .ensures) (c .before .before .before .before .take-edge .kept .0) (c .before .before .before .before .take-edge .kept .1 .0)
+loop-again c =
+    let t = c .before .before .before .before .take-edge in
+    let a = c .before .before .before .before .before .before .before .before .before .before .before .before .before .before .args in let k = c .before .before .before .before .before .before .before .before .before .loop in moved-turned (a .m) (a .n) (a .b) (a .v) (a .g) (c .before .before .before .before .before .before .before .before .before .before .before .before .before .before .pre .1 .1) (a .w .now) (a .d .now) (k .w) (k .d) _ _ _ (k .x) (k .i) _ (k .inv) (c .before .before .before .before .before .before .before .before .loop-test .taken) (t .ensures) (t .kept .0) (t .kept .1 .0)
 
 same-length : tie.Need-same-length Inv-loop μ-loop
 same-length c = c .before .loop .inv .same-w

@@ -117,7 +117,9 @@ slice-read-x : tie.Need-slice-read-x Inv-loop μ-loop
 slice-read-x c = let h = at (c .before .before .before .before) in simp length-set (omega (arith, h))
 
 add-i : tie.Need-add-i Inv-loop μ-loop
-add-i c = omega (arith, c .before .before .before .before .loop-test .taken, c .before .before .before .before .before .before .slice-known .given (7 * (c .before .before .before .before .before .before .before .args .m) + 5 * (c .before .before .before .before .before .before .before .args .n) + c .before .before .before .before .before .before .before .args .v))
+add-i c =
+    let a = c .before .before .before .before .before .before .before .args in
+    omega (arith, c .before .before .before .before .loop-test .taken, c .before .before .before .before .before .before .slice-known .given (7 * (a .m) + 5 * (a .n) + a .v))
 
 loop-less : tie.Need-loop-less Inv-loop μ-loop
 loop-less c = omega (arith, c .before .before .before .before .loop-test)

@@ -57,7 +57,9 @@ slice-read-sq : tie.Need-slice-read-sq
 slice-read-sq c = omega (arith, ends (c .before .before .before .before), c .before .before .before .before .pre .0 .words, c .before .before .before .before .pre .0 .small, c .before .before .before .before .pre .1 .1 .1)
 
 merge-requires : tie.Need-merge-requires
-merge-requires c κs = let a = c .before .before .before .before .before .before .before .args in let x = c .before .before .before .before .before .before .before .pre .1 .0 in let y = c .before .before .before .before .before .before .before .pre .1 .1 .0 in (c .before .before .before .before .before .before .before .pre .0, asks-first (a .m) (a .n) (x .0) (a .k) (a .w .now) (a .d .now) (x .1) (x .2) (a .e) (y .e-in) (chosen-live (a .m) (a .n) (x .0) (a .k) (a .w .now) (a .d .now) (x .1) (x .2) (a .e) (a .p) (a .q) (a .g) y) (a .p) (a .q) (chosen-ends (a .m) (a .n) (x .0) (a .k) (a .w .now) (a .d .now) (x .1) (x .2) (a .e) (a .p) (a .q) (a .g) y .0) (chosen-ends (a .m) (a .n) (x .0) (a .k) (a .w .now) (a .d .now) (x .1) (x .2) (a .e) (a .p) (a .q) (a .g) y .1) (a .g) (chosen-number (a .m) (a .n) (x .0) (a .k) (a .w .now) (a .d .now) (x .1) (x .2) (a .e) (a .p) (a .q) (a .g) y))
+merge-requires c κs =
+    let p′ = c .before .before .before .before .before .before .before .pre in
+    let a = c .before .before .before .before .before .before .before .args in let x = p′ .1 .0 in let y = p′ .1 .1 .0 in (p′ .0, asks-first (a .m) (a .n) (x .0) (a .k) (a .w .now) (a .d .now) (x .1) (x .2) (a .e) (y .e-in) (chosen-live (a .m) (a .n) (x .0) (a .k) (a .w .now) (a .d .now) (x .1) (x .2) (a .e) (a .p) (a .q) (a .g) y) (a .p) (a .q) (chosen-ends (a .m) (a .n) (x .0) (a .k) (a .w .now) (a .d .now) (x .1) (x .2) (a .e) (a .p) (a .q) (a .g) y .0) (chosen-ends (a .m) (a .n) (x .0) (a .k) (a .w .now) (a .d .now) (x .1) (x .2) (a .e) (a .p) (a .q) (a .g) y .1) (a .g) (chosen-number (a .m) (a .n) (x .0) (a .k) (a .w .now) (a .d .now) (x .1) (x .2) (a .e) (a .p) (a .q) (a .g) y))
 
 same-length : tie.Need-same-length
 same-length c = search needs
@@ -81,7 +83,9 @@ sub-merge : tie.Need-sub-merge
 sub-merge c = search needs
 
 merge-requires-2 : tie.Need-merge-requires-2
-merge-requires-2 c κs = let a = c .before .before .before .before .before .before .before .args in let x = c .before .before .before .before .before .before .before .pre .1 .0 in let y = c .before .before .before .before .before .before .before .pre .1 .1 .0 in (c .before .before .before .before .before .before .before .pre .0, asks-second (a .m) (a .n) (x .0) (a .k) (a .w .now) (a .d .now) (x .1) (x .2) (a .e) (y .e-in) (chosen-live (a .m) (a .n) (x .0) (a .k) (a .w .now) (a .d .now) (x .1) (x .2) (a .e) (a .p) (a .q) (a .g) y) (a .p) (a .q) (chosen-ends (a .m) (a .n) (x .0) (a .k) (a .w .now) (a .d .now) (x .1) (x .2) (a .e) (a .p) (a .q) (a .g) y .0) (chosen-ends (a .m) (a .n) (x .0) (a .k) (a .w .now) (a .d .now) (x .1) (x .2) (a .e) (a .p) (a .q) (a .g) y .1) (a .g) (chosen-number (a .m) (a .n) (x .0) (a .k) (a .w .now) (a .d .now) (x .1) (x .2) (a .e) (a .p) (a .q) (a .g) y))
+merge-requires-2 c κs =
+    let p′ = c .before .before .before .before .before .before .before .pre in
+    let a = c .before .before .before .before .before .before .before .args in let x = p′ .1 .0 in let y = p′ .1 .1 .0 in (p′ .0, asks-second (a .m) (a .n) (x .0) (a .k) (a .w .now) (a .d .now) (x .1) (x .2) (a .e) (y .e-in) (chosen-live (a .m) (a .n) (x .0) (a .k) (a .w .now) (a .d .now) (x .1) (x .2) (a .e) (a .p) (a .q) (a .g) y) (a .p) (a .q) (chosen-ends (a .m) (a .n) (x .0) (a .k) (a .w .now) (a .d .now) (x .1) (x .2) (a .e) (a .p) (a .q) (a .g) y .0) (chosen-ends (a .m) (a .n) (x .0) (a .k) (a .w .now) (a .d .now) (x .1) (x .2) (a .e) (a .p) (a .q) (a .g) y .1) (a .g) (chosen-number (a .m) (a .n) (x .0) (a .k) (a .w .now) (a .d .now) (x .1) (x .2) (a .e) (a .p) (a .q) (a .g) y))
 
 same-length-5 : tie.Need-same-length-5
 same-length-5 c = search needs

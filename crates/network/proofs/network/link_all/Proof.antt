@@ -47,16 +47,22 @@ link-requires : tie.Need-link-requires Inv-loop μ-loop
 link-requires c κs = let a = c .before .before .before .before .before .before .before .before .args in let k = c .before .before .before .before .before .loop in link-one (a .m) (a .n) (a .w .now) (a .d .now) (k .w) (k .d) (k .j) _ (k .inv) (c .before .before .before .before .loop-test .taken)
 
 mul-link-2 : tie.Need-mul-link-2 Inv-loop μ-loop
-mul-link-2 c = omega (arith, c .before .before .before .before .before .before .before .before .before .before .before .loop-test .taken, c .before .before .before .before .before .before .before .before .before .before .before .before .loop .inv .room .words, c .before .before .before .before .before .before .before .before .before .before .before .before .loop .inv .room .small)
+mul-link-2 c =
+    let l = c .before .before .before .before .before .before .before .before .before .before .before .before .loop in
+    omega (arith, c .before .before .before .before .before .before .before .before .before .before .before .loop-test .taken, l .inv .room .words, l .inv .room .small)
 
 add-link : tie.Need-add-link Inv-loop μ-loop
-add-link c = omega (arith, c .before .before .before .before .before .before .before .before .before .before .before .loop-test .taken, c .before .before .before .before .before .before .before .before .before .before .before .before .loop .inv .room .words, c .before .before .before .before .before .before .before .before .before .before .before .before .loop .inv .room .small)
+add-link c =
+    let l = c .before .before .before .before .before .before .before .before .before .before .before .before .loop in
+    omega (arith, c .before .before .before .before .before .before .before .before .before .before .before .loop-test .taken, l .inv .room .words, l .inv .room .small)
 
 link-requires-2 : tie.Need-link-requires-2 Inv-loop μ-loop
 link-requires-2 c κs = let a = c .before .before .before .before .before .before .before .before .before .before .before .before .before .before .before .args in let k = c .before .before .before .before .before .before .before .before .before .before .before .before .loop in let z = c .before .before .before .before .before .before .link in link-two (a .m) (a .n) (a .w .now) (a .d .now) (k .w) (k .d) (k .j) _ (k .inv) (c .before .before .before .before .before .before .before .before .before .before .before .loop-test .taken) (z .last .0) (z .last .1 .0) (z .kept .0) (z .kept .1 .0) (z .ensures)
 
 add-j : tie.Need-add-j Inv-loop μ-loop
-add-j c = omega (arith, c .before .before .before .before .before .before .before .before .before .before .before .before .before .before .before .before .loop-test .taken, c .before .before .before .before .before .before .before .before .before .before .before .before .before .before .before .before .before .loop .inv .room .words, c .before .before .before .before .before .before .before .before .before .before .before .before .before .before .before .before .before .loop .inv .room .small)
+add-j c =
+    let l = c .before .before .before .before .before .before .before .before .before .before .before .before .before .before .before .before .before .loop in
+    omega (arith, c .before .before .before .before .before .before .before .before .before .before .before .before .before .before .before .before .loop-test .taken, l .inv .room .words, l .inv .room .small)
 
 loop-less : tie.Need-loop-less Inv-loop μ-loop
 loop-less c = omega (arith, c .before .before .before .before .before .before .before .before .before .before .before .before .before .before .before .before .loop-test .taken)

@@ -75,16 +75,24 @@ add-i : tie.Need-add-i
 add-i c = search needs
 
 cast-i : tie.Need-cast-i
-cast-i c = let a = c .before .before .before .before .before .before .before .before .args in let e = c .before .before .before .before .before .best in omega (arith, ends-in (a .m) (a .n) (a .w .now) (a .d .now) (e .result) (c .before .before .before .before .before .before .before .before .pre .1 .0) (e .ensures .within), e .ensures .within, c .before .before .before .before .before .before .before .before .pre .0 .words, c .before .before .before .before .before .before .before .before .pre .0 .small)
+cast-i c =
+    let p = c .before .before .before .before .before .before .before .before .pre in
+    let a = c .before .before .before .before .before .before .before .before .args in let e = c .before .before .before .before .before .best in omega (arith, ends-in (a .m) (a .n) (a .w .now) (a .d .now) (e .result) (p .1 .0) (e .ensures .within), e .ensures .within, p .0 .words, p .0 .small)
 
 add-i-2 : tie.Need-add-i-2
-add-i-2 c = let a = c .before .before .before .before .before .before .before .before .args in let e = c .before .before .before .before .before .best in omega (arith, ends-in (a .m) (a .n) (a .w .now) (a .d .now) (e .result) (c .before .before .before .before .before .before .before .before .pre .1 .0) (e .ensures .within), e .ensures .within, c .before .before .before .before .before .before .before .before .pre .0 .words, c .before .before .before .before .before .before .before .before .pre .0 .small)
+add-i-2 c =
+    let p = c .before .before .before .before .before .before .before .before .pre in
+    let a = c .before .before .before .before .before .before .before .before .args in let e = c .before .before .before .before .before .best in omega (arith, ends-in (a .m) (a .n) (a .w .now) (a .d .now) (e .result) (p .1 .0) (e .ensures .within), e .ensures .within, p .0 .words, p .0 .small)
 
 mul-i-3 : tie.Need-mul-i-3
-mul-i-3 c = let a = c .before .before .before .before .before .before .before .before .args in let e = c .before .before .before .before .before .best in omega (arith, ends-in (a .m) (a .n) (a .w .now) (a .d .now) (e .result) (c .before .before .before .before .before .before .before .before .pre .1 .0) (e .ensures .within), e .ensures .within, c .before .before .before .before .before .before .before .before .pre .0 .words, c .before .before .before .before .before .before .before .before .pre .0 .small)
+mul-i-3 c =
+    let p = c .before .before .before .before .before .before .before .before .pre in
+    let a = c .before .before .before .before .before .before .before .before .args in let e = c .before .before .before .before .before .best in omega (arith, ends-in (a .m) (a .n) (a .w .now) (a .d .now) (e .result) (p .1 .0) (e .ensures .within), e .ensures .within, p .0 .words, p .0 .small)
 
 shared-slice-read-i : tie.Need-shared-slice-read-i
-shared-slice-read-i c = let a = c .before .before .before .before .before .before .before .before .before .args in let e = c .before .before .before .before .before .before .best in omega (arith, ends-in (a .m) (a .n) (a .w .now) (a .d .now) (e .result) (c .before .before .before .before .before .before .before .before .before .pre .1 .0) (e .ensures .within), e .ensures .within, c .before .before .before .before .before .before .before .before .before .pre .0 .words, c .before .before .before .before .before .before .before .before .before .pre .0 .small)
+shared-slice-read-i c =
+    let p = c .before .before .before .before .before .before .before .before .before .pre in
+    let a = c .before .before .before .before .before .before .before .before .before .args in let e = c .before .before .before .before .before .before .best in omega (arith, ends-in (a .m) (a .n) (a .w .now) (a .d .now) (e .result) (p .1 .0) (e .ensures .within), e .ensures .within, p .0 .words, p .0 .small)
 
 mul-j : tie.Need-mul-j
 mul-j c = search needs
@@ -96,30 +104,42 @@ add-j : tie.Need-add-j
 add-j c = search needs
 
 cast-j : tie.Need-cast-j
-cast-j c = let a = c .before .before .before .before .before .before .before .before .before .args in let e = c .before .before .before .before .before .before .best in omega (arith, ends-in (a .m) (a .n) (a .w .now) (a .d .now) (e .result) (c .before .before .before .before .before .before .before .before .before .pre .1 .0) (e .ensures .within), e .ensures .within, c .before .before .before .before .before .before .before .before .before .pre .0 .words, c .before .before .before .before .before .before .before .before .before .pre .0 .small)
+cast-j c =
+    let p = c .before .before .before .before .before .before .before .before .before .pre in
+    let a = c .before .before .before .before .before .before .before .before .before .args in let e = c .before .before .before .before .before .before .best in omega (arith, ends-in (a .m) (a .n) (a .w .now) (a .d .now) (e .result) (p .1 .0) (e .ensures .within), e .ensures .within, p .0 .words, p .0 .small)
 
 add-j-2 : tie.Need-add-j-2
-add-j-2 c = let a = c .before .before .before .before .before .before .before .before .before .args in let e = c .before .before .before .before .before .before .best in omega (arith, ends-in (a .m) (a .n) (a .w .now) (a .d .now) (e .result) (c .before .before .before .before .before .before .before .before .before .pre .1 .0) (e .ensures .within), e .ensures .within, c .before .before .before .before .before .before .before .before .before .pre .0 .words, c .before .before .before .before .before .before .before .before .before .pre .0 .small)
+add-j-2 c =
+    let p = c .before .before .before .before .before .before .before .before .before .pre in
+    let a = c .before .before .before .before .before .before .before .before .before .args in let e = c .before .before .before .before .before .before .best in omega (arith, ends-in (a .m) (a .n) (a .w .now) (a .d .now) (e .result) (p .1 .0) (e .ensures .within), e .ensures .within, p .0 .words, p .0 .small)
 
 mul-j-3 : tie.Need-mul-j-3
-mul-j-3 c = let a = c .before .before .before .before .before .before .before .before .before .args in let e = c .before .before .before .before .before .before .best in omega (arith, ends-in (a .m) (a .n) (a .w .now) (a .d .now) (e .result) (c .before .before .before .before .before .before .before .before .before .pre .1 .0) (e .ensures .within), e .ensures .within, c .before .before .before .before .before .before .before .before .before .pre .0 .words, c .before .before .before .before .before .before .before .before .before .pre .0 .small)
+mul-j-3 c =
+    let p = c .before .before .before .before .before .before .before .before .before .pre in
+    let a = c .before .before .before .before .before .before .before .before .before .args in let e = c .before .before .before .before .before .before .best in omega (arith, ends-in (a .m) (a .n) (a .w .now) (a .d .now) (e .result) (p .1 .0) (e .ensures .within), e .ensures .within, p .0 .words, p .0 .small)
 
 shared-slice-read-j : tie.Need-shared-slice-read-j
-shared-slice-read-j c = let a = c .before .before .before .before .before .before .before .before .before .before .args in let e = c .before .before .before .before .before .before .before .best in omega (arith, ends-in (a .m) (a .n) (a .w .now) (a .d .now) (e .result) (c .before .before .before .before .before .before .before .before .before .before .pre .1 .0) (e .ensures .within), e .ensures .within, c .before .before .before .before .before .before .before .before .before .before .pre .0 .words, c .before .before .before .before .before .before .before .before .before .before .pre .0 .small)
+shared-slice-read-j c =
+    let p = c .before .before .before .before .before .before .before .before .before .before .pre in
+    let a = c .before .before .before .before .before .before .before .before .before .before .args in let e = c .before .before .before .before .before .before .before .best in omega (arith, ends-in (a .m) (a .n) (a .w .now) (a .d .now) (e .result) (p .1 .0) (e .ensures .within), e .ensures .within, p .0 .words, p .0 .small)
 
 int-to-float-back : tie.Need-int-to-float-back
 int-to-float-back c = search needs
 
 returns-2 : tie.Need-returns-2
 unfolding Pops real neg
-returns-2 c = let a = c .before .before .before .before .before .before .before .before .before .before .before .before .args in let e = c .before .before .before .before .before .before .before .before .before .best in pop-turned (a .m) (a .n) (a .w .now) (a .d .now) (c .before .before .before .before .before .before .before .before .before .before .before .before .pre .0) (c .before .before .before .before .before .before .before .before .before .before .before .before .pre .1 .0) (e .result) (e .ensures) (c .before .before .before .before .before .before .before .if1 .left) (c .before .if2 .taken)
+returns-2 c =
+    let p = c .before .before .before .before .before .before .before .before .before .before .before .before .pre in
+    let a = c .before .before .before .before .before .before .before .before .before .before .before .before .args in let e = c .before .before .before .before .before .before .before .before .before .best in pop-turned (a .m) (a .n) (a .w .now) (a .d .now) (p .0) (p .1 .0) (e .result) (e .ensures) (c .before .before .before .before .before .before .before .if1 .left) (c .before .if2 .taken)
 
 int-to-float-q : tie.Need-int-to-float-q
 int-to-float-q c = search needs
 
 returns-3 : tie.Need-returns-3
 unfolding Pops real
-returns-3 c = let a = c .before .before .before .before .before .before .before .before .before .before .before .before .args in let e = c .before .before .before .before .before .before .before .before .before .best in pop-straight (a .m) (a .n) (a .w .now) (a .d .now) (c .before .before .before .before .before .before .before .before .before .before .before .before .pre .0) (c .before .before .before .before .before .before .before .before .before .before .before .before .pre .1 .0) (e .result) (e .ensures) (c .before .before .before .before .before .before .before .if1 .left) (c .before .if2 .left)
+returns-3 c =
+    let p = c .before .before .before .before .before .before .before .before .before .before .before .before .pre in
+    let a = c .before .before .before .before .before .before .before .before .before .before .before .before .args in let e = c .before .before .before .before .before .before .before .before .before .best in pop-straight (a .m) (a .n) (a .w .now) (a .d .now) (p .0) (p .1 .0) (e .result) (e .ensures) (c .before .before .before .before .before .before .before .if1 .left) (c .before .if2 .left)
 
 pub pop-edge-spec : {M : Type 1} → statement M
 pop-edge-spec =

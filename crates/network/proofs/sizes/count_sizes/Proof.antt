@@ -24,7 +24,9 @@ fill-requires : tie.Need-fill-requires Inv-loop μ-loop
 fill-requires c κs = omega (arith, c .before .before .pre .room)
 
 loop-holds : tie.Need-loop-holds Inv-loop μ-loop
-loop-holds c = let a = c .before .before .before .before .before .args in let u = c .before .before .fill in (omega arith, (sizes-fill (a .w .now) (u .last .0) (a .n) (a .at) (a .k) (c .before .before .before .before .before .pre) (u .ensures), (sizes-begin (a .w .now) (u .last .0) (a .n) (a .at) (a .k) (c .before .before .before .before .before .pre) (u .ensures), refl)))
+loop-holds c =
+    let p = c .before .before .before .before .before .pre in
+    let a = c .before .before .before .before .before .args in let u = c .before .before .fill in (omega arith, (sizes-fill (a .w .now) (u .last .0) (a .n) (a .at) (a .k) (p) (u .ensures), (sizes-begin (a .w .now) (u .last .0) (a .n) (a .at) (a .k) (p) (u .ensures), refl)))
 
 mul-l : tie.Need-mul-l Inv-loop μ-loop
 mul-l c = omega (arith, at (c))

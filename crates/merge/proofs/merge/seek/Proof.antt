@@ -1,15 +1,15 @@
--- `merge::merge::hunt` meets its contract. Assumes nothing.
-use Rattle.merge.proofs.merge.Walks.{Hunting, hunt-start, hunt-found, hunt-turn, hunt-end}
-use Rattle.merge.specs.Steps.{huntAll}
+-- `merge::merge::seek` meets its contract. Assumes nothing.
+use Rattle.merge.proofs.merge.Walks.{Seeking, seek-start, seek-found, seek-turn, seek-end}
+use Rattle.merge.specs.Steps.{seekAll}
 use Rattle.merge.specs.Mem.{view}
 use native.Mathlib.Omega.{arith}
 use Prim.Native.Nat.{_+_, _-_, _*_}
 use borrow.Author.Needs.{needs}
-use Rattle.merge.proofs.merge.hunt.Statement.{statement}
-use Rattle.merge.proofs.merge.hunt.Tie as tie
+use Rattle.merge.proofs.merge.seek.Statement.{statement}
+use Rattle.merge.proofs.merge.seek.Tie as tie
 
 abbrev Inv-loop : tie.InvT-loop
-Inv-loop w d m n b c h l x₀ i₀ x i = Hunting m n b c w d l x i (huntAll m b c (view m n w d) h)
+Inv-loop w d m n b c h l x₀ i₀ x i = Seeking m n b c w d l x i (seekAll m b c (view m n w d) h)
 
 abbrev μ-loop : tie.MeasureT-loop
 μ-loop w d m n b c h l x₀ i₀ x i = l - i
@@ -51,7 +51,7 @@ shared-slice-read-x : tie.Need-shared-slice-read-x Inv-loop μ-loop
 shared-slice-read-x c = omega (arith, c .before .before .before .before .pre .0 .words, c .before .before .before .before .pre .0 .small, c .before .before .before .before .pre .1 .1)
 
 loop-holds : tie.Need-loop-holds Inv-loop μ-loop
-loop-holds c = let a = c .before .before .before .before .args in hunt-start (a .m) (a .n) (a .b) (a .c) (a .w .now) (a .d .now) (c .before .before .before .before .pre .1 .0) (a .h) (c .before .before .before .before .pre .1 .1)
+loop-holds c = let a = c .before .before .before .before .args in seek-start (a .m) (a .n) (a .b) (a .c) (a .w .now) (a .d .now) (c .before .before .before .before .pre .1 .0) (a .h) (c .before .before .before .before .pre .1 .1)
 
 cast-f : tie.Need-cast-f Inv-loop μ-loop
 cast-f c = omega (arith, c .before .loop .inv .x-in, c .before .before .before .before .before .before .pre .0 .words, c .before .before .before .before .before .before .pre .0 .small)
@@ -60,7 +60,7 @@ joins-requires : tie.Need-joins-requires Inv-loop μ-loop
 joins-requires c κs = c .before .before .before .before .before .before .pre .0
 
 returns : tie.Need-returns Inv-loop μ-loop
-returns c = let a = c .before .before .before .before .before .before .before .before .args in let k = c .before .before .before .loop in let z = c .before .joins in hunt-found (a .m) (a .n) (a .b) (a .c) (a .w .now) (a .d .now) (c .before .before .before .before .before .before .before .before .pre .1 .0) _ (k .x) (k .i) _ (k .inv) (c .before .before .loop-test .taken) (z .result) (z .ensures) (c .if1 .taken)
+returns c = let a = c .before .before .before .before .before .before .before .before .args in let k = c .before .before .before .loop in let z = c .before .joins in seek-found (a .m) (a .n) (a .b) (a .c) (a .w .now) (a .d .now) (c .before .before .before .before .before .before .before .before .pre .1 .0) _ (k .x) (k .i) _ (k .inv) (c .before .before .loop-test .taken) (z .result) (z .ensures) (c .if1 .taken)
 
 mul-x-4 : tie.Need-mul-x-4 Inv-loop μ-loop
 mul-x-4 c = omega (arith, c .before .before .before .loop .inv .x-in, c .before .before .before .before .before .before .before .before .pre .0 .words, c .before .before .before .before .before .before .before .before .pre .0 .small)
@@ -78,19 +78,21 @@ shared-slice-read-x-2 : tie.Need-shared-slice-read-x-2 Inv-loop μ-loop
 shared-slice-read-x-2 c = omega (arith, c .before .before .before .before .loop .inv .x-in, c .before .before .before .before .before .before .before .before .before .pre .0 .words, c .before .before .before .before .before .before .before .before .before .pre .0 .small)
 
 add-i : tie.Need-add-i Inv-loop μ-loop
-add-i c = omega (arith, c .before .before .before .loop-test .taken, c .before .before .before .before .before .before .shared-slice-known3 .given (7 * (c .before .before .before .before .before .before .before .before .before .args .m) + 4 * (c .before .before .before .before .before .before .before .before .before .args .n) + c .before .before .before .before .before .before .before .before .before .args .h))
+add-i c =
+    let a = c .before .before .before .before .before .before .before .before .before .args in
+    omega (arith, c .before .before .before .loop-test .taken, c .before .before .before .before .before .before .shared-slice-known3 .given (7 * (a .m) + 4 * (a .n) + a .h))
 
 loop-less : tie.Need-loop-less Inv-loop μ-loop
 loop-less c = omega (arith, c .before .before .before .loop-test .taken)
 
 loop-again : tie.Need-loop-again Inv-loop μ-loop
-loop-again c = let a = c .before .before .before .before .before .before .before .before .before .args in let k = c .before .before .before .before .loop in let z = c .before .before .joins in hunt-turn (a .m) (a .n) (a .b) (a .c) (a .w .now) (a .d .now) (c .before .before .before .before .before .before .before .before .before .pre .1 .0) _ (k .x) (k .i) _ (k .inv) (c .before .before .before .loop-test .taken) (z .result) (z .ensures) (c .before .if1 .left)
+loop-again c = let a = c .before .before .before .before .before .before .before .before .before .args in let k = c .before .before .before .before .loop in let z = c .before .before .joins in seek-turn (a .m) (a .n) (a .b) (a .c) (a .w .now) (a .d .now) (c .before .before .before .before .before .before .before .before .before .pre .1 .0) _ (k .x) (k .i) _ (k .inv) (c .before .before .before .loop-test .taken) (z .result) (z .ensures) (c .before .if1 .left)
 
 returns-2 : tie.Need-returns-2 Inv-loop μ-loop
-returns-2 c = let a = c .before .before .before .before .before .before .args in let k = c .before .loop in hunt-end (a .m) (a .n) (a .b) (a .c) (a .w .now) (a .d .now) (c .before .before .before .before .before .before .pre .1 .0) _ (k .x) (k .i) _ (k .inv) (c .loop-test .left)
+returns-2 c = let a = c .before .before .before .before .before .before .args in let k = c .before .loop in seek-end (a .m) (a .n) (a .b) (a .c) (a .w .now) (a .d .now) (c .before .before .before .before .before .before .pre .1 .0) _ (k .x) (k .i) _ (k .inv) (c .loop-test .left)
 
-pub hunt-spec : {M : Type 1} → statement M
-hunt-spec =
+pub seek-spec : {M : Type 1} → statement M
+seek-spec =
     tie.close
     (tie.spec
     Inv-loop
