@@ -38,30 +38,22 @@ spent m s x = cond (ltb (x / 2) m) (eqb (getD (s .weight) (x / 2) 0) 0) true
 unfoldable pub dropAt : ℕ → Mem → ℕ → ℕ → Mem
 dropAt b s p x = elen-set (enext-set (enext-set s p (getD (s .enext) x 0)) x x) b (getD (s .elen) b 0 - 1)
 
--- slot x of b's chain: dropped where it is spent, else f is done to its edge
-unfoldable pub passed : (Mem → ℕ → Mem) → ℕ → ℕ → Mem → ℕ → ℕ → Mem
-passed f m b s p x = cond (spent m s x) (dropAt b s p x) (f s (x / 2))
+-- slot x of b's chain: dropped where it is spent
+unfoldable pub passed : ℕ → ℕ → Mem → ℕ → ℕ → Mem
+passed m b s p x = cond (spent m s x) (dropAt b s p x) s
 
 -- the last slot kept: p before x
 unfoldable pub kept : ℕ → Mem → ℕ → ℕ → ℕ
 kept m s p x = cond (spent m s x) p x
 
 -- the next k slots of b's chain from slot x on, which comes after p
-unfoldable pub along : (Mem → ℕ → Mem) → ℕ → ℕ → ℕ → Mem → ℕ → ℕ → Mem
-along f zero m b s p x = s
-along f (suc k) m b s p x = along f k m b (passed f m b s p x) (kept m s p x) (getD (s .enext) x 0)
-
--- all slots of b's chain
-unfoldable pub through : (Mem → ℕ → Mem) → ℕ → ℕ → Mem → Mem
-through f m b s = along f (getD (s .elen) b 0 - 1) m b s (2 * m + b) (getD (s .enext) (2 * m + b) 0)
-
--- the edge stays as it is
-unfoldable pub still : Mem → ℕ → Mem
-still s f = s
+unfoldable pub along : ℕ → ℕ → ℕ → Mem → ℕ → ℕ → Mem
+along zero m b s p x = s
+along (suc k) m b s p x = along k m b (passed m b s p x) (kept m s p x) (getD (s .enext) x 0)
 
 -- b's chain without its spent slots
 unfoldable pub pruned : ℕ → ℕ → Mem → Mem
-pruned m b s = through still m b s
+pruned m b s = along (getD (s .elen) b 0 - 1) m b s (2 * m + b) (getD (s .enext) (2 * m + b) 0)
 
 -- edge f is live and joins b and c, in whatever order it is stored
 unfoldable pub joinsAt : ℕ → ℕ → ℕ → Mem → ℕ → Bool

@@ -8,7 +8,7 @@ ghost use lib.Ieee.{binary32, fits, add};
 ghost use Rattle.arithmetic.specs.Rounding.{scale};
 ghost use lib.ListN.{getD};
 ghost use Rattle.merge.specs.Mem.{Mem, view, Room, Sound, stamp-set};
-ghost use Rattle.merge.specs.Steps.{unbias, spent, passed, kept, still, dropAt, pruned, faceAt, joinsAt, seekAll, mate, absorbAt, attachAt, joinEdge, shift, movedEdge, takeEdge, movedAll, walkRaise, splice, grow, handed, merged};
+ghost use Rattle.merge.specs.Steps.{unbias, spent, passed, kept, dropAt, pruned, faceAt, joinsAt, seekAll, mate, absorbAt, attachAt, joinEdge, shift, movedEdge, takeEdge, movedAll, walkRaise, splice, grow, handed, merged};
 ghost use Rattle.merge.specs.Does.{Does, Raised, Passes, Slots, Apart, Joins, Gains, Fit};
 
 // The f32 that an f64 is.
@@ -118,7 +118,7 @@ fn drop_slot(w: &mut [u32], d: &mut [f64], m: usize, n: usize, b: u32, p: u32, x
 fn pass_slot(w: &mut [u32], d: &mut [f64], m: usize, n: usize, b: u32, p: u32, x: u32) -> u32
     requires { ⌜ Room m n (now w) (now d) ⌝ }
     requires { ⌜ Slots m n b p x (view m n (now w) (now d)) ⌝ }
-    ensures { λ r. ⌜ Passes m n (now (w .exit)) (now (d .exit)) (passed still m b (view m n (now (w .entry)) (now (d .entry))) p x) (kept m (view m n (now (w .entry)) (now (d .entry))) p x) r ⌝ }
+    ensures { λ r. ⌜ Passes m n (now (w .exit)) (now (d .exit)) (passed m b (view m n (now (w .entry)) (now (d .entry))) p x) (kept m (view m n (now (w .entry)) (now (d .entry))) p x) r ⌝ }
 {
     let gone = is_spent(w, d, m, n, x);
     if gone {

@@ -34,7 +34,7 @@ simple-map g es h k = record {
 }
 
 -- Turning keeps which nodes an edge joins
-pub joined-turn : (x : ℕ) (e f : Edge) → Joined (turn x e) (turn x f) → Joined e f
+joined-turn : (x : ℕ) (e f : Edge) → Joined (turn x e) (turn x f) → Joined e f
 unfolding turn turnIf
 joined-turn x e f = go (eqb x (e .second)) (eqb x (f .second))
   where

@@ -6,7 +6,7 @@ use lib.Dec.{eqb, ltb}
 use lib.Ieee.{nan, Float, neg}
 use lib.ListN.{getD}
 use Rattle.merge.specs.Mem.{Mem, weight-set, first-set, second-set, enext-set, elen-set, diff-set}
-use Rattle.merge.specs.Steps.{spent, dropAt, passed, kept, along, through, still, pruned, movedAll, turnAt, turned, faceAt, mate, absorbAt, attachAt, joinEdge, shift, movedEdge, takeEdge, walkMoved}
+use Rattle.merge.specs.Steps.{spent, dropAt, passed, kept, along, pruned, movedAll, turnAt, turned, faceAt, mate, absorbAt, attachAt, joinEdge, shift, movedEdge, takeEdge, walkMoved}
 
 pub record Frame (s t : Mem) : Type 0 where
   pub enext : s .enext ≡ t .enext
@@ -96,19 +96,18 @@ pub same-drop : (b : ℕ) (u s : Mem) (p x : ℕ) → Same u s → Same (dropAt 
 unfolding dropAt enext-set elen-set
 same-drop b u s p x h = record { weight = h .weight; first = h .first; second = h .second; stamp = h .stamp; diff = h .diff; beside = record { rnext = h .beside .rnext; size = h .beside .size; rlen = h .beside .rlen; count = h .beside .count } }
 
--- what f and dropping keep, a walk keeps
-along-keeps : (P : Mem → Type 0) (f : Mem → ℕ → Mem) (m b : ℕ) → ((s : Mem) (j : ℕ) → P s → P (f s j)) → ((s : Mem) (p x : ℕ) → P s → P (dropAt b s p x)) → (k : ℕ) (s : Mem) (p x : ℕ) → P s → P (along f k m b s p x)
+same-along : (m b : ℕ) (t : Mem) (k : ℕ) (s : Mem) (p x : ℕ) → Same s t → Same (along k m b s p x) t
 unfolding along passed
-along-keeps P f m b u v zero s p x h = h
-along-keeps P f m b u v (suc k) s p x h = along-keeps P f m b u v k (cond (spent m s x) (dropAt b s p x) (f s (x / 2))) (kept m s p x) (getD (s .enext) x 0) (go (spent m s x))
+same-along m b t zero s p x h = h
+same-along m b t (suc k) s p x h = same-along m b t k (cond (spent m s x) (dropAt b s p x) s) (kept m s p x) (getD (s .enext) x 0) (go (spent m s x))
   where
-    go : (t : Bool) → P (cond t (dropAt b s p x) (f s (x / 2)))
-    go true = v s p x h
-    go false = u s (x / 2) h
+    go : (u : Bool) → Same (cond u (dropAt b s p x) s) t
+    go true = same-drop b s t p x h
+    go false = h
 
 pub same-pruned : (m b : ℕ) (s : Mem) → Same (pruned m b s) s
-unfolding pruned through still
-same-pruned m b s = along-keeps (λ u. Same u s) still m b (λ u j h. h) (λ u p x h. same-drop b u s p x h) (getD (s .elen) b 0 - 1) s (2 * m + b) (getD (s .enext) (2 * m + b) 0) (same-refl s)
+unfolding pruned
+same-pruned m b s = same-along m b s (getD (s .elen) b 0 - 1) s (2 * m + b) (getD (s .enext) (2 * m + b) 0) (same-refl s)
 
 pub frame-moved-all : (m b v g : ℕ) (s : Mem) → Frame (movedAll m b v g s) s
 unfolding movedAll

@@ -10,10 +10,9 @@ use lib.ListN.{length, getD, set, length-set}
 use lib.Seq.{getD-set-same, getD-set-other, set-out}
 use lib.Ieee.{Float}
 use borrow.Author.Tests.{lt-ltb, le-ltb}
-use Rattle.memory.specs.Tree.{Tree}
 use Rattle.memory.proofs.tree.TreeLaws.{tree-set}
 use Rattle.merge.specs.Mem.{Mem, view, Room, Sound, enext-set, elen-set}
-use Rattle.merge.specs.Steps.{spent, dropAt, passed, kept, along, through, still, pruned}
+use Rattle.merge.specs.Steps.{spent, dropAt, passed, kept, along, pruned}
 use Rattle.merge.specs.Does.{Does, Passes, Slots}
 use Rattle.merge.proofs.merge.View.{weight-at, enext-at, elen-at, enext-put, elen-put}
 use Rattle.merge.proofs.merge.Bias.{lt-or-le}
@@ -58,18 +57,14 @@ module _ (m n b p x : ℕ) where
       sound-elen m n _ (sound-enext m n _ h₁ x x hx hx) b _
 
   -- ---- pass_slot
-  module _ (f : Mem → ℕ → Mem) (s : Mem) (w : List ℕ) (d : List Float) (q : Bool) (is : q ≡ spent m s x) where
-    pub pass-drops : q ≡ true → Does m n w d (dropAt b s p x) → Passes m n w d (passed f m b s p x) (kept m s p x) p
+  module _ (s : Mem) (w : List ℕ) (d : List Float) (q : Bool) (is : q ≡ spent m s x) where
+    pub pass-drops : q ≡ true → Does m n w d (dropAt b s p x) → Passes m n w d (passed m b s p x) (kept m s p x) p
     unfolding passed kept
     pass-drops e h = let y : spent m s x ≡ true = sym is ∙ e in record { does = rw y h; prev = rw y refl }
 
-    pub pass-keeps : q ≡ false → Does m n w d (f s (x / 2)) → Passes m n w d (passed f m b s p x) (kept m s p x) x
+    pub pass-keeps : q ≡ false → Does m n w d s → Passes m n w d (passed m b s p x) (kept m s p x) x
     unfolding passed kept
     pass-keeps e h = let y : spent m s x ≡ false = sym is ∙ e in record { does = rw y h; prev = rw y refl }
-
-pub still-does : (m n : ℕ) (w : List ℕ) (d : List Float) → Tree m w → (x : ℕ) → Does m n w d (still (view m n w d) (x / 2))
-unfolding still
-still-does m n w d t x = record { tables = refl; tree = t }
 
 -- a table with one less at b has no more anywhere
 less-set : (l : List ℕ) (b y : ℕ) → getD (set l b (getD l b 0 - 1)) y 0 ≤ getD l y 0
@@ -83,22 +78,22 @@ less-set l b y = ⊎-elim
     (eq-or-ne y b)
 
 -- ---- along a chain
-pub record Pass (f : Mem → ℕ → Mem) (m n b : ℕ) (w₀ : List ℕ) (d₀ : List Float) (w : List ℕ) (d : List Float) (l p x i : ℕ) (goal : Mem) : Type 0 where
+pub record Pass (m n b : ℕ) (w₀ : List ℕ) (d₀ : List Float) (w : List ℕ) (d : List Float) (l p x i : ℕ) (goal : Mem) : Type 0 where
   pub room : Room m n w d
   pub sound : Sound m n (view m n w d)
   pub p-in : p < 2 * m + n
   pub x-in : x < 2 * m + n
   pub some-i : 1 ≤ i
   pub long : l < i + getD (view m n w d .elen) b 0
-  pub left : along f (l - i) m b (view m n w d) p x ≡ goal
+  pub left : along (l - i) m b (view m n w d) p x ≡ goal
   pub same-w : length w ≡ length w₀
   pub same-d : length d ≡ length d₀
 
-module _ (f : Mem → ℕ → Mem) (m n b : ℕ) (hb : b < n) (keeps : (s : Mem) (j : ℕ) → Sound m n s → Sound m n (f s j)) (lens : (s : Mem) (j : ℕ) → f s j .elen ≡ s .elen) where
-  pass-start : (w : List ℕ) (d : List Float) → Room m n w d → Sound m n (view m n w d)
-      → Pass f m n b w d w d (getD w (7 * m + 4 * n + b) 0) (2 * m + b) (getD w (5 * m + (2 * m + b)) 0) 1 (through f m b (view m n w d))
-  unfolding through
-  pass-start w d r h = record {
+module _ (m n b : ℕ) (hb : b < n) where
+  pub prune-start : (w : List ℕ) (d : List Float) → Room m n w d → Sound m n (view m n w d)
+      → Pass m n b w d w d (getD w (7 * m + 4 * n + b) 0) (2 * m + b) (getD w (5 * m + (2 * m + b)) 0) 1 (pruned m b (view m n w d))
+  unfolding pruned
+  prune-start w d r h = record {
     room = r;
     sound = h;
     p-in = omega arith;
@@ -110,13 +105,13 @@ module _ (f : Mem → ℕ → Mem) (m n b : ℕ) (hb : b < n) (keeps : (s : Mem)
     same-d = refl;
   }
 
-  sound-passed : (s : Mem) (p x : ℕ) → Sound m n s → p < 2 * m + n → x < 2 * m + n → Sound m n (passed f m b s p x)
+  sound-passed : (s : Mem) (p x : ℕ) → Sound m n s → p < 2 * m + n → x < 2 * m + n → Sound m n (passed m b s p x)
   unfolding passed
   sound-passed s p x h hp hx = go (spent m s x)
     where
-      go : (t : Bool) → Sound m n (cond t (dropAt b s p x) (f s (x / 2)))
+      go : (t : Bool) → Sound m n (cond t (dropAt b s p x) s)
       go true = sound-drop m n b p x s h hp hx
-      go false = keeps s (x / 2) h
+      go false = h
 
   kept-in : (s : Mem) (p x : ℕ) → p < 2 * m + n → x < 2 * m + n → kept m s p x < 2 * m + n
   unfolding kept
@@ -127,51 +122,51 @@ module _ (f : Mem → ℕ → Mem) (m n b : ℕ) (hb : b < n) (keeps : (s : Mem)
       go false = hx
 
   -- a slot makes the chain shorter by one at most
-  passed-len : (s : Mem) (p x : ℕ) → Sound m n s → getD (s .elen) b 0 ≤ 1 + getD (passed f m b s p x .elen) b 0
+  passed-len : (s : Mem) (p x : ℕ) → Sound m n s → getD (s .elen) b 0 ≤ 1 + getD (passed m b s p x .elen) b 0
   unfolding passed
   passed-len s p x h = go (spent m s x)
     where
-      go : (t : Bool) → getD (s .elen) b 0 ≤ 1 + getD (cond t (dropAt b s p x) (f s (x / 2)) .elen) b 0
+      go : (t : Bool) → getD (s .elen) b 0 ≤ 1 + getD (cond t (dropAt b s p x) s .elen) b 0
       go true = unfold dropAt enext-set elen-set in omega (arith, getD-set-same (s .elen) b (getD (s .elen) b 0 - 1) 0 (omega (arith, h .l-elen)))
-      go false = omega (arith, ap (λ (l : List ℕ). getD l b 0) (lens s (x / 2)))
+      go false = omega arith
 
   -- tables stay sound, and no length grows
-  sound-along : (k : ℕ) (s : Mem) (p x : ℕ) → Sound m n s → p < 2 * m + n → x < 2 * m + n → Sound m n (along f k m b s p x)
+  sound-along : (k : ℕ) (s : Mem) (p x : ℕ) → Sound m n s → p < 2 * m + n → x < 2 * m + n → Sound m n (along k m b s p x)
   unfolding along
   sound-along zero s p x h hp hx = h
-  sound-along (suc k) s p x h hp hx = sound-along k (passed f m b s p x) (kept m s p x) (getD (s .enext) x 0) (sound-passed s p x h hp hx) (kept-in s p x hp hx) (h .enext-in x hx)
+  sound-along (suc k) s p x h hp hx = sound-along k (passed m b s p x) (kept m s p x) (getD (s .enext) x 0) (sound-passed s p x h hp hx) (kept-in s p x hp hx) (h .enext-in x hx)
 
-  sound-through : (s : Mem) → Sound m n s → Sound m n (through f m b s)
-  unfolding through
-  sound-through s h = sound-along (getD (s .elen) b 0 - 1) s (2 * m + b) (getD (s .enext) (2 * m + b) 0) h (omega arith) (h .enext-in (2 * m + b) (omega arith))
+  pub sound-pruned : (s : Mem) → Sound m n s → Sound m n (pruned m b s)
+  unfolding pruned
+  sound-pruned s h = sound-along (getD (s .elen) b 0 - 1) s (2 * m + b) (getD (s .enext) (2 * m + b) 0) h (omega arith) (h .enext-in (2 * m + b) (omega arith))
 
-  less-passed : (s : Mem) (p x y : ℕ) → getD (passed f m b s p x .elen) y 0 ≤ getD (s .elen) y 0
+  less-passed : (s : Mem) (p x y : ℕ) → getD (passed m b s p x .elen) y 0 ≤ getD (s .elen) y 0
   unfolding passed
   less-passed s p x y = go (spent m s x)
     where
-      go : (t : Bool) → getD (cond t (dropAt b s p x) (f s (x / 2)) .elen) y 0 ≤ getD (s .elen) y 0
+      go : (t : Bool) → getD (cond t (dropAt b s p x) s .elen) y 0 ≤ getD (s .elen) y 0
       go true = unfold dropAt enext-set elen-set in less-set (s .elen) b y
-      go false = omega (arith, ap (λ (l : List ℕ). getD l y 0) (lens s (x / 2)))
+      go false = omega arith
 
-  less-along : (k : ℕ) (s : Mem) (p x y : ℕ) → getD (along f k m b s p x .elen) y 0 ≤ getD (s .elen) y 0
+  less-along : (k : ℕ) (s : Mem) (p x y : ℕ) → getD (along k m b s p x .elen) y 0 ≤ getD (s .elen) y 0
   unfolding along
   less-along zero s p x y = omega arith
-  less-along (suc k) s p x y = omega (arith, less-along k (passed f m b s p x) (kept m s p x) (getD (s .enext) x 0) y, less-passed s p x y)
+  less-along (suc k) s p x y = omega (arith, less-along k (passed m b s p x) (kept m s p x) (getD (s .enext) x 0) y, less-passed s p x y)
 
-  less-through : (s : Mem) (y : ℕ) → getD (through f m b s .elen) y 0 ≤ getD (s .elen) y 0
-  unfolding through
-  less-through s y = less-along (getD (s .elen) b 0 - 1) s (2 * m + b) (getD (s .enext) (2 * m + b) 0) y
+  pub less-pruned : (s : Mem) (y : ℕ) → getD (pruned m b s .elen) y 0 ≤ getD (s .elen) y 0
+  unfolding pruned
+  less-pruned s y = less-along (getD (s .elen) b 0 - 1) s (2 * m + b) (getD (s .enext) (2 * m + b) 0) y
 
-  module _ (w₀ : List ℕ) (d₀ : List Float) (w : List ℕ) (d : List Float) (l p x i : ℕ) (goal : Mem) (k : Pass f m n b w₀ d₀ w d l p x i goal) where
-    pass-slots : i < l → Slots m n b p x (view m n w d)
-    pass-slots lt = record { b-in = hb; p-in = k .p-in; x-in = k .x-in; some = omega (arith, k .long) }
+  module _ (w₀ : List ℕ) (d₀ : List Float) (w : List ℕ) (d : List Float) (l p x i : ℕ) (goal : Mem) (k : Pass m n b w₀ d₀ w d l p x i goal) where
+    pub prune-slots : i < l → Slots m n b p x (view m n w d)
+    prune-slots lt = record { b-in = hb; p-in = k .p-in; x-in = k .x-in; some = omega (arith, k .long) }
 
-    pass-turn : i < l → (w' : List ℕ) (d' : List Float) (q : ℕ) → Passes m n w' d' (passed f m b (view m n w d) p x) (kept m (view m n w d) p x) q → length w' ≡ length w → length d' ≡ length d
-        → Pass f m n b w₀ d₀ w' d' l q (getD w (5 * m + x) 0) (i + 1) goal
+    pub prune-turned : i < l → (w' : List ℕ) (d' : List Float) (q : ℕ) → Passes m n w' d' (passed m b (view m n w d) p x) (kept m (view m n w d) p x) q → length w' ≡ length w → length d' ≡ length d
+        → Pass m n b w₀ d₀ w' d' l q (getD w (5 * m + x) 0) (i + 1) goal
     unfolding along
-    pass-turn lt w' d' q e lw ld =
+    prune-turned lt w' d' q e lw ld =
         let s : Mem = view m n w d in
-        let s' : Mem = passed f m b s p x in
+        let s' : Mem = passed m b s p x in
         let z : l - i ≡ suc (l - (i + 1)) = omega arith in
         let nx : getD (s .enext) x 0 ≡ getD w (5 * m + x) 0 = enext-at m n w d x (k .x-in) in
         let el : getD (view m n w' d' .elen) b 0 ≡ getD (s' .elen) b 0 = ap (λ (u : Mem). getD (u .elen) b 0) (e .does .tables) in
@@ -182,47 +177,12 @@ module _ (f : Mem → ℕ → Mem) (m n b : ℕ) (hb : b < n) (keeps : (s : Mem)
           x-in = omega (arith, k .sound .enext-in x (k .x-in));
           some-i = omega arith;
           long = omega (arith, k .long, passed-len s p x (k .sound));
-          left = ap (λ (u : Mem). along f (l - (i + 1)) m b u q (getD w (5 * m + x) 0)) (e .does .tables) ∙ ap (λ (u : ℕ). along f (l - (i + 1)) m b s' u (getD w (5 * m + x) 0)) (e .prev)
-              ∙ ap (along f (l - (i + 1)) m b s' (kept m s p x)) (sym nx) ∙ ap (λ (y : ℕ). along f y m b s p x) (sym z) ∙ k .left;
+          left = ap (λ (u : Mem). along (l - (i + 1)) m b u q (getD w (5 * m + x) 0)) (e .does .tables) ∙ ap (λ (u : ℕ). along (l - (i + 1)) m b s' u (getD w (5 * m + x) 0)) (e .prev)
+              ∙ ap (along (l - (i + 1)) m b s' (kept m s p x)) (sym nx) ∙ ap (λ (y : ℕ). along y m b s p x) (sym z) ∙ k .left;
           same-w = lw ∙ k .same-w;
           same-d = ld ∙ k .same-d;
         }
 
-    pass-end : l ≤ i → Does m n w d goal
+    pub prune-end : l ≤ i → Does m n w d goal
     unfolding along
-    pass-end h = let z : l - i ≡ 0 = omega arith in record { tables = ap (λ (y : ℕ). along f y m b (view m n w d) p x) (sym z) ∙ k .left; tree = k .room .tree }
-
--- a chain whose edges stay as they are
-module _ (m n b : ℕ) (hb : b < n) where
-  still-keeps : (s : Mem) (j : ℕ) → Sound m n s → Sound m n (still s j)
-  unfolding still
-  still-keeps s j h = h
-
-  still-lens : (s : Mem) (j : ℕ) → still s j .elen ≡ s .elen
-  unfolding still
-  still-lens s j = refl
-
-  pub prune-start : (w : List ℕ) (d : List Float) → Room m n w d → Sound m n (view m n w d)
-      → Pass still m n b w d w d (getD w (7 * m + 4 * n + b) 0) (2 * m + b) (getD w (5 * m + (2 * m + b)) 0) 1 (pruned m b (view m n w d))
-  unfolding pruned
-  prune-start = pass-start still m n b hb still-keeps still-lens
-
-  pub sound-pruned : (s : Mem) → Sound m n s → Sound m n (pruned m b s)
-  unfolding pruned
-  sound-pruned = sound-through still m n b hb still-keeps still-lens
-
-  pub less-pruned : (s : Mem) (y : ℕ) → getD (pruned m b s .elen) y 0 ≤ getD (s .elen) y 0
-  unfolding pruned
-  less-pruned = less-through still m n b hb still-keeps still-lens
-
-  module _ (w₀ : List ℕ) (d₀ : List Float) (w : List ℕ) (d : List Float) (l p x i : ℕ) (goal : Mem) where
-    pub prune-slots : Pass still m n b w₀ d₀ w d l p x i goal → i < l → Slots m n b p x (view m n w d)
-    prune-slots = pass-slots still m n b hb still-keeps still-lens w₀ d₀ w d l p x i goal
-
-    pub prune-turned : Pass still m n b w₀ d₀ w d l p x i goal → i < l → (w' : List ℕ) (d' : List Float) (q : ℕ)
-        → Passes m n w' d' (passed still m b (view m n w d) p x) (kept m (view m n w d) p x) q → length w' ≡ length w → length d' ≡ length d
-        → Pass still m n b w₀ d₀ w' d' l q (getD w (5 * m + x) 0) (i + 1) goal
-    prune-turned = pass-turn still m n b hb still-keeps still-lens w₀ d₀ w d l p x i goal
-
-    pub prune-end : Pass still m n b w₀ d₀ w d l p x i goal → l ≤ i → Does m n w d goal
-    prune-end = pass-end still m n b hb still-keeps still-lens w₀ d₀ w d l p x i goal
+    prune-end h = let z : l - i ≡ 0 = omega arith in record { tables = ap (λ (y : ℕ). along y m b (view m n w d) p x) (sym z) ∙ k .left; tree = k .room .tree }

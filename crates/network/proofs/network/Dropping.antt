@@ -1,35 +1,38 @@
--- A walk along a node's chain that drops spent slots: the chains stay, and the edge of each slot is met. Assumes nothing.
+-- A walk along a node's chain that drops spent slots: the chains stay. Assumes nothing.
 use mathlib.Core.Path.{_≡_, refl, sym, ap, _∙_, subst}
 use mathlib.Core.Logic.{inl, inr, ⊎-elim}
-use mathlib.Core.Bool.{Bool, true, false, cond, true≢false}
+use mathlib.Core.Bool.{Bool, true, false, cond}
 use mathlib.Core.List.{List}
 use Prim.Native.Nat.{ℕ, zero, suc, _+_, _*_, _-_, _/_, _≤_, _<_}
 use native.Mathlib.Omega.{arith}
 use lib.Dec.{eqb}
 use lib.ListN.{getD, set, length-set}
 use lib.Seq.{getD-set-same, getD-set-other}
-use borrow.Author.Tests.{lt-ltb, le-ltb, eqb-true}
+use borrow.Author.Tests.{lt-ltb, eqb-true}
 use Rattle.network.specs.Network.{Edge}
 use Rattle.merge.specs.Mem.{Mem, Sound, enext-set, elen-set}
-use Rattle.merge.specs.Steps.{spent, dropAt, passed, kept, along, through, still, pruned}
+use Rattle.merge.specs.Steps.{spent, dropAt, passed, kept, along, pruned}
 use Rattle.merge.specs.Chain.{cur, Chains, own-split, pos-split, len-split}
 use Rattle.network.specs.Rep.{Circled, Ends}
-use Rattle.merge.proofs.merge.Bias.{lt-or-le}
 use Rattle.merge.proofs.merge.SoundSet.{eq-or-ne}
 use Rattle.network.proofs.network.Circles.{cur-suc, lead}
 use Rattle.network.proofs.network.Split.{split, split-here, split-own, split-pos, split-shorter, split-len}
 use Rattle.merge.proofs.merge.Passing.{sound-drop}
-use Rattle.network.proofs.network.Chained.{circled-by}
 use Rattle.merge.proofs.merge.Frames.{Same, same-refl, same-drop}
 
--- a slot that is spent, and one that is not
-pub spent-dead : (m : ℕ) (s : Mem) (x : ℕ) → spent m s x ≡ true → x / 2 < m → getD (s .weight) (x / 2) 0 ≡ 0
+-- a slot that is spent
+spent-dead : (m : ℕ) (s : Mem) (x : ℕ) → spent m s x ≡ true → x / 2 < m → getD (s .weight) (x / 2) 0 ≡ 0
 unfolding spent
 spent-dead m s x e h = eqb-true (getD (s .weight) (x / 2) 0) 0 (sym (ap (λ (t : Bool). cond t (eqb (getD (s .weight) (x / 2) 0) 0) true) (lt-ltb (x / 2) m h)) ∙ e)
 
-spent-not : (m : ℕ) (s : Mem) (x : ℕ) → spent m s x ≡ false → x / 2 < m
-unfolding spent
-spent-not m s x e = ⊎-elim (λ h. h) (λ h. absurd (true≢false (sym (ap (λ (t : Bool). cond t (eqb (getD (s .weight) (x / 2) 0) 0) true) (le-ltb (x / 2) m h)) ∙ e))) (lt-or-le (x / 2) m)
+-- the chains after it, and all other tables as before
+pub record Pruned (m n : ℕ) (node : ℕ → ℕ) (K : ℕ → Edge) (s t : Mem) : Type 0 where
+  pub o : ℕ → ℕ
+  pub q : ℕ → ℕ
+  pub l : ℕ → ℕ
+  pub circled : Circled m n node K t o q l
+  pub same : Same t s
+  pub sound : Sound m n t
 
 module _ (m n : ℕ) (node : ℕ → ℕ) (K : ℕ → Edge) (b : ℕ) (hb : b < n) (lb : node b ≡ b) where
   abbrev h : ℕ
@@ -84,36 +87,19 @@ module _ (m n : ℕ) (node : ℕ → ℕ) (K : ℕ → Edge) (b : ℕ) (hb : b <
         go j hj k (inl u) = inl (slot-kept (2 * j) j hj k (omega arith) ∙ u .0, slot-kept (2 * j + 1) j hj k (omega arith) ∙ u .1)
         go j hj k (inr u) = inr (slot-kept (2 * j) j hj k (omega arith) ∙ u .0, slot-kept (2 * j + 1) j hj k (omega arith) ∙ u .1)
 
-  -- ---- the walk, with what f leaves of each edge
-  module _ (f : Mem → ℕ → Mem) (I : (ℕ → Bool) → Mem → Type 0)
-      (frame : (s : Mem) (j : ℕ) → (f s j .enext ≡ s .enext) × (f s j .elen ≡ s .elen))
-      (keeps : (s : Mem) (j : ℕ) → Sound m n s → Sound m n (f s j))
-      (step : (s : Mem) (done : ℕ → Bool) → Sound m n s → I done s → (j : ℕ) → (done' : ℕ → Bool) × I done' (f s j) × ((i : ℕ) → done i ≡ true → done' i ≡ true) × (j < m → K j .live ≡ true → done' j ≡ true))
-      (drops : (s : Mem) (done : ℕ → Bool) (p x : ℕ) → I done s → I done (dropAt b s p x))
-      (lives : (s : Mem) (done : ℕ → Bool) → I done s → (j : ℕ) → j < m → K j .live ≡ true → getD (s .weight) j 0 ≡ 0 → ⊥) where
-    -- on the way: k slots are left after p, and those up to p are done
-    record Going (s : Mem) (done : ℕ → Bool) (o q l : ℕ → ℕ) (p x k : ℕ) : Type 0 where
+  -- ---- the walk from tables s₀, whose live edges have weights
+  module _ (s₀ : Mem) (lives : (j : ℕ) → j < m → K j .live ≡ true → getD (s₀ .weight) j 0 ≡ 0 → ⊥) where
+    -- on the way: k slots are left after p
+    record Going (s : Mem) (o q l : ℕ → ℕ) (p x k : ℕ) : Type 0 where
       circled : Circled m n node K s o q l
-      inv : I done s
+      same : Same s s₀
       sound : Sound m n s
       p-in : p < 2 * m + n
       p-own : o p ≡ h
       x-is : getD (s .enext) p 0 ≡ x
       left : suc (q p + k) ≡ l h
-      seen : (y : ℕ) → y < 2 * m → o y ≡ h → q y ≤ q p → K (y / 2) .live ≡ true → done (y / 2) ≡ true
 
-    -- at the end
-    pub record Went (s : Mem) : Type 0 where
-      pub done : ℕ → Bool
-      pub o : ℕ → ℕ
-      pub q : ℕ → ℕ
-      pub l : ℕ → ℕ
-      pub circled : Circled m n node K s o q l
-      pub inv : I done s
-      pub sound : Sound m n s
-      pub all : (y : ℕ) → y < 2 * m → o y ≡ h → K (y / 2) .live ≡ true → done (y / 2) ≡ true
-
-    module _ (s : Mem) (done : ℕ → Bool) (o q l : ℕ → ℕ) (p x k : ℕ) (G : Going s done o q l p x (suc k)) where
+    module _ (s : Mem) (o q l : ℕ → ℕ) (p x k : ℕ) (G : Going s o q l p x (suc k)) where
       C : Chains (s .enext) (2 * m + n) o q l
       C = G .circled .echains
 
@@ -142,111 +128,47 @@ module _ (m n : ℕ) (node : ℕ → ℕ) (K : ℕ → Edge) (b : ℕ) (hb : b <
       not-p : p ≡ x → ⊥
       not-p e = omega (arith, ap q e, qx)
 
-      dropped : spent m s x ≡ true → Going (dropAt b s p x) done (own-split o x) (pos-split o q x) (len-split o l x) p (getD (s .enext) x 0) k
+      dropped : spent m s x ≡ true → Going (dropAt b s p x) (own-split o x) (pos-split o q x) (len-split o l x) p (getD (s .enext) x 0) k
       dropped e = record {
         circled = drop-circled s (G .sound) o q l (G .circled) p x (G .p-in) (G .p-own) (G .x-is) not-h hx ox not-p
-            (λ j hj r w. lives s done (G .inv) j hj r (ap (λ (y : ℕ). getD (s .weight) y 0) (sym w) ∙ spent-dead m s x e (subst (λ (y : ℕ). y < m) (sym w) hj)));
-        inv = drops s done p x (G .inv);
+            (λ j hj r w. lives j hj r (ap (λ (y : List ℕ). getD y j 0) (sym (G .same .weight)) ∙ ap (λ (y : ℕ). getD (s .weight) y 0) (sym w) ∙ spent-dead m s x e (subst (λ (y : ℕ). y < m) (sym w) hj)));
+        same = same-drop b s s₀ p x (G .same);
         sound = sound-drop m n b p x s (G .sound) (G .p-in) hx;
         p-in = G .p-in;
         p-own = split-own o x p not-p ∙ G .p-own;
         x-is = drop-next s (G .sound) p x (G .p-in) not-p;
-        left = omega (arith, G .left, p-place, split-shorter o l x h not-h ox);
-        seen = λ y hy oy qy r. ⊎-elim
-            (λ w. absurd (not-h (sym (ap (own-split o x) w ∙ split-here o x) ∙ oy)))
-            (λ w. let oy' : o y ≡ h = sym (split-own o x y w) ∙ oy in G .seen y hy oy' (up-to y w oy' qy) r)
-            (eq-or-ne y x);
+        left = omega (arith, G .left, split-pos o q x p not-p (ox ∙ sym (G .p-own)) .0 (omega (arith, qx)), split-shorter o l x h not-h ox);
       }
-        where
-          p-place : pos-split o q x p ≡ q p
-          p-place = split-pos o q x p not-p (ox ∙ sym (G .p-own)) .0 (omega (arith, qx))
 
-          up-to : (y : ℕ) → (y ≡ x → ⊥) → o y ≡ h → pos-split o q x y ≤ pos-split o q x p → q y ≤ q p
-          up-to y w oy u = ⊎-elim
-              (λ a. absurd (omega (arith, split-pos o q x y w (ox ∙ sym oy) .1 a, p-place, qx)))
-              (λ a. omega (arith, split-pos o q x y w (ox ∙ sym oy) .0 a, p-place))
-              (lt-or-le (q x) (q y))
+      stayed : Going s o q l x (getD (s .enext) x 0) k
+      stayed = record { circled = G .circled; same = G .same; sound = G .sound; p-in = hx; p-own = ox; x-is = refl; left = omega (arith, G .left, qx) }
 
-      stayed : spent m s x ≡ false → (done' : ℕ → Bool) × Going (f s (x / 2)) done' o q l x (getD (s .enext) x 0) k
-      stayed e =
-          let r : (done' : ℕ → Bool) × I done' (f s (x / 2)) × ((i : ℕ) → done i ≡ true → done' i ≡ true) × (x / 2 < m → K (x / 2) .live ≡ true → done' (x / 2) ≡ true) = step s done (G .sound) (G .inv) (x / 2) in (
-            r .0,
-            record {
-              circled = circled-by m n node K s (f s (x / 2)) o q l (frame s (x / 2) .0) (frame s (x / 2) .1) (G .circled);
-              inv = r .1;
-              sound = keeps s (x / 2) (G .sound);
-              p-in = hx;
-              p-own = ox;
-              x-is = ap (λ (N : List ℕ). getD N x 0) (frame s (x / 2) .0);
-              left = omega (arith, G .left, qx);
-              seen = λ y hy oy qy u. ⊎-elim
-                  (λ w. r .2 (y / 2) (G .seen y hy oy (omega arith) u))
-                  (λ w. let z : y ≡ x = sym (C .at y (omega arith)) ∙ ap (λ (i : ℕ). cur (s .enext) i (q y)) oy ∙ ap (cur (s .enext) h) (qy-is qy w) ∙ here-x in
-                  subst (λ (i : ℕ). r .0 (i / 2) ≡ true) (sym z) (r .3 (spent-not m s x e) (subst (λ (i : ℕ). K (i / 2) .live ≡ true) z u)))
-                  (lt-or-le (q y) (suc (q p)));
-            },
-          )
-        where
-          qy-is : {y : ℕ} → q y ≤ q x → suc (q p) ≤ q y → q y ≡ suc (q p)
-          qy-is u w = omega (arith, qx)
-
-    go-on : (k : ℕ) (s : Mem) (done : ℕ → Bool) (o q l : ℕ → ℕ) (p x : ℕ) → Going s done o q l p x k → Went (along f k m b s p x)
+    go-on : (k : ℕ) (s : Mem) (o q l : ℕ → ℕ) (p x : ℕ) → Going s o q l p x k → Pruned m n node K s₀ (along k m b s p x)
     unfolding along passed kept
-    go-on zero s done o q l p x G = record {
-      done = done;
-      o = o;
-      q = q;
-      l = l;
-      circled = G .circled;
-      inv = G .inv;
-      sound = G .sound;
-      all = λ y hy oy u. G .seen y hy oy (omega (arith, G .left, G .circled .echains .here y (omega arith), ap l oy)) u;
-    }
-    go-on (suc k) s done o q l p x G = by (spent m s x) refl
-        (λ e. go-on k (dropAt b s p x) done (own-split o x) (pos-split o q x) (len-split o l x) p (getD (s .enext) x 0) (dropped s done o q l p x k G e))
-        (λ e. go-on k (f s (x / 2)) (stayed s done o q l p x k G e .0) o q l x (getD (s .enext) x 0) (stayed s done o q l p x k G e .1))
+    go-on zero s o q l p x G = record { o = o; q = q; l = l; circled = G .circled; same = G .same; sound = G .sound }
+    go-on (suc k) s o q l p x G = by (spent m s x) refl
+        (λ e. go-on k (dropAt b s p x) (own-split o x) (pos-split o q x) (len-split o l x) p (getD (s .enext) x 0) (dropped s o q l p x k G e))
+        (go-on k s o q l x (getD (s .enext) x 0) (stayed s o q l p x k G))
       where
-        by : (t : Bool) → spent m s x ≡ t → (spent m s x ≡ true → Went (along f k m b (dropAt b s p x) p (getD (s .enext) x 0))) → (spent m s x ≡ false → Went (along f k m b (f s (x / 2)) x (getD (s .enext) x 0)))
-            → Went (along f k m b (cond t (dropAt b s p x) (f s (x / 2))) (cond t p x) (getD (s .enext) x 0))
+        by : (t : Bool) → spent m s x ≡ t → (spent m s x ≡ true → Pruned m n node K s₀ (along k m b (dropAt b s p x) p (getD (s .enext) x 0))) → Pruned m n node K s₀ (along k m b s x (getD (s .enext) x 0))
+            → Pruned m n node K s₀ (along k m b (cond t (dropAt b s p x) s) (cond t p x) (getD (s .enext) x 0))
         by true e u v = u e
-        by false e u v = v e
-
-    pub went : (s : Mem) (done : ℕ → Bool) (o q l : ℕ → ℕ) → Circled m n node K s o q l → I done s → Sound m n s → Went (through f m b s)
-    unfolding through
-    went s done o q l C i sound =
-        let hh : h < 2 * m + n = omega arith in
-        let oh : o h ≡ h = C .header b hb lb in
-        let qh : q h ≡ 0 = lead (s .enext) (2 * m + n) o q l (C .echains) h hh oh in
-        go-on (getD (s .elen) b 0 - 1) s done o q l h (getD (s .enext) h 0) (record {
-          circled = C;
-          inv = i;
-          sound = sound;
-          p-in = hh;
-          p-own = oh;
-          x-is = refl;
-          left = omega (arith, qh, C .lengths b hb lb, C .echains .here h hh, ap l oh);
-          seen = λ y hy oy qy u. absurd (first y hy oy (omega arith));
-        })
-      where
-        first : (y : ℕ) → y < 2 * m → o y ≡ h → q y ≡ 0 → ⊥
-        first y hy oy qy =
-            let z : y ≡ h = sym (C .echains .at y (omega arith)) ∙ ap (λ (i : ℕ). cur (s .enext) i (q y)) oy ∙ ap (cur (s .enext) h) qy ∙ (unfold cur in refl) in
-            omega arith
-
--- ---- a chain without its spent slots
-pub record Pruned (m n : ℕ) (node : ℕ → ℕ) (K : ℕ → Edge) (s t : Mem) : Type 0 where
-  pub o : ℕ → ℕ
-  pub q : ℕ → ℕ
-  pub l : ℕ → ℕ
-  pub circled : Circled m n node K t o q l
-  pub same : Same t s
-  pub sound : Sound m n t
+        by false e u v = v
 
 pub prune-is : (m n : ℕ) (node : ℕ → ℕ) (K : ℕ → Edge) (v : ℕ) → v < n → node v ≡ v → (s : Mem) (o q l : ℕ → ℕ) → Circled m n node K s o q l → Sound m n s
     → ((j : ℕ) → j < m → K j .live ≡ true → getD (s .weight) j 0 ≡ 0 → ⊥) → Pruned m n node K s (pruned m v s)
-unfolding pruned still
-prune-is m n node K v hv lv s o q l C h lives =
-    let r = went m n node K v hv lv still (λ (done : ℕ → Bool). λ (u : Mem). Same u s) (λ u j. (refl, refl)) (λ u j k. k) (λ u done k i j. ((λ i. true), i, (λ i e. refl), (λ p e. refl)))
-    (λ u done p x i. same-drop v u s p x i)
-    (λ u done i j hj k e. lives j hj k (ap (λ (y : List ℕ). getD y j 0) (sym (i .weight)) ∙ e)) s (λ i. true) o q l C (same-refl s) h in
-    record { o = r .o; q = r .q; l = r .l; circled = r .circled; same = r .inv; sound = r .sound }
+unfolding pruned
+prune-is m n node K v hv lv s o q l C sound lives =
+    let h : ℕ = 2 * m + v in
+    let hh : h < 2 * m + n = omega arith in
+    let oh : o h ≡ h = C .header v hv lv in
+    let qh : q h ≡ 0 = lead (s .enext) (2 * m + n) o q l (C .echains) h hh oh in
+    go-on m n node K v hv lv s lives (getD (s .elen) v 0 - 1) s o q l h (getD (s .enext) h 0) (record {
+      circled = C;
+      same = same-refl s;
+      sound = sound;
+      p-in = hh;
+      p-own = oh;
+      x-is = refl;
+      left = omega (arith, qh, C .lengths v hv lv, C .echains .here h hh, ap l oh);
+    })

@@ -64,7 +64,6 @@ module _ (s : Mem) (j : ℕ) where
 
 -- what the words say of an edge that stands as e
 pub record Stands (s : Mem) (j : ℕ) (e : Edge) : Type 0 where
-  pub num-is : j ≡ e .num
   pub some : getD (s .weight) j 0 ≡ 0 → ⊥
   pub weight-is : getD (s .weight) j 0 ≡ e .weight
   pub ends : ((getD (s .first) j 0 ≡ e .first) × (getD (s .second) j 0 ≡ e .second)) ⊎ ((getD (s .first) j 0 ≡ e .second) × (getD (s .second) j 0 ≡ e .first))
@@ -72,7 +71,6 @@ pub record Stands (s : Mem) (j : ℕ) (e : Edge) : Type 0 where
 pub stands : (s : Mem) (j : ℕ) (e : Edge) → edgeNow s j ≡ e → e .live ≡ true → Stands s j e
 unfolding edgeNow turnIf edgeOf
 stands s j e h l = record {
-  num-is = ap (λ (x : Edge). x .num) h;
   some = live-word s j (unfold edgeOf in ap (λ (x : Edge). x .live) h ∙ l);
   weight-is = ap (λ (x : Edge). x .weight) h;
   ends = go (turned s j) (ap (λ (x : Edge). x .first) h) (ap (λ (x : Edge). x .second) h);

@@ -13,9 +13,6 @@ use Rattle.merge.specs.Mem.{Mem, Sound, weight-set, first-set, second-set, diff
 use Rattle.merge.specs.Steps.{turnAt, absorbAt, attachAt, joinEdge, shift, movedEdge}
 use Rattle.network.specs.Net.{edgeOf, Like}
 
-pub like-refl : (x : Edge) → Like x x
-like-refl x = record { live = refl; whole = λ l. refl }
-
 pub like-of : (x y : Edge) → x ≡ y → Like x y
 like-of x y e = record { live = ap (λ (z : Edge). z .live) e; whole = λ l. e }
 
@@ -51,8 +48,6 @@ word-dead s j h = rw (eq-eqb (getD (s .weight) j 0) 0 h) refl
 
 -- an edge by its words
 pub record Words (s : Mem) (j : ℕ) (e : Edge) : Type 0 where
-  pub num-is : j ≡ e .num
-  pub live-is : edgeOf s j .live ≡ e .live
   pub some : getD (s .weight) j 0 ≡ 0 → ⊥
   pub first-is : getD (s .first) j 0 ≡ e .first
   pub second-is : getD (s .second) j 0 ≡ e .second
@@ -61,8 +56,6 @@ pub record Words (s : Mem) (j : ℕ) (e : Edge) : Type 0 where
 
 pub words : (s : Mem) (j : ℕ) (e : Edge) → edgeOf s j ≡ e → e .live ≡ true → Words s j e
 words s j e h l = record {
-  num-is = unfold edgeOf in ap (λ (x : Edge). x .num) h;
-  live-is = ap (λ (x : Edge). x .live) h;
   some = live-word s j (ap (λ (x : Edge). x .live) h ∙ l);
   first-is = unfold edgeOf in ap (λ (x : Edge). x .first) h;
   second-is = unfold edgeOf in ap (λ (x : Edge). x .second) h;

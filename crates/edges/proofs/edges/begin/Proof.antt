@@ -1,4 +1,4 @@
--- `network::edges::begin` meets its contract. Assumes nothing.
+-- `edges::edges::begin` meets its contract. Assumes nothing.
 use mathlib.Core.Path.{refl}
 use Prim.Native.Nat.{_-_}
 use Rattle.edges.specs.Edges.{begun}

@@ -1,4 +1,4 @@
--- `network::edges::count_runs` meets its contract. Assumes nothing.
+-- `edges::edges::count_runs` meets its contract. Assumes nothing.
 use Rattle.edges.specs.Gather.{pairIs}
 use Rattle.edges.proofs.edges.RunCount.{Counting, count-begin, count-on, count-end, count-none}
 use native.Mathlib.Omega.{arith}

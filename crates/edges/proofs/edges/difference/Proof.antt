@@ -1,4 +1,4 @@
--- `network::edges::difference` meets its contract. Assumes nothing.
+-- `edges::edges::difference` meets its contract. Assumes nothing.
 use mathlib.Core.Path.{_∙_}
 use Prim.Native.Nat.{_-_}
 use borrow.Author.Needs.{needs}

@@ -1,4 +1,4 @@
--- `network::edges::find_edges` meets its contract. Assumes nothing.
+-- `edges::edges::find_edges` meets its contract. Assumes nothing.
 use Rattle.edges.proofs.edges.Assembly.{sorts, ready, gathers, edged}
 use Prim.Native.Nat.{_-_}
 use borrow.Author.Needs.{needs}

@@ -1,4 +1,4 @@
--- `network::edges::gather` meets its contract. Assumes nothing.
+-- `edges::edges::gather` meets its contract. Assumes nothing.
 use borrow.Author.Needs.{needs}
 use native.Mathlib.Omega.{arith}
 use mathlib.Core.Path.{ap, _∙_}

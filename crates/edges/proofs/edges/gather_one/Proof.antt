@@ -1,4 +1,4 @@
--- `network::edges::gather_one` meets its contract. Assumes nothing.
+-- `edges::edges::gather_one` meets its contract. Assumes nothing.
 use Prim.Native.Nat.{_-_}
 use borrow.Author.Needs.{needs}
 use Rattle.edges.proofs.edges.Going.{turned-on, turned-off}

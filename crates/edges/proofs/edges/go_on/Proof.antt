@@ -1,4 +1,4 @@
--- `network::edges::go_on` meets its contract. Assumes nothing.
+-- `edges::edges::go_on` meets its contract. Assumes nothing.
 use native.Mathlib.Omega.{arith}
 use mathlib.Core.Path.{_≡_, refl}
 use Prim.Native.Nat.{suc, _+_, _-_}

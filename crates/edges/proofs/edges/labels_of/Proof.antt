@@ -1,4 +1,4 @@
--- `network::edges::labels_of` meets its contract. Assumes nothing.
+-- `edges::edges::labels_of` meets its contract. Assumes nothing.
 use borrow.Author.Needs.{needs}
 use native.Mathlib.Omega.{arith}
 use mathlib.Core.Path.{_≡_, refl, ap, _∙_}

@@ -1,4 +1,4 @@
--- `network::edges::look` meets its contract. Assumes nothing.
+-- `edges::edges::look` meets its contract. Assumes nothing.
 use borrow.Author.Needs.{needs}
 use native.Mathlib.Omega.{arith}
 use mathlib.Core.Path.{_≡_, sym, ap, _∙_}

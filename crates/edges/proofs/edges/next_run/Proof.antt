@@ -1,4 +1,4 @@
--- `network::edges::next_run` meets its contract. Assumes nothing.
+-- `edges::edges::next_run` meets its contract. Assumes nothing.
 use mathlib.Core.Path.{sym, ap, _∙_}
 use Prim.Native.Nat.{_+_, _-_}
 use borrow.Author.Needs.{needs}

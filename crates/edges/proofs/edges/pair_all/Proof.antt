@@ -1,4 +1,4 @@
--- `network::edges::pair_all` meets its contract. Assumes nothing.
+-- `edges::edges::pair_all` meets its contract. Assumes nothing.
 use borrow.Author.Needs.{needs}
 use native.Mathlib.Omega.{arith}
 use Prim.Native.Nat.{_-_, _*_, _≤_}

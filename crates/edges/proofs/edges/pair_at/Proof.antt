@@ -1,4 +1,4 @@
--- `network::edges::pair_at` meets its contract. Assumes nothing.
+-- `edges::edges::pair_at` meets its contract. Assumes nothing.
 use native.Mathlib.Omega.{arith}
 use mathlib.Core.Path.{refl}
 use Prim.Native.Nat.{_+_, _-_, _*_}

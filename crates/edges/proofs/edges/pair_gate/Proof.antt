@@ -1,4 +1,4 @@
--- `network::edges::pair_gate` meets its contract. Assumes nothing.
+-- `edges::edges::pair_gate` meets its contract. Assumes nothing.
 use native.Mathlib.Omega.{arith}
 use Prim.Native.Nat.{_-_}
 use borrow.Author.Needs.{needs}

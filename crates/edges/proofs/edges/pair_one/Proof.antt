@@ -1,4 +1,4 @@
--- `network::edges::pair_one` meets its contract. Assumes nothing.
+-- `edges::edges::pair_one` meets its contract. Assumes nothing.
 use native.Mathlib.Omega.{arith}
 use mathlib.Core.Path.{_≡_, sym, ap, _∙_}
 use Prim.Native.Nat.{ℕ, _-_, _<_}

@@ -1,4 +1,4 @@
--- `network::edges::put_edge` meets its contract. Assumes nothing.
+-- `edges::edges::put_edge` meets its contract. Assumes nothing.
 use native.Mathlib.Omega.{arith}
 use mathlib.Core.Path.{refl, ap}
 use Prim.Native.Nat.{_-_}

@@ -1,4 +1,4 @@
--- `network::edges::reach` meets its contract. Assumes nothing.
+-- `edges::edges::reach` meets its contract. Assumes nothing.
 use Prim.Native.Nat.{_-_}
 use borrow.Author.Needs.{needs}
 use Rattle.edges.specs.Edges.{skip}

@@ -1,4 +1,4 @@
--- `network::edges::same_labels` meets its contract. Assumes nothing.
+-- `edges::edges::same_labels` meets its contract. Assumes nothing.
 use mathlib.Core.Path.{refl, sym, ap}
 use Prim.Native.Nat.{_-_}
 use mathlib.Core.Bool.{_&&_, Bool}

@@ -1,4 +1,4 @@
--- `network::edges::sort_pairs` meets its contract. Assumes nothing.
+-- `edges::edges::sort_pairs` meets its contract. Assumes nothing.
 use Prim.Native.Nat.{_-_}
 use borrow.Author.Needs.{needs}
 use Rattle.edges.proofs.edges.SortSteps.{reads-one, reads-two, sort-lay, sort-done}

@@ -1,4 +1,4 @@
--- `network::edges::step` meets its contract. Assumes nothing.
+-- `edges::edges::step` meets its contract. Assumes nothing.
 use mathlib.Core.Path.{sym, ap, _∙_}
 use Prim.Native.Nat.{_-_}
 use borrow.Author.Needs.{needs}

@@ -1,4 +1,4 @@
--- `network::edges::to_bottom` meets its contract. Assumes nothing.
+-- `edges::edges::to_bottom` meets its contract. Assumes nothing.
 use native.Mathlib.Omega.{arith}
 use mathlib.Core.Path.{sym, ap, _∙_}
 use Prim.Native.Nat.{_-_}

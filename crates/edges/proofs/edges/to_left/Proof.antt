@@ -1,4 +1,4 @@
--- `network::edges::to_left` meets its contract. Assumes nothing.
+-- `edges::edges::to_left` meets its contract. Assumes nothing.
 use native.Mathlib.Omega.{arith}
 use mathlib.Core.Path.{sym}
 use Prim.Native.Nat.{_-_}

@@ -1,4 +1,4 @@
--- `network::edges::to_top` meets its contract. Assumes nothing.
+-- `edges::edges::to_top` meets its contract. Assumes nothing.
 use native.Mathlib.Omega.{arith}
 use mathlib.Core.Path.{_≡_, sym}
 use Prim.Native.Nat.{ℕ, zero, suc, _-_, _%_, _≤_}

@@ -1,4 +1,4 @@
--- `network::merge::absorb` meets its contract. Assumes nothing.
+-- `merge::merge::absorb` meets its contract. Assumes nothing.
 use mathlib.Core.Path.{subst}
 use Rattle.merge.specs.Does.{Does}
 use Rattle.merge.specs.Steps.{absorbAt}

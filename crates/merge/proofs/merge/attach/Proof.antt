@@ -1,4 +1,4 @@
--- `network::merge::attach` meets its contract. Assumes nothing.
+-- `merge::merge::attach` meets its contract. Assumes nothing.
 use Rattle.merge.proofs.merge.Leaf.{attach-does}
 use native.Mathlib.Omega.{arith}
 use Prim.Native.Nat.{_-_}

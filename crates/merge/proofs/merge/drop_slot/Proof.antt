@@ -1,4 +1,4 @@
--- `network::merge::drop_slot` meets its contract. Assumes nothing.
+-- `merge::merge::drop_slot` meets its contract. Assumes nothing.
 use Rattle.merge.proofs.merge.Passing.{drop-does}
 use Rattle.merge.proofs.merge.View.{elen-at}
 use native.Mathlib.Omega.{arith}

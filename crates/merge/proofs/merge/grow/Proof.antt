@@ -1,4 +1,4 @@
--- `network::merge::grow` meets its contract. Assumes nothing.
+-- `merge::merge::grow` meets its contract. Assumes nothing.
 use Rattle.merge.proofs.merge.View.{size-at, elen-at, rlen-at}
 use Rattle.merge.proofs.merge.SpliceDoes.{grow-does}
 use native.Mathlib.Omega.{arith}

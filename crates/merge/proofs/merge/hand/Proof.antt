@@ -1,4 +1,4 @@
--- `network::merge::hand` meets its contract. Assumes nothing.
+-- `merge::merge::hand` meets its contract. Assumes nothing.
 use Rattle.merge.proofs.merge.MergeDoes.{hand-walk, hand-splice, hand-grow, hand-does}
 use Prim.Native.Nat.{_-_}
 use borrow.Author.Needs.{needs}

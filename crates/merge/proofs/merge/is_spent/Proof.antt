@@ -1,4 +1,4 @@
--- `network::merge::is_spent` meets its contract. Assumes nothing.
+-- `merge::merge::is_spent` meets its contract. Assumes nothing.
 use Rattle.merge.proofs.merge.Passing.{spent-out, spent-word}
 use Prim.Native.Nat.{_-_}
 use borrow.Author.Needs.{needs}

@@ -1,4 +1,4 @@
--- `network::merge::merge` meets its contract. Assumes nothing.
+-- `merge::merge::merge` meets its contract. Assumes nothing.
 use borrow.Author.Tests.{not-true, not-false}
 use Rattle.merge.proofs.merge.MergeDoes.{merge-stamp, merge-raise, merge-refused, merge-hand, merge-done}
 use Prim.Native.Nat.{_-_}

@@ -1,4 +1,4 @@
--- `network::merge::moved_edge` meets its contract. Assumes nothing.
+-- `merge::merge::moved_edge` meets its contract. Assumes nothing.
 use lib.Ieee.{binary32, fits, nan, Float, neg}
 use lib.Dec.{T}
 use mathlib.Core.Path.{subst}

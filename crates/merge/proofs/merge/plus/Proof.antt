@@ -1,4 +1,4 @@
--- `network::merge::plus` meets its contract. Assumes nothing.
+-- `merge::merge::plus` meets its contract. Assumes nothing.
 use lib.Ieee as Ieee
 use lib.Ieee.{Float, binary32, add}
 use mathlib.Core.Path.{ap, _∙_}

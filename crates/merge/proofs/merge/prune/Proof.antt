@@ -1,6 +1,6 @@
--- `network::merge::prune` meets its contract. Assumes nothing.
+-- `merge::merge::prune` meets its contract. Assumes nothing.
 use Rattle.merge.proofs.merge.Passing.{Pass, prune-start, prune-slots, prune-turned, prune-end}
-use Rattle.merge.specs.Steps.{still, pruned}
+use Rattle.merge.specs.Steps.{pruned}
 use Rattle.merge.specs.Mem.{view}
 use native.Mathlib.Omega.{arith}
 use Prim.Native.Nat.{_+_, _-_, _*_}
@@ -8,7 +8,7 @@ use Rattle.merge.proofs.merge.prune.Statement.{statement}
 use Rattle.merge.proofs.merge.prune.Tie as tie
 
 abbrev Inv-loop : tie.InvT-loop
-Inv-loop w₀ d₀ m n b l p₀ x₀ i₀ w d p x i = Pass still m n b w₀ d₀ w d l p x i (pruned m b (view m n w₀ d₀))
+Inv-loop w₀ d₀ m n b l p₀ x₀ i₀ w d p x i = Pass m n b w₀ d₀ w d l p x i (pruned m b (view m n w₀ d₀))
 
 abbrev μ-loop : tie.MeasureT-loop
 μ-loop w₀ d₀ m n b l p₀ x₀ i₀ w d p x i = l - i

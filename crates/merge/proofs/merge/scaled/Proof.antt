@@ -1,4 +1,4 @@
--- `network::merge::scaled` meets its contract. Assumes nothing.
+-- `merge::merge::scaled` meets its contract. Assumes nothing.
 use Rattle.merge.proofs.merge.Bias.{less-fits, times-fits, times-back}
 use lib.IntN.{ℤ}
 use lib.Ieee.{binary32, ofInt}

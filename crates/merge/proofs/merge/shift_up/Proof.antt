@@ -1,4 +1,4 @@
--- `network::merge::shift_up` meets its contract. Assumes nothing.
+-- `merge::merge::shift_up` meets its contract. Assumes nothing.
 use borrow.Author.Tests.{eq-eqb, ne-eqb}
 use lib.Ieee.Fits.{ofInt-fits}
 use lib.Ieee.{binary32, Float, neg, add}

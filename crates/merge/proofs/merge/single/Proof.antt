@@ -1,4 +1,4 @@
--- `network::merge::single` meets its contract. Assumes nothing.
+-- `merge::merge::single` meets its contract. Assumes nothing.
 use lib.Ieee.Compare.{differs-from-itself, nan-differs}
 use lib.Ieee.Fits.{and-i}
 use lib.Ieee.{Float, binary32, div, ofBits, nan, inf, fin, fits, isNan, ne}

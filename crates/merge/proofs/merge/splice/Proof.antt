@@ -1,4 +1,4 @@
--- `network::merge::splice` meets its contract. Assumes nothing.
+-- `merge::merge::splice` meets its contract. Assumes nothing.
 use Rattle.merge.proofs.merge.SpliceDoes.{splice-does}
 use native.Mathlib.Omega.{arith}
 use Prim.Native.Nat.{_-_}

@@ -1,4 +1,4 @@
--- `network::merge::walk_moved` meets its contract. Assumes nothing.
+-- `merge::merge::walk_moved` meets its contract. Assumes nothing.
 use Rattle.merge.proofs.merge.Walks.{Walk, alongMoved, moved-start, moved-turned, moved-end}
 use Rattle.merge.specs.Steps.{movedAll}
 use Rattle.merge.specs.Mem.{view}

@@ -1,4 +1,4 @@
--- `network::merge::walk_raise` meets its contract. Assumes nothing.
+-- `merge::merge::walk_raise` meets its contract. Assumes nothing.
 use Rattle.merge.proofs.merge.Walks.{Raise, raise-start, raise-bounds, raise-low, raise-high, raise-turn, raise-end}
 use Rattle.merge.specs.Steps.{walkRaise}
 use Rattle.merge.specs.Mem.{view}
