@@ -112,6 +112,10 @@ fn limits(s: &Sweep) -> Vec<f64> {
     Sweep { rays: 1, gates: 2, velocities: vec![ends.0, ends.1], mask: vec![1, 1], ..s.clone() }.trace().limits
 }
 
+fn lent(n: usize) -> Lent {
+    Lent { folds: vec![7; n], pair: [7; 2], work: vec![7; 96 * n + 64], floats: vec![7.0; 16 * n + 16] }
+}
+
 /// What the work memory held before a call.
 fn soil(l: &mut Lent) {
     l.work.fill(7);
@@ -149,7 +153,7 @@ fn measure(rays: usize, gates: usize, rough: f64, beside: bool) -> Vec<f64> {
     let s = weather(7, rays, gates, rough);
     let n = rays * gates;
     let limits = limits(&s);
-    let mut l = Lent { folds: vec![7; n], pair: [7; 2], work: vec![7; 96 * n + 64], floats: vec![7.0; 16 * n + 16] };
+    let mut l = lent(n);
     let (mut entry, mut fill, mut stages) = (f64::MAX, f64::MAX, [f64::MAX; 7]);
     let mut ours: Vec<i32> = Vec::new();
     for _ in 0..7 {
@@ -179,9 +183,23 @@ fn cell(x: f64, digits: usize) -> String {
     if x.is_nan() { " – |".into() } else { format!(" {x:.digits$} |") }
 }
 
+/// One call of the entry, for a count of its instructions.
+fn once(words: &[String]) {
+    let number = |i: usize| words[i].parse::<usize>().expect("a number");
+    let (rays, gates) = (number(0), number(1));
+    let s = weather(7, rays, gates, words[2].parse().expect("a roughness"));
+    let mut l = lent(rays * gates);
+    call(&s, &mut l);
+    println!("{} regions, {} merges", l.pair[0], l.pair[1]);
+}
+
 fn main() {
-    let file = std::env::args().nth(1).expect("a file to write the rows to");
-    let all = std::env::args().nth(2).is_some_and(|x| x == "all");
+    let words: Vec<String> = std::env::args().skip(1).collect();
+    if words.first().is_some_and(|x| x == "once") {
+        return once(&words[1..]);
+    }
+    let file = words.first().expect("a file to write the rows to");
+    let all = words.get(1).is_some_and(|x| x == "all");
     println!("| rays × gates | roughness | regions | merges | Rust s | entry s | ratio | without clearing | plain fill s | {} |", STAGES.join(" | "));
     println!("|{}", "---|".repeat(9 + STAGES.len()));
     let mut rows = String::new();
