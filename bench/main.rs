@@ -116,8 +116,8 @@ fn lent(n: usize) -> Lent {
     Lent { folds: vec![7; n], pair: [7; 2], work: vec![7; 96 * n + 64], floats: vec![7.0; 16 * n + 16] }
 }
 
-/// What the work memory held before a call.
-fn soil(l: &mut Lent) {
+/// What was lent held other values before a call.
+fn make_dirty(l: &mut Lent) {
     l.work.fill(7);
     l.floats.fill(7.0);
     l.folds.fill(7);
@@ -157,15 +157,15 @@ fn measure(rays: usize, gates: usize, rough: f64, beside: bool) -> Vec<f64> {
     let (mut entry, mut fill, mut stages) = (f64::MAX, f64::MAX, [f64::MAX; 7]);
     let mut ours: Vec<i32> = Vec::new();
     for _ in 0..7 {
-        soil(&mut l);
+        make_dirty(&mut l);
         entry = entry.min(timed(|| call(&s, &mut l)));
         ours = l.folds.clone();
-        soil(&mut l);
+        make_dirty(&mut l);
         for (least, x) in stages.iter_mut().zip(staged(&s, &limits, &mut l)) {
             *least = least.min(x);
         }
         assert!(l.folds == ours, "{rays} x {gates} at roughness {rough}: the counts of the stages differ");
-        soil(&mut l);
+        make_dirty(&mut l);
         fill = fill.min(timed(|| {
             l.work.fill(0);
             l.floats.fill(0.0);
