@@ -12,8 +12,7 @@ use lib.Ieee.{Float}
 use borrow.Author.Tests.{eqb-true}
 use Rattle.arithmetic.proofs.AllLaws.{and-left, and-right}
 use Rattle.sweep.specs.Sweep.{Sweep, Unfolded, unfolded}
-use Rattle.sweep.specs.Checks.{Question, Lent, Outcome, refused, accepted, gatesIn, inLength, ownLimits, firstNo, asked, asked9, outcome}
-use Rattle.sweep.specs.Call.{Memory, Answer, lengths, clearedFor, ending, call}
+use Rattle.sweep.specs.Checks.{Question, Lent, refused, accepted, gatesIn, inLength, ownLimits, firstNo, asked, asked9, outcome}
 use Rattle.locality.specs.Demand3.{Accepted, Apart, Alike, offset, MergeListsHold, TwoSweepsHold}
 use Rattle.locality.proofs.Echo.{ApartBy}
 use Rattle.locality.proofs.TwoSweeps.{same-counts, same-but-offset}
@@ -110,7 +109,7 @@ two-sweeps E s t c d y y′ a p q = record {
   one = (offset t -ℤ offset s, apart-by-one E s t c d y y′ a p q);
 }
 
--- ---- calls
+-- ---- the numbers of questions
 
 -- a question's number, where all numbers are above 0
 first-number : (qs : List Question) (k : ℕ) → All (λ q. 0 < q .number) qs → firstNo qs ≡ some k → 0 < k
@@ -125,25 +124,3 @@ first-number (q ∷ qs) k t h = go (q .yes) h (first-number qs k (t .1))
 pub asked-number : (s : Sweep) (l : Lent) (k : ℕ) → asked s l ≡ some k → 0 < k
 unfolding asked
 asked-number s l k h = first-number _ k (omega arith, (omega arith, (omega arith, (omega arith, (omega arith, (omega arith, (omega arith, (omega arith, tt)))))))) h
-
--- A call that answers 0 has an accepted sweep, and the counts it leaves are the sweep's.
-pub call-accepts : (s : Sweep) (m : Memory) → call s m .number ≡ 0 → Accepted s (call s m .memory .counts)
-unfolding call ending
-call-accepts s m h = go (asked s (lengths m)) refl h
-  where
-    ends : Option ℕ → Answer
-    ends o = elim o [ none ↦ ending (asked9 (unfolded s (ownLimits s))) (clearedFor (gatesIn s) m) | some k ↦ record { number = k; memory = m } ]
-
-    nine : Bool → Outcome
-    nine b = elim b [ true ↦ accepted (own s .counts) (own s .regions) (length (own s .merges)) | false ↦ refused 9 ]
-
-    eight : Option ℕ → Outcome
-    eight o = elim o [ none ↦ asked9 (unfolded s (ownLimits s)) | some k ↦ refused k ]
-
-    at-nine : asked s (lengths m) ≡ none → (b : Bool) → own s .good ≡ b → ending (nine b) (clearedFor (gatesIn s) m) .number ≡ 0 → Accepted s (ending (nine b) (clearedFor (gatesIn s) m) .memory .counts)
-    at-nine e true w h = record { lent = lengths m; regions = own s .regions; merges = length (own s .merges); yes = unfold outcome asked9 in ap eight e ∙ ap nine w }
-    at-nine e false w h = absurd (omega arith)
-
-    go : (o : Option ℕ) → asked s (lengths m) ≡ o → ends o .number ≡ 0 → Accepted s (ends o .memory .counts)
-    go none e h = unfold asked9 in at-nine e (own s .good) refl h
-    go (some k) e h = absurd (omega (arith, asked-number s (lengths m) k e))

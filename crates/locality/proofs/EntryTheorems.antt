@@ -9,13 +9,13 @@ use lib.ListN.{length, getD}
 use lib.IntN.{ℤ, pos, _+ℤ_, +ℤ-idr}
 use Rattle.network.specs.Network.{replay}
 use Rattle.sweep.specs.Sweep.{Sweep, Unfolded, unfolded}
-use Rattle.sweep.specs.Checks.{Lent, Outcome, accepted, refused, gatesIn, asked, asked9, ownLimits}
+use Rattle.sweep.specs.Checks.{Lent, Outcome, accepted, refused, gatesIn, asked, asked9, outcome, ownLimits}
 use Rattle.sweep.specs.Call.{Memory, Answer, lengths, clearedFor, ending, call}
 use Rattle.sweep.specs.Entry.{answerOf}
 use Rattle.locality.specs.Demand3.{Accepted, Does, first, countAt, uncentred, offset}
-use Rattle.locality.specs.Theorems.{Called, firstMissed, NumberIs, Kept, RefusalKeeps, Written, CountsAre, Cleared, WorkCleared, EchoCounts, ListGives, EchoLists}
+use Rattle.locality.specs.Theorems.{Called, firstMissed, AnswerIs, Kept, RefusalKeeps, Written, CountsAre, Cleared, WorkCleared, EchoCounts, ListGives, EchoLists}
 use Rattle.locality.proofs.GateCounts.{valid-counts, no-offset, same-region}
-use Rattle.locality.proofs.Demand3Laws.{asked-number, call-accepts, merge-lists, two-sweeps}
+use Rattle.locality.proofs.Demand3Laws.{asked-number, merge-lists, two-sweeps}
 
 module _ (s : Sweep) (m : Memory) where
   -- the sweep by its own limits
@@ -57,6 +57,13 @@ module _ (s : Sweep) (m : Memory) where
   written-ends none false w h = absurd (omega arith)
   written-ends (some k) b w h = absurd (Option·none-ne-some k (sym (w h)))
 
+  accepts-ends : (o : Option ℕ) (b : Bool) → (answerOf o ≡ 0 → o ≡ none) → ends o b .number ≡ 0
+      → elim o [ none ↦ nine b | some k ↦ refused k ] ≡ accepted (ends o b .memory .counts) (own .regions) (length (own .merges))
+  unfolding ending
+  accepts-ends none true w h = refl
+  accepts-ends none false w h = absurd (omega arith)
+  accepts-ends (some k) b w h = absurd (Option·none-ne-some k (sym (w h)))
+
   cleared-ends : (b : Bool) → (past b .memory .words ≡ clearedFor (gatesIn s) m .words) × (past b .memory .floats ≡ clearedFor (gatesIn s) m .floats)
   unfolding ending
   cleared-ends true = (refl, refl)
@@ -70,9 +77,9 @@ zero-asked s l h = go (asked s l) refl h
     go none e h = refl
     go (some k) e h = absurd (omega (arith, asked-number s l k e))
 
-pub number-is : NumberIs
+pub answer-is : AnswerIs
 unfolding firstMissed
-number-is s m a c = ap (λ (x : Answer). x .number) (c ∙ call-ends s m) ∙ number-ends s m (asked s (lengths m)) (own s m .good)
+answer-is s m a c = ap (λ (x : Answer). x .number) (c ∙ call-ends s m) ∙ number-ends s m (asked s (lengths m)) (own s m .good)
 
 pub refusal-keeps : RefusalKeeps
 refusal-keeps s m a c h =
@@ -96,18 +103,28 @@ work-cleared s m a c h =
     let k = cleared-ends s m (own s m .good) in
     record { words = ap (λ (x : Answer). x .memory .words) e ∙ k .0; floats = ap (λ (x : Answer). x .memory .floats) e ∙ k .1 }
 
--- a call that answers 0 has an accepted sweep
-accepts : (s : Sweep) (m : Memory) (a : Answer) → Called s m a → a .number ≡ 0 → Accepted s (a .memory .counts)
-accepts s m a c h = rw c (call-accepts s m (rw (← c) h))
+-- a call that answers 0 has an accepted sweep, and the counts it leaves are the sweep's
+pub call-accepts : (s : Sweep) (m : Memory) (a : Answer) → Called s m a → a .number ≡ 0 → Accepted s (a .memory .counts)
+unfolding outcome asked9
+call-accepts s m a c h =
+    let e = c ∙ call-ends s m in
+    record {
+      lent = lengths m;
+      regions = own s m .regions;
+      merges = length (own s m .merges);
+      yes =
+          accepts-ends s m (asked s (lengths m)) (own s m .good) (λ w. zero-asked s (lengths m) w) (sym (ap (λ (x : Answer). x .number) e) ∙ h)
+          ∙ ap (λ (x : Answer). accepted (x .memory .counts) (own s m .regions) (length (own s m .merges))) (sym e);
+    }
 
 pub echo-counts : EchoCounts
-echo-counts E s t m n a b c d y z alike p q = two-sweeps E s t (a .memory .counts) (b .memory .counts) (accepts s m a c y) (accepts t n b d z) alike p q
+echo-counts E s t m n a b c d y z alike p q = two-sweeps E s t (a .memory .counts) (b .memory .counts) (call-accepts s m a c y) (call-accepts t n b d z) alike p q
 
 pub echo-lists : EchoLists
 echo-lists E s m a c y p l is = record { does = d; counts = at-gate }
   where
     d : Does s (ownLimits s) l
-    d = merge-lists E s (a .memory .counts) (accepts s m a c y) p l is
+    d = merge-lists E s (a .memory .counts) (call-accepts s m a c y) p l is
 
     at-gate : (g : ℕ) → getD (s .mask) g 0 ≡ 1 → getD (a .memory .counts) g (pos 0) +ℤ offset s ≡ countAt s (ownLimits s) (replay (first s (ownLimits s)) l) g
     at-gate g h =

@@ -102,9 +102,9 @@ pub record Agrees (p q : ℕ → Bool) (s : State) (l : List ℕ) : Type 0 where
   pub same-state : replay s l ≡ replay s (merges s)
   pub none-live : choose (replay s l .edges) ≡ none
 
-pub merge-lists : (p q : ℕ → Bool) (s : State) → Closed p q s → (l : List ℕ) → SameSides p q l (merges s) → Agrees p q s l
+pub lists-agree : (p q : ℕ → Bool) (s : State) → Closed p q s → (l : List ℕ) → SameSides p q l (merges s) → Agrees p q s l
 unfolding merges eventIn other
-merge-lists p q s c l h =
+lists-agree p q s c l h =
     let m : List ℕ = merges s in
     let ev : keep (eventIn p q) (trace s l) ≡ keep (eventIn p q) (trace s m) = trace-same p q l m (h .this-side) s c in
     let ev′ : keep (eventIn (other p) (other q)) (trace s l) ≡ keep (eventIn (other p) (other q)) (trace s m) = trace-same (other p) (other q) l m (h .other-side) s (closed-other p q s c) in

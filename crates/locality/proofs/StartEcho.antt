@@ -15,7 +15,7 @@ use Rattle.network.specs.Network.{Region, merges, edgeOf, numbered, alone, star
 use Rattle.network.proofs.Restrict.{edgeIn, regionIn, restrict, OkE, OkR, Closed}
 use Rattle.locality.proofs.Rename.{renE, renR, renS}
 use Rattle.locality.proofs.Embed.{Embedding}
-use Rattle.locality.proofs.Locality.{SameSides, Agrees, merge-lists}
+use Rattle.locality.proofs.Locality.{SameSides, Agrees, lists-agree}
 use Rattle.network.proofs.EdgesEcho.{recordIn, renQ}
 
 -- whether edge i lies on the side: both labels of its record do
@@ -51,7 +51,7 @@ module _ (p : ℕ → Bool) (w : Float) where
 
   -- Merge lists: every one does what the run does
   pub every-merge-list : (rs : List EdgeRecord) (ns : List ℕ) → Unjoined p rs → (l : List ℕ) → SameSides p (edgeSide p rs) l (merges (start w rs ns)) → Agrees p (edgeSide p rs) (start w rs ns) l
-  every-merge-list rs ns t l h = merge-lists p (edgeSide p rs) (start w rs ns) (closed-start rs ns t) l h
+  every-merge-list rs ns t l h = lists-agree p (edgeSide p rs) (start w rs ns) (closed-start rs ns t) l h
 
 -- ---- the echo's network in the sweep's
 

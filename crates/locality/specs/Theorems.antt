@@ -22,9 +22,9 @@ Called s m a = a ≡ call s m
 unfoldable pub firstMissed : Sweep → Lent → Option ℕ
 firstMissed s l = elim (asked s l) [ none ↦ elim (unfolded s (ownLimits s) .good) [ true ↦ none | false ↦ some 9 ] | some k ↦ some k ]
 
--- `number-is`: the answer is the number of the first question that gets a no, and 0 where none does
-abbrev pub NumberIs : Type 0
-NumberIs = (s : Sweep) (m : Memory) (a : Answer) → Called s m a → a .number ≡ answerOf (firstMissed s (lengths m))
+-- `answer-is`: the answer is the number of the first question that gets a no, and 0 where none does
+abbrev pub AnswerIs : Type 0
+AnswerIs = (s : Sweep) (m : Memory) (a : Answer) → Called s m a → a .number ≡ answerOf (firstMissed s (lengths m))
 
 -- `refusal-keeps`: a refusal leaves counts and pair as they were, and one by questions 1 to 8 leaves all memory so
 pub record Kept (s : Sweep) (m : Memory) (a : Answer) : Type 0 where

@@ -99,7 +99,7 @@ movedEdge m b v g s f =
     (cond (eqb (getD (s .first) f 0) v) (joinEdge m b s f (getD (s .second) f 0) (shift false g (getD (s .weight) f 0) (getD (s .diff) f nan)))
     (cond (eqb (getD (s .second) f 0) v) (joinEdge m b s f (getD (s .first) f 0) (neg (shift true g (getD (s .weight) f 0) (getD (s .diff) f nan)))) s))
 
--- the same, stored as it stands before
+-- the same of any slot's edge number: edge f is first stored as it stands; m and above are headers
 unfoldable pub takeEdge : ℕ → ℕ → ℕ → ℕ → Mem → ℕ → Mem
 takeEdge m b v g s f = cond (ltb f m) (movedEdge m b v g (faceAt s f) f) s
 

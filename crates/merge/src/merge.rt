@@ -1,5 +1,5 @@
-// One merge of the network, over lent words and lent differences. specs/Layout.antt says where each table lies, specs/Steps.antt what each
-// function does to the tables.
+// One merge of the network, over lent words and lent differences. Layout, of the crate memory, says where each table lies, specs/Steps.antt
+// what each function does to the tables.
 ghost use mathlib.Core.Path.{_≡_};
 ghost use mathlib.Core.Bool.{Bool};
 ghost use Prim.Native.Nat.{_+_, _*_, _-_, _/_, _≤_, _<_};
@@ -277,7 +277,7 @@ fn moved_edge(w: &mut [u32], d: &mut [f64], m: usize, n: usize, b: u32, v: u32, 
     }
 }
 
-// The same, stored as it stands before.
+// The same of any slot's edge number: edge f is first stored as it stands; m and above are headers, and nothing is done.
 fn take_edge(w: &mut [u32], d: &mut [f64], m: usize, n: usize, b: u32, v: u32, g: u32, f: usize)
     requires { ⌜ Room m n (now w) (now d) ⌝ }
     requires { ⌜ Sound m n (view m n (now w) (now d)) ⌝ }

@@ -1,4 +1,4 @@
-// From labels to the counts of all regions: edges, sizes and all merges, over one layout of the work memory (specs/Layout.antt).
+// From labels to the counts of all regions: edges, sizes and all merges, over the layout of the work memory (Layout, of the crate memory).
 ghost use Rattle.arithmetic.specs.Seg.{seg};
 ghost use Rattle.edges.specs.Sees.{shape};
 ghost use Rattle.network.specs.Reduce.{networkBy, Reduces, Reduced};

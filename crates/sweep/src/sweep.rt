@@ -1,4 +1,4 @@
-// sweep.rs: the sums of centring, the offset, and the counts of all gates.
+// sweep.rs: a sweep from its limits to its counts: labels, merges, the offset of centring, the counts of all gates, and work memory cleared.
 ghost use mathlib.Core.Path.{_≡_};
 ghost use Prim.Native.Nat.{ℕ, _+_, _*_, _≤_, _<_, _^_};
 ghost use lib.IntN.{ℤ, pos, natAbs, subℕ};
