@@ -1,3 +1,4 @@
+pub mod TableLaws
 pub mod View
 pub mod Bias
 pub mod Leaf

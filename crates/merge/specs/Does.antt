@@ -7,6 +7,7 @@ use Prim.Native.Nat.{ℕ, _+_, _*_, _≤_, _<_, _^_}
 use lib.ListN.{getD}
 use Rattle.memory.specs.Tree.{Tree}
 use Rattle.merge.specs.Mem.{Mem, view}
+use Rattle.merge.specs.Table.{size, elen, rlen}
 use Rattle.merge.specs.Steps.{mate}
 use lib.Ieee.{Float}
 
@@ -30,7 +31,7 @@ pub record Slots (m n b p x : ℕ) (s : Mem) : Type 0 where
   pub b-in : b < n
   pub p-in : p < 2 * m + n
   pub x-in : x < 2 * m + n
-  pub some : 1 ≤ getD (s .elen) b 0
+  pub some : 1 ≤ getD (s .at elen) b 0
 
 -- two edges
 pub record Apart (m q f : ℕ) : Type 0 where
@@ -56,6 +57,6 @@ pub record Gains (n b v g : ℕ) : Type 0 where
 pub record Fit (n b v : ℕ) (s : Mem) : Type 0 where
   pub b-in : b < n
   pub v-in : v < n
-  pub sizes : getD (s .size) b 0 + getD (s .size) v 0 < 2 ^ 32
-  pub elens : getD (s .elen) b 0 + getD (s .elen) v 0 < 2 ^ 32
-  pub rlens : getD (s .rlen) b 0 + getD (s .rlen) v 0 < 2 ^ 32
+  pub sizes : getD (s .at size) b 0 + getD (s .at size) v 0 < 2 ^ 32
+  pub elens : getD (s .at elen) b 0 + getD (s .at elen) v 0 < 2 ^ 32
+  pub rlens : getD (s .at rlen) b 0 + getD (s .at rlen) v 0 < 2 ^ 32

@@ -1,3 +1,4 @@
+pub mod Table
 pub mod Mem
 pub mod Steps
 pub mod Does

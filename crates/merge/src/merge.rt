@@ -7,7 +7,8 @@ ghost use lib.Dec.{T};
 ghost use lib.Ieee.{binary32, fits, add};
 ghost use Rattle.arithmetic.specs.Rounding.{scale};
 ghost use lib.ListN.{getD};
-ghost use Rattle.merge.specs.Mem.{Mem, view, Room, Sound, stamp-set};
+ghost use Rattle.merge.specs.Mem.{Mem, view, Room, Sound, store};
+ghost use Rattle.merge.specs.Table.{stamp, rlen};
 ghost use Rattle.merge.specs.Steps.{unbias, spent, passed, kept, dropAt, pruned, faceAt, joinsAt, seekAll, mate, absorbAt, attachAt, joinEdge, shift, movedEdge, takeEdge, movedAll, walkRaise, splice, grow, handed, merged};
 ghost use Rattle.merge.specs.Does.{Does, Raised, Passes, Slots, Apart, Joins, Gains, Fit};
 
@@ -314,7 +315,7 @@ fn walk_raise(w: &mut [u32], d: &mut [f64], m: usize, n: usize, v: u32, g: u32) 
     requires { ⌜ Room m n (now w) (now d) ⌝ }
     requires { ⌜ Sound m n (view m n (now w) (now d)) ⌝ }
     requires { ⌜ (v < n) × (g ≤ 2000) ⌝ }
-    ensures { λ r. ⌜ Raised m n (now (w .exit)) (now (d .exit)) (walkRaise (getD (view m n (now (w .entry)) (now (d .entry)) .rlen) v 0) g (view m n (now (w .entry)) (now (d .entry))) v) r ⌝ }
+    ensures { λ r. ⌜ Raised m n (now (w .exit)) (now (d .exit)) (walkRaise (getD (view m n (now (w .entry)) (now (d .entry)) .at rlen) v 0) g (view m n (now (w .entry)) (now (d .entry))) v) r ⌝ }
 {
     let l = w[7 * m + 5 * n + v as usize];
     let mut x = v;
@@ -368,7 +369,7 @@ fn grow(w: &mut [u32], d: &mut [f64], m: usize, n: usize, b: u32, v: u32)
 fn stamp(w: &mut [u32], d: &mut [f64], m: usize, n: usize, b: u32, k: u32)
     requires { ⌜ Room m n (now w) (now d) ⌝ }
     requires { ⌜ b < n ⌝ }
-    ensures { λ _. ⌜ Does m n (now (w .exit)) (now (d .exit)) (stamp-set (view m n (now (w .entry)) (now (d .entry))) b k) ⌝ }
+    ensures { λ _. ⌜ Does m n (now (w .exit)) (now (d .exit)) (store stamp (view m n (now (w .entry)) (now (d .entry))) b k) ⌝ }
 {
     w[7 * m + 2 * n + b as usize] = k;
 }

@@ -7,7 +7,8 @@ use lib.IntN.{pos}
 use lib.Ieee.{nan, binary32, fits, Float}
 use lib.ListN.{length, getD}
 use Rattle.network.specs.Network.{Region, State, gatesOf}
-use Rattle.merge.specs.Mem.{Mem, view, Room, total, enext-set, rnext-set, stamp-set, elen-set, rlen-set, count-set}
+use Rattle.merge.specs.Mem.{Mem, view, Room, total, store}
+use Rattle.merge.specs.Table.{weight, first, second, enext, rnext, stamp, size, elen, rlen, count}
 use Rattle.memory.specs.Layout.{tableWords}
 use Rattle.network.specs.Net.{rows, edgeOf}
 use Rattle.network.specs.Rep.{Rep}
@@ -19,19 +20,20 @@ use Rattle.network.specs.Simple.{Simple}
 -- each slot a circle of its own
 unfoldable pub slotsFrom : ℕ → Mem → ℕ → Mem
 slotsFrom zero s i = s
-slotsFrom (suc k) s i = slotsFrom k (enext-set s i i) (i + 1)
+slotsFrom (suc k) s i = slotsFrom k (store enext s i i) (i + 1)
 
 -- each region a circle of its own, with count 0, that was never a base
 unfoldable pub regionsFrom : ℕ → Mem → ℕ → Mem
 regionsFrom zero s x = s
-regionsFrom (suc k) s x = regionsFrom k (stamp-set (count-set (elen-set (rlen-set (rnext-set s x x) x 1) x 1) x 1000) x 0) (x + 1)
+regionsFrom (suc k) s x = regionsFrom k (store stamp (store count (store elen (store rlen (store rnext s x x) x 1) x 1) x 1000) x 0) (x + 1)
 
 -- slot i into the circle of node a
 unfoldable pub linkAt : ℕ → ℕ → ℕ → Mem → Mem
-linkAt m a i s = elen-set (enext-set (enext-set s (2 * m + a) (getD (s .enext) i 0)) i (getD (s .enext) (2 * m + a) 0)) a (getD (s .elen) a 0 + 1)
+linkAt m a i s =
+    store elen (store enext (store enext s (2 * m + a) (getD (s .at enext) i 0)) i (getD (s .at enext) (2 * m + a) 0)) a (getD (s .at elen) a 0 + 1)
 
 unfoldable pub linkEdge : ℕ → Mem → ℕ → Mem
-linkEdge m s j = linkAt m (getD (s .second) j 0) (2 * j + 1) (linkAt m (getD (s .first) j 0) (2 * j) s)
+linkEdge m s j = linkAt m (getD (s .at second) j 0) (2 * j + 1) (linkAt m (getD (s .at first) j 0) (2 * j) s)
 
 unfoldable pub linkFrom : ℕ → ℕ → Mem → ℕ → Mem
 linkFrom zero m s j = s
@@ -42,7 +44,7 @@ begun m n s = linkFrom m m (regionsFrom n (slotsFrom (2 * m + n) s 0) 0) 0
 
 -- the network of a table of edges and a table of sizes
 unfoldable pub rawRegion : Mem → ℕ → Region
-rawRegion s r = record { label = r; size = getD (s .size) r 0; node = r; count = pos 0 }
+rawRegion s r = record { label = r; size = getD (s .at size) r 0; node = r; count = pos 0 }
 
 unfoldable pub rawNet : ℕ → ℕ → Mem → State
 rawNet m n s = record { edges = rows (edgeOf s) 0 m; regions = rows (rawRegion s) 0 n }
@@ -55,10 +57,10 @@ pub record Space (m n : ℕ) (w : List ℕ) (d : List Float) : Type 0 where
 
 -- what is asked of the edges and sizes
 pub record Raw (m n : ℕ) (s : Mem) : Type 0 where
-  pub first-in : (j : ℕ) → j < m → getD (s .first) j 0 < n
-  pub second-in : (j : ℕ) → j < m → getD (s .second) j 0 < n
+  pub first-in : (j : ℕ) → j < m → getD (s .at first) j 0 < n
+  pub second-in : (j : ℕ) → j < m → getD (s .at second) j 0 < n
   pub single : (j : ℕ) → j < m → T (fits binary32 (getD (s .diff) j nan))
-  pub light : total (s .weight) < 2 ^ 32
+  pub light : total (s .at weight) < 2 ^ 32
   pub gates : gatesOf (rows (rawRegion s) 0 n) < 2 ^ 32
   pub simple : Simple (rows (edgeOf s) 0 m)
 
@@ -71,9 +73,9 @@ pub record Begun (m n : ℕ) (s : Mem) (w : List ℕ) (d : List Float) : Type 0 
 
 -- what linking asks: ends in range, and lengths that have grown by no more than two an edge
 pub record Linkable (m n j : ℕ) (s : Mem) : Type 0 where
-  pub first-in : (i : ℕ) → i < m → getD (s .first) i 0 < n
-  pub second-in : (i : ℕ) → i < m → getD (s .second) i 0 < n
-  pub lengths : (a : ℕ) → a < n → getD (s .elen) a 0 ≤ 1 + 2 * j
+  pub first-in : (i : ℕ) → i < m → getD (s .at first) i 0 < n
+  pub second-in : (i : ℕ) → i < m → getD (s .at second) i 0 < n
+  pub lengths : (a : ℕ) → a < n → getD (s .at elen) a 0 ≤ 1 + 2 * j
 
 -- what all merges come to, from the tables of edges and sizes
 unfoldable pub AllIs : ℕ → ℕ → Mem → List ℕ → List Float → Ran → Type 0

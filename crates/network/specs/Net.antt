@@ -8,6 +8,7 @@ use lib.Ieee.{nan}
 use lib.ListN.{getD}
 use Rattle.network.specs.Network.{Edge, Region, State, turnIf}
 use Rattle.merge.specs.Mem.{Mem}
+use Rattle.merge.specs.Table.{weight, first, second, count}
 use Rattle.merge.specs.Steps.{unbias, turned}
 
 -- f k, f (k + 1), .. of n numbers
@@ -19,10 +20,10 @@ rows f k (suc n) = f k ∷ rows f (suc k) n
 unfoldable pub edgeOf : Mem → ℕ → Edge
 edgeOf s j = record {
   num = j;
-  live = not (eqb (getD (s .weight) j 0) 0);
-  first = getD (s .first) j 0;
-  second = getD (s .second) j 0;
-  weight = getD (s .weight) j 0;
+  live = not (eqb (getD (s .at weight) j 0) 0);
+  first = getD (s .at first) j 0;
+  second = getD (s .at second) j 0;
+  weight = getD (s .at weight) j 0;
   diff = getD (s .diff) j nan;
 }
 
@@ -32,7 +33,7 @@ edgeNow s j = turnIf (turned s j) (edgeOf s j)
 
 -- region r, of a size and a node that no table holds
 unfoldable pub regionOf : (ℕ → ℕ) → (ℕ → ℕ) → Mem → ℕ → Region
-regionOf gates node s r = record { label = r; size = gates r; node = node r; count = unbias (getD (s .count) r 0) }
+regionOf gates node s r = record { label = r; size = gates r; node = node r; count = unbias (getD (s .at count) r 0) }
 
 unfoldable pub stateOf : ℕ → ℕ → (ℕ → ℕ) → (ℕ → ℕ) → Mem → State
 stateOf m n gates node s = record { edges = rows (edgeOf s) 0 m; regions = rows (regionOf gates node s) 0 n }

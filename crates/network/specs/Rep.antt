@@ -6,6 +6,7 @@ use Prim.Native.Nat.{ℕ, _+_, _*_, _≤_, _<_, _^_}
 use lib.ListN.{getD}
 use Rattle.network.specs.Network.{Edge, State, sizeOf, gatesOf}
 use Rattle.merge.specs.Mem.{Mem, Sound}
+use Rattle.merge.specs.Table.{enext, rnext, stamp, size, elen, rlen}
 use Rattle.network.specs.Net.{rows, edgeNow, regionOf, Like}
 use Rattle.merge.specs.Chain.{Chains}
 use Rattle.network.specs.Simple.{Simple}
@@ -19,9 +20,9 @@ Ends m eown j e =
 -- the chains of slots: each node's are led by its header, and a live edge has a slot in the chain of each end;
 -- a slot that was dropped is a circle of its own
 pub record Circled (m n : ℕ) (node : ℕ → ℕ) (E : ℕ → Edge) (s : Mem) (eown epos elens : ℕ → ℕ) : Type 0 where
-  pub echains : Chains (s .enext) (2 * m + n) eown epos elens
+  pub echains : Chains (s .at enext) (2 * m + n) eown epos elens
   pub header : (x : ℕ) → x < n → node x ≡ x → eown (2 * m + x) ≡ 2 * m + x
-  pub lengths : (x : ℕ) → x < n → node x ≡ x → elens (2 * m + x) ≡ getD (s .elen) x 0
+  pub lengths : (x : ℕ) → x < n → node x ≡ x → elens (2 * m + x) ≡ getD (s .at elen) x 0
   pub ends : (j : ℕ) → j < m → E j .live ≡ true → Ends m eown j (E j)
 
 -- m edges, n regions, k merges done
@@ -43,11 +44,11 @@ pub record Rep (m n : ℕ) (gates : ℕ → ℕ) (k : ℕ) (s : Mem) (t : State)
   pub sound : Sound m n s
   pub small : 2 * m + n < 2 ^ 32
   pub like : (j : ℕ) → j < m → Like (edgeNow s j) (E j)
-  pub sizes : (x : ℕ) → x < n → node x ≡ x → getD (s .size) x 0 ≡ sizeOf (rows (regionOf gates node s) 0 n) x
+  pub sizes : (x : ℕ) → x < n → node x ≡ x → getD (s .at size) x 0 ≡ sizeOf (rows (regionOf gates node s) 0 n) x
   -- the chains
-  pub rchains : Chains (s .rnext) n node rpos (λ x. getD (s .rlen) x 0)
+  pub rchains : Chains (s .at rnext) n node rpos (λ x. getD (s .at rlen) x 0)
   pub circled : Circled m n node E s eown epos elens
   -- a live edge's ends lead their regions
   pub leading : (j : ℕ) → j < m → E j .live ≡ true → (node (E j .first) ≡ E j .first) × (node (E j .second) ≡ E j .second)
   -- no node was a base in a merge that is yet to come
-  pub stamps : (x : ℕ) → getD (s .stamp) x 0 ≤ k
+  pub stamps : (x : ℕ) → getD (s .at stamp) x 0 ≤ k

@@ -13,6 +13,7 @@ use Rattle.network.specs.declared.network.Turned.the-variants.{Merged, E
 use Rattle.network.specs.declared.network.Ran.{Ran}
 use Rattle.network.specs.declared.network.Ran.the-variants.{Settled, Denied}
 use Rattle.merge.specs.Mem.{Mem, view}
+use Rattle.merge.specs.Table.{weight, size, count}
 use Rattle.merge.specs.Steps.{numberOf}
 use Rattle.network.specs.Net.{rows, edgeNow, regionOf, stateOf}
 use Rattle.network.specs.Settle.{Done}
@@ -31,10 +32,10 @@ TurnIs m n gates k t w d Refused = (e : Edge) × (choose (t .edges) ≡ some e) 
 -- edge e is live and stands from p to q, and g is its number as a word
 pub record Chosen (m : ℕ) (s : Mem) (e p q g : ℕ) : Type 0 where
   pub e-in : e < m
-  pub live : getD (s .weight) e 0 ≡ 0 → ⊥
+  pub live : getD (s .at weight) e 0 ≡ 0 → ⊥
   pub first : p ≡ edgeNow s e .first
   pub second : q ≡ edgeNow s e .second
-  pub number : g ≡ numberOf (quot (edgeNow s e .diff) (getD (s .weight) e 0))
+  pub number : g ≡ numberOf (quot (edgeNow s e .diff) (getD (s .at weight) e 0))
   pub most : g ≤ 2000
 
 -- the merge of edge e from the network t
@@ -52,7 +53,7 @@ AnyTurn m n k s w d r = (gates : ℕ → ℕ) (t : State) → Rep m n gates k s 
 
 -- the tables of a network before its first merge: each region a node of its own, its gates in the table of sizes
 unfoldable pub gatesIn : Mem → ℕ → ℕ
-gatesIn s r = getD (s .size) r 0
+gatesIn s r = getD (s .at size) r 0
 
 unfoldable pub firstOf : ℕ → ℕ → Mem → State
 firstOf m n s = stateOf m n (gatesIn s) (λ r. r) s
@@ -60,4 +61,4 @@ firstOf m n s = stateOf m n (gatesIn s) (λ r. r) s
 -- the whole run: the number of merges, and the counts in their table; or a refusal
 unfoldable pub RanIs : ℕ → ℕ → (ℕ → ℕ) → Option Done → List ℕ → List Float → Ran → Type 0
 RanIs m n gates none w d r = r ≡ Denied
-RanIs m n gates (some o) w d r = (r ≡ Settled (o .merges)) × (node : ℕ → ℕ) × (o .last .regions ≡ rows (regionOf gates node (view m n w d)) 0 n) × ((j : ℕ) → j < n → getD (view m n w d .count) j 0 ≤ 2000)
+RanIs m n gates (some o) w d r = (r ≡ Settled (o .merges)) × (node : ℕ → ℕ) × (o .last .regions ≡ rows (regionOf gates node (view m n w d)) 0 n) × ((j : ℕ) → j < n → getD (view m n w d .at count) j 0 ≤ 2000)

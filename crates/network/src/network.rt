@@ -6,6 +6,7 @@ ghost use Rattle.network.specs.Network.{whole};
 ghost use Rattle.network.specs.Popped.{Pops, AnyPop};
 ghost use lib.ListN.{getD};
 ghost use Rattle.merge.specs.Mem.{view, Room, Sound};
+ghost use Rattle.merge.specs.Table.{elen};
 ghost use Rattle.merge.specs.Steps.{numberOf};
 ghost use Rattle.network.specs.Rep.{Rep};
 ghost use Rattle.network.specs.Settle.{settle};
@@ -204,7 +205,7 @@ fn fill_regions(w: &mut [u32], d: &mut [f64], m: usize, n: usize)
 fn link(w: &mut [u32], d: &mut [f64], m: usize, n: usize, a: u32, i: usize)
     requires { ⌜ Room m n (now w) (now d) ⌝ }
     requires { ⌜ (a < n) × (i < 2 * m) ⌝ }
-    requires { ⌜ getD (view m n (now w) (now d) .elen) a 0 + 1 < 2 ^ 32 ⌝ }
+    requires { ⌜ getD (view m n (now w) (now d) .at elen) a 0 + 1 < 2 ^ 32 ⌝ }
     ensures { λ _. ⌜ Does m n (now (w .exit)) (now (d .exit)) (linkAt m a i (view m n (now (w .entry)) (now (d .entry)))) ⌝ }
 {
     let h = w[5 * m + (2 * m + a as usize)];

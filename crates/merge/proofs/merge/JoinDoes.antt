@@ -8,9 +8,10 @@ use lib.Ieee.{nan, binary32, fits, Float, neg}
 use lib.ListN.{length, getD}
 use borrow.Author.Tests.{lt-ltb, le-ltb, eq-eqb, ne-eqb}
 use Rattle.merge.specs.Mem.{Mem, view, Room, Sound}
+use Rattle.merge.specs.Table.{weight, first, second}
 use Rattle.merge.specs.Steps.{faceAt, mate, absorbAt, attachAt, joinEdge, shift, movedEdge, takeEdge}
 use Rattle.merge.specs.Does.{Does, Apart, Joins, Gains}
-use Rattle.merge.proofs.merge.View.{weight-at, first-at, second-at}
+use Rattle.merge.proofs.merge.View.{weight-at, read}
 use Rattle.merge.proofs.merge.SoundSteps.{sound-face, joins-first, joins-second}
 use Rattle.merge.proofs.merge.Leaf.{room-of}
 
@@ -47,11 +48,11 @@ module _ (m n : ℕ) (w : List ℕ) (d : List Float) (r : Room m n w d) (b v g f
   module _ (lt : f < m) where
     pub moved-dead : getD w f 0 ≡ 0 → Does m n w d (movedEdge m b v g (view m n w d) f)
     unfolding movedEdge
-    moved-dead e = record { tables = rw (eq-eqb (getD (view m n w d .weight) f 0) 0 (weight-at m n w d f lt ∙ e)) refl; tree = r .tree }
+    moved-dead e = record { tables = rw (eq-eqb (getD (view m n w d .at weight) f 0) 0 (weight-at m n w d f lt ∙ e)) refl; tree = r .tree }
 
     module _ (live : getD w f 0 ≡ 0 → ⊥) where
-      alive : eqb (getD (view m n w d .weight) f 0) 0 ≡ false
-      alive = ne-eqb (getD (view m n w d .weight) f 0) 0 (λ e. live (sym (weight-at m n w d f lt) ∙ e))
+      alive : eqb (getD (view m n w d .at weight) f 0) 0 ≡ false
+      alive = ne-eqb (getD (view m n w d .at weight) f 0) 0 (λ e. live (sym (weight-at m n w d f lt) ∙ e))
 
       module _ (w' : List ℕ) (d' : List Float) (x : Float) where
         diff-is : getD (view m n w d .diff) f nan ≡ getD d f nan
@@ -60,28 +61,28 @@ module _ (m n : ℕ) (w : List ℕ) (d : List Float) (r : Room m n w d) (b v g f
         pub moved-first : getD w (3 * m + f) 0 ≡ v → x ≡ shift false g (getD w f 0) (getD d f nan)
             → Does m n w' d' (joinEdge m b (view m n w d) f (getD w (4 * m + f) 0) x) → Does m n w' d' (movedEdge m b v g (view m n w d) f)
         unfolding movedEdge
-        moved-first e u h = rw (alive, eq-eqb (getD (view m n w d .first) f 0) v (first-at m n w d f lt ∙ e), second-at m n w d f lt, weight-at m n w d f lt, diff-is, ← u) h
+        moved-first e u h = rw (alive, eq-eqb (getD (view m n w d .at first) f 0) v (read first m n w d f lt ∙ e), read second m n w d f lt, weight-at m n w d f lt, diff-is, ← u) h
 
         pub moved-second : (getD w (3 * m + f) 0 ≡ v → ⊥) → getD w (4 * m + f) 0 ≡ v → x ≡ neg (shift true g (getD w f 0) (getD d f nan))
             → Does m n w' d' (joinEdge m b (view m n w d) f (getD w (3 * m + f) 0) x) → Does m n w' d' (movedEdge m b v g (view m n w d) f)
         unfolding movedEdge
         moved-second ne e u h =
-            let far : eqb (getD (view m n w d .first) f 0) v ≡ false = ne-eqb (getD (view m n w d .first) f 0) v (λ q. ne (sym (first-at m n w d f lt) ∙ q)) in
-            rw (alive, far, eq-eqb (getD (view m n w d .second) f 0) v (second-at m n w d f lt ∙ e), first-at m n w d f lt, weight-at m n w d f lt, diff-is, ← u) h
+            let far : eqb (getD (view m n w d .at first) f 0) v ≡ false = ne-eqb (getD (view m n w d .at first) f 0) v (λ q. ne (sym (read first m n w d f lt) ∙ q)) in
+            rw (alive, far, eq-eqb (getD (view m n w d .at second) f 0) v (read second m n w d f lt ∙ e), read first m n w d f lt, weight-at m n w d f lt, diff-is, ← u) h
 
       pub moved-far : (getD w (3 * m + f) 0 ≡ v → ⊥) → (getD w (4 * m + f) 0 ≡ v → ⊥) → Does m n w d (movedEdge m b v g (view m n w d) f)
       unfolding movedEdge
       moved-far ne ne' =
-          let far : eqb (getD (view m n w d .first) f 0) v ≡ false = ne-eqb (getD (view m n w d .first) f 0) v (λ q. ne (sym (first-at m n w d f lt) ∙ q)) in
-          let far' : eqb (getD (view m n w d .second) f 0) v ≡ false = ne-eqb (getD (view m n w d .second) f 0) v (λ q. ne' (sym (second-at m n w d f lt) ∙ q)) in
+          let far : eqb (getD (view m n w d .at first) f 0) v ≡ false = ne-eqb (getD (view m n w d .at first) f 0) v (λ q. ne (sym (read first m n w d f lt) ∙ q)) in
+          let far' : eqb (getD (view m n w d .at second) f 0) v ≡ false = ne-eqb (getD (view m n w d .at second) f 0) v (λ q. ne' (sym (read second m n w d f lt) ∙ q)) in
           record { tables = rw (alive, far, far') refl; tree = r .tree }
 
     -- what `join_edge` asks
     pub moved-joins : Sound m n (view m n w d) → Gains n b v g → getD w (3 * m + f) 0 ≡ v → Joins m n b (view m n w d) f (getD w (4 * m + f) 0)
-    moved-joins h k e = rw (second-at m n w d f lt) at (joins-first m n b v g (view m n w d) f h k lt (first-at m n w d f lt ∙ e))
+    moved-joins h k e = rw (read second m n w d f lt) at (joins-first m n b v g (view m n w d) f h k lt (read first m n w d f lt ∙ e))
 
     pub moved-joins-second : Sound m n (view m n w d) → Gains n b v g → (getD w (3 * m + f) 0 ≡ v → ⊥) → getD w (4 * m + f) 0 ≡ v → Joins m n b (view m n w d) f (getD w (3 * m + f) 0)
-    moved-joins-second h k ne e = rw (first-at m n w d f lt) at (joins-second m n b v g (view m n w d) f h k lt (λ q. ne (sym (first-at m n w d f lt) ∙ q)) (second-at m n w d f lt ∙ e))
+    moved-joins-second h k ne e = rw (read first m n w d f lt) at (joins-second m n b v g (view m n w d) f h k lt (λ q. ne (sym (read first m n w d f lt) ∙ q)) (read second m n w d f lt ∙ e))
 
     pub moved-single : Sound m n (view m n w d) → T (fits binary32 (getD d f nan))
     unfolding view

@@ -11,26 +11,28 @@ use borrow.Author.Tests.{lt-ltb, le-ltb, eq-eqb, ne-eqb}
 use lib.Ieee.{nan, Float, neg, binary32, add}
 use Rattle.memory.specs.Tree.{Tree, Weighed}
 use Rattle.memory.proofs.tree.TreeLaws.{tree-set}
-use Rattle.merge.specs.Mem.{Mem, view, Room, Sound, total, weight-set, first-set, second-set, stamp-set, diff-set}
+use Rattle.memory.specs.Layout.{tableWords}
+use Rattle.merge.specs.Mem.{Mem, view, Room, Sound, total, store, diff-set}
+use Rattle.merge.specs.Table.{weight, first, second, stamp}
 use Rattle.merge.specs.Steps.{turnAt, turned, faceAt, joinsAt, absorbAt, attachAt}
 use Rattle.merge.specs.Does.{Does}
-use Rattle.merge.proofs.merge.View.{weight-at, first-at, second-at, stamp-at, weight-put, first-put, second-put, stamp-put, diff-put, view-weighed}
+use Rattle.merge.proofs.merge.View.{weight-at, read, weight-put, write, diff-put, view-weighed}
 
 module _ (m n : ℕ) (w : List ℕ) (d : List Float) (r : Room m n w d) where
   -- the stores of edge f: its ends and its difference
   module _ (f x y : ℕ) (z : Float) (lt : f < m) where
-    stored-does : Does m n (set (set w (3 * m + f) x) (4 * m + f) y) (set d f z) (diff-set (second-set (first-set (view m n w d) f x) f y) f z)
-    unfolding diff-set second-set first-set
+    stored-does : Does m n (set (set w (3 * m + f) x) (4 * m + f) y) (set d f z) (diff-set (store second (store first (view m n w d) f x) f y) f z)
+    unfolding diff-set store
     stored-does =
         let d' : List Float = set d f z in
         let w₁ : List ℕ = set w (3 * m + f) x in
-        let l₀ : 7 * m + 7 * n ≤ length w = r .words in
+        let l₀ : tableWords m n ≤ length w = r .words in
         let l₁ : length w₁ ≡ length w = length-set w (3 * m + f) x in
         record {
           tables =
-              second-put m n w₁ d' f y lt (omega arith)
-              ∙ ap (λ (s : Mem). second-set s f y) (first-put m n w d' f x lt l₀
-              ∙ ap (λ (s : Mem). first-set s f x) (diff-put m n w d f z));
+              write second m n w₁ d' f y lt (omega arith)
+              ∙ ap (λ (s : Mem). store second s f y) (write first m n w d' f x lt l₀
+              ∙ ap (λ (s : Mem). store first s f x) (diff-put m n w d f z));
           tree = tree-set m w₁ (4 * m + f) y (omega arith) (tree-set m w (3 * m + f) x (omega arith) (r .tree));
         }
 
@@ -38,8 +40,8 @@ module _ (m n : ℕ) (w : List ℕ) (d : List Float) (r : Room m n w d) where
   unfolding attachAt
   attach-does b f c x h = stored-does f b c x h
 
-  pub stamp-does : (b k : ℕ) → b < n → Does m n (set w (7 * m + 2 * n + b) k) d (stamp-set (view m n w d) b k)
-  stamp-does b k h = record { tables = stamp-put m n w d b k h (r .words); tree = tree-set m w (7 * m + 2 * n + b) k (omega arith) (r .tree) }
+  pub stamp-does : (b k : ℕ) → b < n → Does m n (set w (7 * m + 2 * n + b) k) d (store stamp (view m n w d) b k)
+  stamp-does b k h = record { tables = write stamp m n w d b k h (r .words); tree = tree-set m w (7 * m + 2 * n + b) k (omega arith) (r .tree) }
 
   -- face
   module _ (f : ℕ) (lt : f < m) (h : Sound m n (view m n w d)) where
@@ -52,9 +54,9 @@ module _ (m n : ℕ) (w : List ℕ) (d : List Float) (r : Room m n w d) where
     pub turned-words : turned (view m n w d) f ≡ ltb (getD w (7 * m + 2 * n + x) 0) (getD w (7 * m + 2 * n + y) 0)
     unfolding turned
     turned-words =
-        let p : getD (view m n w d .first) f 0 ≡ x = first-at m n w d f lt in
-        let q : getD (view m n w d .second) f 0 ≡ y = second-at m n w d f lt in
-        rw (p, q, stamp-at m n w d x (omega (arith, h .first-in f lt)), stamp-at m n w d y (omega (arith, h .second-in f lt))) refl
+        let p : getD (view m n w d .at first) f 0 ≡ x = read first m n w d f lt in
+        let q : getD (view m n w d .at second) f 0 ≡ y = read second m n w d f lt in
+        rw (p, q, read stamp m n w d x (omega (arith, h .within first f lt)), read stamp m n w d y (omega (arith, h .within second f lt))) refl
 
     pub face-stays : getD w (7 * m + 2 * n + y) 0 ≤ getD w (7 * m + 2 * n + x) 0 → Does m n w d (faceAt (view m n w d) f)
     unfolding faceAt
@@ -63,8 +65,8 @@ module _ (m n : ℕ) (w : List ℕ) (d : List Float) (r : Room m n w d) where
     pub face-turns : getD w (7 * m + 2 * n + x) 0 < getD w (7 * m + 2 * n + y) 0 → Does m n (set (set w (3 * m + f) y) (4 * m + f) x) (set d f (neg (getD d f nan))) (faceAt (view m n w d) f)
     unfolding faceAt turnAt
     face-turns e =
-        let p : getD (view m n w d .first) f 0 ≡ x = first-at m n w d f lt in
-        let q : getD (view m n w d .second) f 0 ≡ y = second-at m n w d f lt in
+        let p : getD (view m n w d .at first) f 0 ≡ x = read first m n w d f lt in
+        let q : getD (view m n w d .at second) f 0 ≡ y = read second m n w d f lt in
         let u : getD (view m n w d .diff) f nan ≡ getD d f nan = unfold view in refl in
         rw (turned-words, lt-ltb (getD w (7 * m + 2 * n + x) 0) (getD w (7 * m + 2 * n + y) 0) e, p, q, u) (stored-does f y x (neg (getD d f nan)) lt)
 
@@ -77,27 +79,27 @@ module _ (m n : ℕ) (w : List ℕ) (d : List Float) (r : Room m n w d) where
     module _ (lt : f < m) where
       pub joins-dead : getD w f 0 ≡ 0 → false ≡ joinsAt m b c (view m n w d) f
       unfolding joinsAt
-      joins-dead e = rw (lt-ltb f m lt, eq-eqb (getD (view m n w d .weight) f 0) 0 (weight-at m n w d f lt ∙ e)) refl
+      joins-dead e = rw (lt-ltb f m lt, eq-eqb (getD (view m n w d .at weight) f 0) 0 (weight-at m n w d f lt ∙ e)) refl
 
       module _ (live : getD w f 0 ≡ 0 → ⊥) where
-        alive : eqb (getD (view m n w d .weight) f 0) 0 ≡ false
-        alive = ne-eqb (getD (view m n w d .weight) f 0) 0 (λ e. live (sym (weight-at m n w d f lt) ∙ e))
+        alive : eqb (getD (view m n w d .at weight) f 0) 0 ≡ false
+        alive = ne-eqb (getD (view m n w d .at weight) f 0) 0 (λ e. live (sym (weight-at m n w d f lt) ∙ e))
 
         pub joins-first : getD w (3 * m + f) 0 ≡ b → eqb (getD w (4 * m + f) 0) c ≡ joinsAt m b c (view m n w d) f
         unfolding joinsAt
-        joins-first e = rw (lt-ltb f m lt, alive, eq-eqb (getD (view m n w d .first) f 0) b (first-at m n w d f lt ∙ e), second-at m n w d f lt) refl
+        joins-first e = rw (lt-ltb f m lt, alive, eq-eqb (getD (view m n w d .at first) f 0) b (read first m n w d f lt ∙ e), read second m n w d f lt) refl
 
         module _ (far : getD w (3 * m + f) 0 ≡ b → ⊥) where
-          unlike : eqb (getD (view m n w d .first) f 0) b ≡ false
-          unlike = ne-eqb (getD (view m n w d .first) f 0) b (λ e. far (sym (first-at m n w d f lt) ∙ e))
+          unlike : eqb (getD (view m n w d .at first) f 0) b ≡ false
+          unlike = ne-eqb (getD (view m n w d .at first) f 0) b (λ e. far (sym (read first m n w d f lt) ∙ e))
 
           pub joins-second : getD w (3 * m + f) 0 ≡ c → eqb (getD w (4 * m + f) 0) b ≡ joinsAt m b c (view m n w d) f
           unfolding joinsAt
-          joins-second e = rw (lt-ltb f m lt, alive, unlike, eq-eqb (getD (view m n w d .first) f 0) c (first-at m n w d f lt ∙ e), second-at m n w d f lt) refl
+          joins-second e = rw (lt-ltb f m lt, alive, unlike, eq-eqb (getD (view m n w d .at first) f 0) c (read first m n w d f lt ∙ e), read second m n w d f lt) refl
 
           pub joins-none : (getD w (3 * m + f) 0 ≡ c → ⊥) → false ≡ joinsAt m b c (view m n w d) f
           unfolding joinsAt
-          joins-none u = rw (lt-ltb f m lt, alive, unlike, ne-eqb (getD (view m n w d .first) f 0) c (λ e. u (sym (first-at m n w d f lt) ∙ e))) refl
+          joins-none u = rw (lt-ltb f m lt, alive, unlike, ne-eqb (getD (view m n w d .at first) f 0) c (λ e. u (sym (read first m n w d f lt) ∙ e))) refl
 
 -- absorb
 pub room-of : (m n : ℕ) (w u : List ℕ) (d e : List Float) → Room m n w d → length u ≡ length w → length e ≡ length d → Tree m u → Room m n u e
@@ -115,9 +117,9 @@ absorb-does m n w w₁ w₂ d q f x r hq hf a b =
       tables = rw (u, weight-at m n w d q hq, weight-at m n w d f hf)
           (view-weighed m n (set w₁ f 0) w₂ d' b
           ∙ weight-put m n w₁ d' f 0 hf (omega (arith, r .words))
-          ∙ ap (λ (s : Mem). weight-set s f 0) (view-weighed m n (set w q (getD w q 0 + getD w f 0)) w₁ d' a
+          ∙ ap (λ (s : Mem). store weight s f 0) (view-weighed m n (set w q (getD w q 0 + getD w f 0)) w₁ d' a
           ∙ weight-put m n w d' q (getD w q 0 + getD w f 0) hq (r .words)
-          ∙ ap (λ (s : Mem). weight-set s q (getD w q 0 + getD w f 0)) (diff-put m n w d q (add binary32 (getD d q nan) x))));
+          ∙ ap (λ (s : Mem). store weight s q (getD w q 0 + getD w f 0)) (diff-put m n w d q (add binary32 (getD d q nan) x))));
       tree = b .tree;
     }
 

@@ -11,13 +11,15 @@ use lib.Seq.{getD-set-same, getD-set-other, set-out}
 use lib.Ieee.{Float}
 use borrow.Author.Tests.{lt-ltb, le-ltb}
 use Rattle.memory.proofs.tree.TreeLaws.{tree-set}
-use Rattle.merge.specs.Mem.{Mem, view, Room, Sound, enext-set, elen-set}
+use Rattle.memory.specs.Layout.{tableWords}
+use Rattle.merge.specs.Mem.{Mem, view, Room, Sound, store}
+use Rattle.merge.specs.Table.{enext, elen}
 use Rattle.merge.specs.Steps.{spent, dropAt, passed, kept, along, pruned}
 use Rattle.merge.specs.Does.{Does, Passes, Slots}
-use Rattle.merge.proofs.merge.View.{weight-at, enext-at, elen-at, enext-put, elen-put}
+use Rattle.merge.proofs.merge.View.{weight-at, read, write}
 use Rattle.merge.proofs.merge.Bias.{lt-or-le}
 use Rattle.merge.proofs.merge.Leaf.{room-of}
-use Rattle.merge.proofs.merge.SoundSet.{eq-or-ne, sound-enext, sound-elen}
+use Rattle.merge.proofs.merge.SoundSet.{eq-or-ne, sound-store}
 
 -- ---- is_spent
 module _ (m n : ℕ) (w : List ℕ) (d : List Float) (x : ℕ) where
@@ -39,22 +41,22 @@ module _ (m n b p x : ℕ) where
       let l : ℕ = getD w (7 * m + 4 * n + b) 0 in
       let w₁ : List ℕ = set w (5 * m + p) t in
       let w₂ : List ℕ = set w₁ (5 * m + x) x in
-      let l₀ : 7 * m + 7 * n ≤ length w = r .words in
+      let l₀ : tableWords m n ≤ length w = r .words in
       let l₁ : length w₁ ≡ length w = length-set w (5 * m + p) t in
       let l₂ : length w₂ ≡ length w₁ = length-set w₁ (5 * m + x) x in
       record {
-        tables = rw (enext-at m n w d x (k .x-in), elen-at m n w d b (k .b-in))
-            (elen-put m n w₂ d b (l - 1) (k .b-in) (omega arith)
-            ∙ ap (λ (s : Mem). elen-set s b (l - 1)) (enext-put m n w₁ d x x (k .x-in) (omega arith)
-            ∙ ap (λ (s : Mem). enext-set s x x) (enext-put m n w d p t (k .p-in) l₀)));
+        tables = rw (read enext m n w d x (k .x-in), read elen m n w d b (k .b-in))
+            (write elen m n w₂ d b (l - 1) (k .b-in) (omega arith)
+            ∙ ap (λ (s : Mem). store elen s b (l - 1)) (write enext m n w₁ d x x (k .x-in) (omega arith)
+            ∙ ap (λ (s : Mem). store enext s x x) (write enext m n w d p t (k .p-in) l₀)));
         tree = tree-set m w₂ (7 * m + 4 * n + b) (l - 1) (omega arith) (tree-set m w₁ (5 * m + x) x (omega arith) (tree-set m w (5 * m + p) t (omega arith) (r .tree)));
       }
 
   pub sound-drop : (s : Mem) → Sound m n s → p < 2 * m + n → x < 2 * m + n → Sound m n (dropAt b s p x)
   unfolding dropAt
   sound-drop s h hp hx =
-      let h₁ : Sound m n (enext-set s p (getD (s .enext) x 0)) = sound-enext m n s h p (getD (s .enext) x 0) hp (h .enext-in x hx) in
-      sound-elen m n _ (sound-enext m n _ h₁ x x hx hx) b _
+      let h₁ : Sound m n (store enext s p (getD (s .at enext) x 0)) = sound-store enext m n s h p (getD (s .at enext) x 0) refl (h .within enext x hx) in
+      sound-store elen m n _ (sound-store enext m n _ h₁ x x refl hx) b _ refl tt
 
   -- ---- pass_slot
   module _ (s : Mem) (w : List ℕ) (d : List Float) (q : Bool) (is : q ≡ spent m s x) where
@@ -84,7 +86,7 @@ pub record Pass (m n b : ℕ) (w₀ : List ℕ) (d₀ : List Float) (w : List �
   pub p-in : p < 2 * m + n
   pub x-in : x < 2 * m + n
   pub some-i : 1 ≤ i
-  pub long : l < i + getD (view m n w d .elen) b 0
+  pub long : l < i + getD (view m n w d .at elen) b 0
   pub left : along (l - i) m b (view m n w d) p x ≡ goal
   pub same-w : length w ≡ length w₀
   pub same-d : length d ≡ length d₀
@@ -97,10 +99,10 @@ module _ (m n b : ℕ) (hb : b < n) where
     room = r;
     sound = h;
     p-in = omega arith;
-    x-in = omega (arith, enext-at m n w d (2 * m + b) (omega arith), h .enext-in (2 * m + b) (omega arith));
+    x-in = omega (arith, read enext m n w d (2 * m + b) (omega arith), h .within enext (2 * m + b) (omega arith));
     some-i = omega arith;
-    long = omega (arith, elen-at m n w d b hb);
-    left = rw (elen-at m n w d b hb, enext-at m n w d (2 * m + b) (omega arith)) refl;
+    long = omega (arith, read elen m n w d b hb);
+    left = rw (read elen m n w d b hb, read enext m n w d (2 * m + b) (omega arith)) refl;
     same-w = refl;
     same-d = refl;
   }
@@ -122,40 +124,40 @@ module _ (m n b : ℕ) (hb : b < n) where
       go false = hx
 
   -- a slot makes the chain shorter by one at most
-  passed-len : (s : Mem) (p x : ℕ) → Sound m n s → getD (s .elen) b 0 ≤ 1 + getD (passed m b s p x .elen) b 0
+  passed-len : (s : Mem) (p x : ℕ) → Sound m n s → getD (s .at elen) b 0 ≤ 1 + getD (passed m b s p x .at elen) b 0
   unfolding passed
   passed-len s p x h = go (spent m s x)
     where
-      go : (t : Bool) → getD (s .elen) b 0 ≤ 1 + getD (cond t (dropAt b s p x) s .elen) b 0
-      go true = unfold dropAt enext-set elen-set in omega (arith, getD-set-same (s .elen) b (getD (s .elen) b 0 - 1) 0 (omega (arith, h .l-elen)))
+      go : (t : Bool) → getD (s .at elen) b 0 ≤ 1 + getD (cond t (dropAt b s p x) s .at elen) b 0
+      go true = unfold dropAt store in omega (arith, getD-set-same (s .at elen) b (getD (s .at elen) b 0 - 1) 0 (omega (arith, h .lengths elen)))
       go false = omega arith
 
   -- tables stay sound, and no length grows
   sound-along : (k : ℕ) (s : Mem) (p x : ℕ) → Sound m n s → p < 2 * m + n → x < 2 * m + n → Sound m n (along k m b s p x)
   unfolding along
   sound-along zero s p x h hp hx = h
-  sound-along (suc k) s p x h hp hx = sound-along k (passed m b s p x) (kept m s p x) (getD (s .enext) x 0) (sound-passed s p x h hp hx) (kept-in s p x hp hx) (h .enext-in x hx)
+  sound-along (suc k) s p x h hp hx = sound-along k (passed m b s p x) (kept m s p x) (getD (s .at enext) x 0) (sound-passed s p x h hp hx) (kept-in s p x hp hx) (h .within enext x hx)
 
   pub sound-pruned : (s : Mem) → Sound m n s → Sound m n (pruned m b s)
   unfolding pruned
-  sound-pruned s h = sound-along (getD (s .elen) b 0 - 1) s (2 * m + b) (getD (s .enext) (2 * m + b) 0) h (omega arith) (h .enext-in (2 * m + b) (omega arith))
+  sound-pruned s h = sound-along (getD (s .at elen) b 0 - 1) s (2 * m + b) (getD (s .at enext) (2 * m + b) 0) h (omega arith) (h .within enext (2 * m + b) (omega arith))
 
-  less-passed : (s : Mem) (p x y : ℕ) → getD (passed m b s p x .elen) y 0 ≤ getD (s .elen) y 0
+  less-passed : (s : Mem) (p x y : ℕ) → getD (passed m b s p x .at elen) y 0 ≤ getD (s .at elen) y 0
   unfolding passed
   less-passed s p x y = go (spent m s x)
     where
-      go : (t : Bool) → getD (cond t (dropAt b s p x) s .elen) y 0 ≤ getD (s .elen) y 0
-      go true = unfold dropAt enext-set elen-set in less-set (s .elen) b y
+      go : (t : Bool) → getD (cond t (dropAt b s p x) s .at elen) y 0 ≤ getD (s .at elen) y 0
+      go true = unfold dropAt store in less-set (s .at elen) b y
       go false = omega arith
 
-  less-along : (k : ℕ) (s : Mem) (p x y : ℕ) → getD (along k m b s p x .elen) y 0 ≤ getD (s .elen) y 0
+  less-along : (k : ℕ) (s : Mem) (p x y : ℕ) → getD (along k m b s p x .at elen) y 0 ≤ getD (s .at elen) y 0
   unfolding along
   less-along zero s p x y = omega arith
-  less-along (suc k) s p x y = omega (arith, less-along k (passed m b s p x) (kept m s p x) (getD (s .enext) x 0) y, less-passed s p x y)
+  less-along (suc k) s p x y = omega (arith, less-along k (passed m b s p x) (kept m s p x) (getD (s .at enext) x 0) y, less-passed s p x y)
 
-  pub less-pruned : (s : Mem) (y : ℕ) → getD (pruned m b s .elen) y 0 ≤ getD (s .elen) y 0
+  pub less-pruned : (s : Mem) (y : ℕ) → getD (pruned m b s .at elen) y 0 ≤ getD (s .at elen) y 0
   unfolding pruned
-  less-pruned s y = less-along (getD (s .elen) b 0 - 1) s (2 * m + b) (getD (s .enext) (2 * m + b) 0) y
+  less-pruned s y = less-along (getD (s .at elen) b 0 - 1) s (2 * m + b) (getD (s .at enext) (2 * m + b) 0) y
 
   module _ (w₀ : List ℕ) (d₀ : List Float) (w : List ℕ) (d : List Float) (l p x i : ℕ) (goal : Mem) (k : Pass m n b w₀ d₀ w d l p x i goal) where
     pub prune-slots : i < l → Slots m n b p x (view m n w d)
@@ -168,13 +170,13 @@ module _ (m n b : ℕ) (hb : b < n) where
         let s : Mem = view m n w d in
         let s' : Mem = passed m b s p x in
         let z : l - i ≡ suc (l - (i + 1)) = omega arith in
-        let nx : getD (s .enext) x 0 ≡ getD w (5 * m + x) 0 = enext-at m n w d x (k .x-in) in
-        let el : getD (view m n w' d' .elen) b 0 ≡ getD (s' .elen) b 0 = ap (λ (u : Mem). getD (u .elen) b 0) (e .does .tables) in
+        let nx : getD (s .at enext) x 0 ≡ getD w (5 * m + x) 0 = read enext m n w d x (k .x-in) in
+        let el : getD (view m n w' d' .at elen) b 0 ≡ getD (s' .at elen) b 0 = ap (λ (u : Mem). getD (u .at elen) b 0) (e .does .tables) in
         record {
           room = room-of m n w w' d d' (k .room) lw ld (e .does .tree);
           sound = subst (Sound m n) (sym (e .does .tables)) (sound-passed s p x (k .sound) (k .p-in) (k .x-in));
           p-in = omega (arith, e .prev, kept-in s p x (k .p-in) (k .x-in));
-          x-in = omega (arith, k .sound .enext-in x (k .x-in));
+          x-in = omega (arith, k .sound .within enext x (k .x-in));
           some-i = omega arith;
           long = omega (arith, k .long, passed-len s p x (k .sound));
           left = ap (λ (u : Mem). along (l - (i + 1)) m b u q (getD w (5 * m + x) 0)) (e .does .tables) ∙ ap (λ (u : ℕ). along (l - (i + 1)) m b s' u (getD w (5 * m + x) 0)) (e .prev)

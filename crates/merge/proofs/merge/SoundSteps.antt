@@ -9,10 +9,11 @@ use lib.Ieee.{nan, binary32, fits, Float, neg, add}
 use lib.Ieee.Fits as Fits
 use lib.ListN.{length, getD, set, length-set}
 use borrow.Author.Tests.{ltb-true, eqb-true, eqb-false}
-use Rattle.merge.specs.Mem.{Mem, Sound, total, weight-set, first-set, second-set, diff-set}
+use Rattle.merge.specs.Mem.{Mem, Sound, total, store, diff-set}
+use Rattle.merge.specs.Table.{weight, first, second}
 use Rattle.merge.specs.Steps.{unbias, turnAt, turned, faceAt, mate, absorbAt, attachAt, joinEdge, shift, movedEdge, takeEdge}
 use Rattle.merge.specs.Does.{Joins, Gains}
-use Rattle.merge.proofs.merge.SoundSet.{sound-first, sound-second, sound-diff}
+use Rattle.merge.proofs.merge.SoundSet.{Ranges, ranges-of, ranges-store, sound-store, sound-diff}
 use Rattle.merge.proofs.merge.Mates.{Mate, mate-is}
 use Rattle.merge.proofs.merge.Leaf.{total-move}
 use Rattle.arithmetic.specs.Rounding.{scale}
@@ -35,11 +36,11 @@ shift-ok b g w x h = go (eqb g 1000)
     go false = add-ok x (cond b (neg (scale w (unbias g))) (scale w (unbias g)))
 
 pub sound-turn : (m n : ℕ) (s : Mem) (f : ℕ) → Sound m n s → f < m → Sound m n (turnAt s f)
-unfolding turnAt first-set second-set
+unfolding turnAt store
 sound-turn m n s f h lt =
-    let h₁ : Sound m n (first-set s f (getD (s .second) f 0)) = sound-first m n s h f (getD (s .second) f 0) lt (h .second-in f lt) in
-    let h₂ : Sound m n (second-set (first-set s f (getD (s .second) f 0)) f (getD (s .first) f 0)) = sound-second m n _ h₁ f (getD (s .first) f 0) lt (h .first-in f lt) in
-    sound-diff m n _ h₂ f (neg (getD (s .diff) f nan)) lt (neg-ok _ (h .single f lt))
+    let h₁ : Sound m n (store first s f (getD (s .at second) f 0)) = sound-store first m n s h f (getD (s .at second) f 0) refl (h .within second f lt) in
+    let h₂ : Sound m n (store second (store first s f (getD (s .at second) f 0)) f (getD (s .at first) f 0)) = sound-store second m n _ h₁ f (getD (s .at first) f 0) refl (h .within first f lt) in
+    sound-diff m n _ h₂ f (neg (getD (s .diff) f nan)) (neg-ok _ (h .single f lt))
 
 pub sound-face : (m n : ℕ) (s : Mem) (f : ℕ) → Sound m n s → f < m → Sound m n (faceAt s f)
 unfolding faceAt
@@ -50,40 +51,23 @@ sound-face m n s f h lt = go (turned s f)
     go false = h
 
 pub sound-absorb : (m n : ℕ) (s : Mem) (q f : ℕ) (x : Float) → Sound m n s → q < m → f < m → (q ≡ f → ⊥) → Sound m n (absorbAt s q f x)
-unfolding absorbAt weight-set diff-set
+unfolding absorbAt store diff-set
 sound-absorb m n s q f x h hq hf ne =
-    let h₁ : Sound m n (diff-set s q (add binary32 (getD (s .diff) q nan) x)) = sound-diff m n s h q (add binary32 (getD (s .diff) q nan) x) hq (add-ok _ x) in
-    let lq : q < length (s .weight) = omega (arith, h .l-weight) in
-    let lf : f < length (s .weight) = omega (arith, h .l-weight) in
-    let t : total (set (set (s .weight) q (getD (s .weight) q 0 + getD (s .weight) f 0)) f 0) ≡ total (s .weight) = total-move (s .weight) q f lq lf ne in
-    two m n (diff-set s q (add binary32 (getD (s .diff) q nan) x)) q f (getD (s .weight) q 0 + getD (s .weight) f 0) h₁ (omega (arith, h .light))
+    let h₁ : Sound m n (diff-set s q (add binary32 (getD (s .diff) q nan) x)) = sound-diff m n s h q (add binary32 (getD (s .diff) q nan) x) (add-ok _ x) in
+    let lq : q < length (s .at weight) = omega (arith, h .lengths weight) in
+    let lf : f < length (s .at weight) = omega (arith, h .lengths weight) in
+    let t : total (set (set (s .at weight) q (getD (s .at weight) q 0 + getD (s .at weight) f 0)) f 0) ≡ total (s .at weight) = total-move (s .at weight) q f lq lf ne in
+    two m n (diff-set s q (add binary32 (getD (s .diff) q nan) x)) q f (getD (s .at weight) q 0 + getD (s .at weight) f 0) h₁ (omega (arith, h .light))
   where
-    two : (m n : ℕ) (u : Mem) (q f v : ℕ) → Sound m n u → total (set (set (u .weight) q v) f 0) < 2 ^ 32 → Sound m n (weight-set (weight-set u q v) f 0)
-    two m n u q f v h k = record {
-      l-weight = length-set (set (u .weight) q v) f 0 ∙ length-set (u .weight) q v ∙ h .l-weight;
-      l-first = h .l-first;
-      l-second = h .l-second;
-      l-enext = h .l-enext;
-      l-rnext = h .l-rnext;
-      l-stamp = h .l-stamp;
-      l-size = h .l-size;
-      l-elen = h .l-elen;
-      l-rlen = h .l-rlen;
-      l-count = h .l-count;
-      l-diff = h .l-diff;
-      first-in = h .first-in;
-      second-in = h .second-in;
-      enext-in = h .enext-in;
-      rnext-in = h .rnext-in;
-      counts = h .counts;
-      single = h .single;
-      light = k;
-    }
+    two : (m n : ℕ) (u : Mem) (q f v : ℕ) → Sound m n u → total (set (set (u .at weight) q v) f 0) < 2 ^ 32 → Sound m n (store weight (store weight u q v) f 0)
+    two m n u q f v h k =
+        let r : Ranges m n (store weight (store weight u q v) f 0) = ranges-store weight m n (store weight u q v) (ranges-store weight m n u (ranges-of m n u h) q v tt) f 0 tt in
+        record { lengths = r .lengths; l-diff = h .l-diff; within = r .within; single = h .single; light = k }
 
 pub sound-attach : (m n b : ℕ) (s : Mem) (f c : ℕ) (x : Float) → Sound m n s → f < m → b < n → c < n → T (fits binary32 x) → Sound m n (attachAt b s f c x)
 unfolding attachAt
 sound-attach m n b s f c x h lt hb hc fx =
-    sound-diff m n _ (sound-second m n _ (sound-first m n s h f b lt hb) f c lt hc) f x lt fx
+    sound-diff m n _ (sound-store second m n _ (sound-store first m n s h f b refl hb) f c refl hc) f x fx
 
 pub sound-join : (m n b : ℕ) (s : Mem) (f c : ℕ) (x : Float) → Sound m n s → Joins m n b s f c → T (fits binary32 x) → Sound m n (joinEdge m b s f c x)
 unfolding joinEdge
@@ -94,33 +78,33 @@ sound-join m n b s f c x h j fx = go (ltb (mate m b s c) m) refl
     go false e = sound-attach m n b s f c x h (j .f-in) (j .b-in) (j .c-in) fx
 
 -- the moved node's edge is no mate
-pub joins-first : (m n b v g : ℕ) (s : Mem) (f : ℕ) → Sound m n s → Gains n b v g → f < m → getD (s .first) f 0 ≡ v → Joins m n b s f (getD (s .second) f 0)
+pub joins-first : (m n b v g : ℕ) (s : Mem) (f : ℕ) → Sound m n s → Gains n b v g → f < m → getD (s .at first) f 0 ≡ v → Joins m n b s f (getD (s .at second) f 0)
 joins-first m n b v g s f h k lt e = record {
   f-in = lt;
   b-in = k .b-in;
-  c-in = h .second-in f lt;
-  other = λ q. let t : Mate m b s (getD (s .second) f 0) f = subst (Mate m b s (getD (s .second) f 0)) q (mate-is m b (getD (s .second) f 0) s (omega arith)) in
+  c-in = h .within second f lt;
+  other = λ q. let t : Mate m b s (getD (s .at second) f 0) f = subst (Mate m b s (getD (s .at second) f 0)) q (mate-is m b (getD (s .at second) f 0) s (omega arith)) in
       k .apart (⊎-elim (λ w. sym (w .0) ∙ e) (λ w. sym (w .1) ∙ sym (w .0) ∙ e) (t .ends));
 }
 
-pub joins-second : (m n b v g : ℕ) (s : Mem) (f : ℕ) → Sound m n s → Gains n b v g → f < m → (getD (s .first) f 0 ≡ v → ⊥) → getD (s .second) f 0 ≡ v → Joins m n b s f (getD (s .first) f 0)
+pub joins-second : (m n b v g : ℕ) (s : Mem) (f : ℕ) → Sound m n s → Gains n b v g → f < m → (getD (s .at first) f 0 ≡ v → ⊥) → getD (s .at second) f 0 ≡ v → Joins m n b s f (getD (s .at first) f 0)
 joins-second m n b v g s f h k lt ne e = record {
   f-in = lt;
   b-in = k .b-in;
-  c-in = h .first-in f lt;
-  other = λ q. let t : Mate m b s (getD (s .first) f 0) f = subst (Mate m b s (getD (s .first) f 0)) q (mate-is m b (getD (s .first) f 0) s (omega arith)) in
+  c-in = h .within first f lt;
+  other = λ q. let t : Mate m b s (getD (s .at first) f 0) f = subst (Mate m b s (getD (s .at first) f 0)) q (mate-is m b (getD (s .at first) f 0) s (omega arith)) in
       ⊎-elim (λ w. ne (sym (w .1) ∙ e)) (λ w. k .apart (sym (w .1) ∙ e)) (t .ends);
 }
 
 pub sound-moved : (m n b v g : ℕ) (s : Mem) (f : ℕ) → Sound m n s → Gains n b v g → f < m → Sound m n (movedEdge m b v g s f)
 unfolding movedEdge
-sound-moved m n b v g s f h k lt = go (eqb (getD (s .weight) f 0) 0) (eqb (getD (s .first) f 0) v) refl (eqb (getD (s .second) f 0) v) refl
+sound-moved m n b v g s f h k lt = go (eqb (getD (s .at weight) f 0) 0) (eqb (getD (s .at first) f 0) v) refl (eqb (getD (s .at second) f 0) v) refl
   where
-    go : (y : Bool) → (z : Bool) → eqb (getD (s .first) f 0) v ≡ z → (t : Bool) → eqb (getD (s .second) f 0) v ≡ t
-        → Sound m n (cond y s (cond z (joinEdge m b s f (getD (s .second) f 0) (shift false g (getD (s .weight) f 0) (getD (s .diff) f nan))) (cond t (joinEdge m b s f (getD (s .first) f 0) (neg (shift true g (getD (s .weight) f 0) (getD (s .diff) f nan)))) s)))
+    go : (y : Bool) → (z : Bool) → eqb (getD (s .at first) f 0) v ≡ z → (t : Bool) → eqb (getD (s .at second) f 0) v ≡ t
+        → Sound m n (cond y s (cond z (joinEdge m b s f (getD (s .at second) f 0) (shift false g (getD (s .at weight) f 0) (getD (s .diff) f nan))) (cond t (joinEdge m b s f (getD (s .at first) f 0) (neg (shift true g (getD (s .at weight) f 0) (getD (s .diff) f nan)))) s)))
     go true z ze t te = h
-    go false true ze t te = sound-join m n b s f _ _ h (joins-first m n b v g s f h k lt (eqb-true (getD (s .first) f 0) v ze)) (shift-ok false g _ _ (h .single f lt))
-    go false false ze true te = sound-join m n b s f _ _ h (joins-second m n b v g s f h k lt (eqb-false (getD (s .first) f 0) v ze) (eqb-true (getD (s .second) f 0) v te)) (neg-ok _ (shift-ok true g _ _ (h .single f lt)))
+    go false true ze t te = sound-join m n b s f _ _ h (joins-first m n b v g s f h k lt (eqb-true (getD (s .at first) f 0) v ze)) (shift-ok false g _ _ (h .single f lt))
+    go false false ze true te = sound-join m n b s f _ _ h (joins-second m n b v g s f h k lt (eqb-false (getD (s .at first) f 0) v ze) (eqb-true (getD (s .at second) f 0) v te)) (neg-ok _ (shift-ok true g _ _ (h .single f lt)))
     go false false ze false te = h
 
 pub sound-take : (m n b v g : ℕ) (s : Mem) (f : ℕ) → Sound m n s → Gains n b v g → Sound m n (takeEdge m b v g s f)

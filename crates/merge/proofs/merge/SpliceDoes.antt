@@ -5,10 +5,12 @@ use Prim.Native.Nat.{ℕ, _+_, _*_, _-_, _≤_, _<_}
 use native.Mathlib.Omega.{arith}
 use lib.ListN.{length, getD, set, length-set}
 use Rattle.memory.proofs.tree.TreeLaws.{tree-set}
-use Rattle.merge.specs.Mem.{Mem, view, Room, enext-set, rnext-set, elen-set, rlen-set}
+use Rattle.memory.specs.Layout.{tableWords}
+use Rattle.merge.specs.Mem.{Mem, view, Room, store}
+use Rattle.merge.specs.Table.{enext, rnext, size, elen, rlen}
 use Rattle.merge.specs.Steps.{splice, grow}
 use Rattle.merge.specs.Does.{Does}
-use Rattle.merge.proofs.merge.View.{enext-at, rnext-at, size-at, elen-at, rlen-at, enext-put, rnext-put, size-put, elen-put, rlen-put}
+use Rattle.merge.proofs.merge.View.{read, write}
 use lib.Ieee.{Float}
 
 module _ (m n : ℕ) (w : List ℕ) (d : List Float) (r : Room m n w d) (b v : ℕ) (hb : b < n) (hv : v < n) where
@@ -22,16 +24,16 @@ module _ (m n : ℕ) (w : List ℕ) (d : List Float) (r : Room m n w d) (b v : �
       let w₁ : List ℕ = set w (5 * m + (2 * m + b)) ev in
       let w₂ : List ℕ = set w₁ (5 * m + (2 * m + v)) eb in
       let w₃ : List ℕ = set w₂ (7 * m + n + b) rv in
-      let l₀ : 7 * m + 7 * n ≤ length w = r .words in
+      let l₀ : tableWords m n ≤ length w = r .words in
       let l₁ : length w₁ ≡ length w = length-set w (5 * m + (2 * m + b)) ev in
       let l₂ : length w₂ ≡ length w₁ = length-set w₁ (5 * m + (2 * m + v)) eb in
       let l₃ : length w₃ ≡ length w₂ = length-set w₂ (7 * m + n + b) rv in
       record {
-        tables = rw (enext-at m n w d (2 * m + b) (omega arith), enext-at m n w d (2 * m + v) (omega arith), rnext-at m n w d b hb, rnext-at m n w d v hv)
-            (rnext-put m n w₃ d v rb hv (omega arith)
-            ∙ ap (λ (s : Mem). rnext-set s v rb) (rnext-put m n w₂ d b rv hb (omega arith)
-            ∙ ap (λ (s : Mem). rnext-set s b rv) (enext-put m n w₁ d (2 * m + v) eb (omega arith) (omega arith)
-            ∙ ap (λ (s : Mem). enext-set s (2 * m + v) eb) (enext-put m n w d (2 * m + b) ev (omega arith) l₀))));
+        tables = rw (read enext m n w d (2 * m + b) (omega arith), read enext m n w d (2 * m + v) (omega arith), read rnext m n w d b hb, read rnext m n w d v hv)
+            (write rnext m n w₃ d v rb hv (omega arith)
+            ∙ ap (λ (s : Mem). store rnext s v rb) (write rnext m n w₂ d b rv hb (omega arith)
+            ∙ ap (λ (s : Mem). store rnext s b rv) (write enext m n w₁ d (2 * m + v) eb (omega arith) (omega arith)
+            ∙ ap (λ (s : Mem). store enext s (2 * m + v) eb) (write enext m n w d (2 * m + b) ev (omega arith) l₀))));
         tree = tree-set m w₃ (7 * m + n + v) rb (omega arith) (tree-set m w₂ (7 * m + n + b) rv (omega arith) (tree-set m w₁ (5 * m + (2 * m + v)) eb (omega arith) (tree-set m w (5 * m + (2 * m + b)) ev (omega arith) (r .tree))));
       }
 
@@ -43,13 +45,13 @@ module _ (m n : ℕ) (w : List ℕ) (d : List Float) (r : Room m n w d) (b v : �
       let r₀ : ℕ = getD w (7 * m + 5 * n + b) 0 + getD w (7 * m + 5 * n + v) 0 in
       let w₁ : List ℕ = set w (7 * m + 3 * n + b) s₀ in
       let w₂ : List ℕ = set w₁ (7 * m + 4 * n + b) e₀ in
-      let l₀ : 7 * m + 7 * n ≤ length w = r .words in
+      let l₀ : tableWords m n ≤ length w = r .words in
       let l₁ : length w₁ ≡ length w = length-set w (7 * m + 3 * n + b) s₀ in
       let l₂ : length w₂ ≡ length w₁ = length-set w₁ (7 * m + 4 * n + b) e₀ in
       record {
-        tables = rw (size-at m n w d b hb, size-at m n w d v hv, elen-at m n w d b hb, elen-at m n w d v hv, rlen-at m n w d b hb, rlen-at m n w d v hv)
-            (rlen-put m n w₂ d b r₀ hb (omega arith)
-            ∙ ap (λ (s : Mem). rlen-set s b r₀) (elen-put m n w₁ d b e₀ hb (omega arith)
-            ∙ ap (λ (s : Mem). elen-set s b e₀) (size-put m n w d b s₀ hb l₀)));
+        tables = rw (read size m n w d b hb, read size m n w d v hv, read elen m n w d b hb, read elen m n w d v hv, read rlen m n w d b hb, read rlen m n w d v hv)
+            (write rlen m n w₂ d b r₀ hb (omega arith)
+            ∙ ap (λ (s : Mem). store rlen s b r₀) (write elen m n w₁ d b e₀ hb (omega arith)
+            ∙ ap (λ (s : Mem). store elen s b e₀) (write size m n w d b s₀ hb l₀)));
         tree = tree-set m w₂ (7 * m + 5 * n + b) r₀ (omega arith) (tree-set m w₁ (7 * m + 4 * n + b) e₀ (omega arith) (tree-set m w (7 * m + 3 * n + b) s₀ (omega arith) (r .tree)));
       }

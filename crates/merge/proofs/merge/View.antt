@@ -1,237 +1,62 @@
 -- Reads and stores of the lent words as reads and stores of the tables. Assumes nothing.
 use mathlib.Core.Path.{_≡_, refl, sym, ap, _∙_}
+use mathlib.Core.Logic.{⊎-elim}
+use mathlib.Core.Bool.{Bool, true, false, cond}
 use mathlib.Core.List.{List}
-use Prim.Native.Nat.{ℕ, _+_, _*_, _-_, _≤_, _<_}
+use Prim.Native.Nat.{ℕ, zero, suc, _+_, _*_, _-_, _≤_, _<_}
 use native.Mathlib.Omega.{arith}
+use borrow.Author.Tests.{eqb-true}
 use lib.ListN.{length, getD, set, take, drop}
 use lib.Seq.{drop-drop}
 use Rattle.arithmetic.specs.Seg.{seg}
-use Rattle.arithmetic.proofs.SegLaws.{getD-seg, seg-set-in, seg-set-out}
+use Rattle.arithmetic.proofs.SegLaws.{length-seg, getD-seg, seg-set-in, seg-set-out}
 use Rattle.memory.specs.Tree.{Weighed}
-use Rattle.merge.specs.Mem.{view, weight-set, first-set, second-set, enext-set, rnext-set, stamp-set, size-set, elen-set, rlen-set, count-set, diff-set}
+use Rattle.memory.specs.Layout.{part, tableWords, InTurn}
+use Rattle.merge.specs.Table.{Table, table, number, tables, weight, from, long, is}
+use Rattle.merge.specs.Mem.{view, store, diff-set}
+use Rattle.merge.proofs.merge.TableLaws.{in-turn, ends-by, apart, part-start}
 use lib.Ieee.{Float}
 
-module _ (m n : ℕ) (w : List ℕ) (d : List Float) where
-  pub weight-at : (j : ℕ) → j < m → getD (view m n w d .weight) j 0 ≡ getD w j 0
-  unfolding view
-  weight-at j h = getD-seg w 0 m j 0 h ∙ ap (λ (x : ℕ). getD w x 0) (omega arith)
+-- each table has its length
+pub view-lengths : (m n : ℕ) (w : List ℕ) (d : List Float) → tableWords m n ≤ length w → (t : Table) → length (view m n w d .at t) ≡ long t m n
+unfolding view
+view-lengths m n w d h t = length-seg w (from t m n) (long t m n) (omega (arith, ends-by m n t, h))
 
-  pub first-at : (j : ℕ) → j < m → getD (view m n w d .first) j 0 ≡ getD w (3 * m + j) 0
-  unfolding view
-  first-at j h = getD-seg w (3 * m) (m) j 0 h
+-- a word of table t
+pub read : (t : Table) (m n : ℕ) (w : List ℕ) (d : List Float) (j : ℕ) → j < long t m n → getD (view m n w d .at t) j 0 ≡ getD w (from t m n + j) 0
+unfolding view
+read t m n w d j h = getD-seg w (from t m n) (long t m n) j 0 h
 
-  pub second-at : (j : ℕ) → j < m → getD (view m n w d .second) j 0 ≡ getD w (4 * m + j) 0
-  unfolding view
-  second-at j h = getD-seg w (4 * m) (m) j 0 h
+pub weight-at : (m n : ℕ) (w : List ℕ) (d : List Float) (j : ℕ) → j < m → getD (view m n w d .at weight) j 0 ≡ getD w j 0
+weight-at m n w d j h = read weight m n w d j h ∙ ap (λ (x : ℕ). getD w x 0) (omega arith)
 
-  pub enext-at : (j : ℕ) → j < 2 * m + n → getD (view m n w d .enext) j 0 ≡ getD w (5 * m + j) 0
-  unfolding view
-  enext-at j h = getD-seg w (5 * m) (2 * m + n) j 0 h
+-- a store into table t
+pub write : (t : Table) (m n : ℕ) (w : List ℕ) (d : List Float) (j x : ℕ) → j < long t m n → tableWords m n ≤ length w
+    → view m n (set w (from t m n + j) x) d ≡ store t (view m n w d) j x
+unfolding view store
+write t m n w d j x h r = λ i. record { at = λ u. go u (is t u) refl i; diff = d }
+  where
+    go : (u : Table) (b : Bool) → is t u ≡ b
+        → seg (set w (from t m n + j) x) (from u m n) (long u m n) ≡ cond b (set (seg w (from u m n) (long u m n)) j x) (seg w (from u m n) (long u m n))
+    go u true e =
+        let k : number t ≡ number u = eqb-true (number t) (number u) e in
+        let f : from t m n ≡ from u m n = ap (λ (y : ℕ). getD (tables m n) y (part 0 0) .from) k in
+        let l : long t m n ≡ long u m n = ap (λ (y : ℕ). getD (tables m n) y (part 0 0) .long) k in
+        ap (λ (y : ℕ). seg (set w (y + j) x) (from u m n) (long u m n)) f
+        ∙ seg-set-in w (from u m n) (long u m n) j x (omega (arith, l, h)) (omega (arith, ends-by m n u, r))
+    go u false e = seg-set-out w (from t m n + j) x (from u m n) (long u m n) (λ p q. apart m n t u e (from t m n + j) (omega arith) (omega (arith, h)) p q)
 
-  pub rnext-at : (j : ℕ) → j < n → getD (view m n w d .rnext) j 0 ≡ getD w (7 * m + n + j) 0
-  unfolding view
-  rnext-at j h = getD-seg w (7 * m + n) (n) j 0 h
+pub weight-put : (m n : ℕ) (w : List ℕ) (d : List Float) (j x : ℕ) → j < m → tableWords m n ≤ length w → view m n (set w j x) d ≡ store weight (view m n w d) j x
+weight-put m n w d j x h r = let z : 0 + j ≡ j = omega arith in ap (λ (y : ℕ). view m n (set w y x) d) (sym z) ∙ write weight m n w d j x h r
 
-  pub stamp-at : (j : ℕ) → j < n → getD (view m n w d .stamp) j 0 ≡ getD w (7 * m + 2 * n + j) 0
-  unfolding view
-  stamp-at j h = getD-seg w (7 * m + 2 * n) (n) j 0 h
-
-  pub size-at : (j : ℕ) → j < n → getD (view m n w d .size) j 0 ≡ getD w (7 * m + 3 * n + j) 0
-  unfolding view
-  size-at j h = getD-seg w (7 * m + 3 * n) (n) j 0 h
-
-  pub elen-at : (j : ℕ) → j < n → getD (view m n w d .elen) j 0 ≡ getD w (7 * m + 4 * n + j) 0
-  unfolding view
-  elen-at j h = getD-seg w (7 * m + 4 * n) (n) j 0 h
-
-  pub rlen-at : (j : ℕ) → j < n → getD (view m n w d .rlen) j 0 ≡ getD w (7 * m + 5 * n + j) 0
-  unfolding view
-  rlen-at j h = getD-seg w (7 * m + 5 * n) (n) j 0 h
-
-  pub count-at : (j : ℕ) → j < n → getD (view m n w d .count) j 0 ≡ getD w (7 * m + 6 * n + j) 0
-  unfolding view
-  count-at j h = getD-seg w (7 * m + 6 * n) (n) j 0 h
-
-  pub weight-put : (j x : ℕ) → j < m → 7 * m + 7 * n ≤ length w → view m n (set w (j) x) d ≡ weight-set (view m n w d) j x
-  unfolding view weight-set
-  weight-put j x h r = let z : 0 + j ≡ j = omega arith in λ i. record {
-    weight = (ap (λ (y : ℕ). seg (set w y x) 0 m) (sym z) ∙ seg-set-in w 0 m j x h (omega arith)) i;
-    first = seg-set-out w (j) x (3 * m) (m) (λ p q. omega arith) i;
-    second = seg-set-out w (j) x (4 * m) (m) (λ p q. omega arith) i;
-    enext = seg-set-out w (j) x (5 * m) (2 * m + n) (λ p q. omega arith) i;
-    rnext = seg-set-out w (j) x (7 * m + n) (n) (λ p q. omega arith) i;
-    stamp = seg-set-out w (j) x (7 * m + 2 * n) (n) (λ p q. omega arith) i;
-    size = seg-set-out w (j) x (7 * m + 3 * n) (n) (λ p q. omega arith) i;
-    elen = seg-set-out w (j) x (7 * m + 4 * n) (n) (λ p q. omega arith) i;
-    rlen = seg-set-out w (j) x (7 * m + 5 * n) (n) (λ p q. omega arith) i;
-    count = seg-set-out w (j) x (7 * m + 6 * n) (n) (λ p q. omega arith) i;
-    diff = d;
-  }
-
-  pub first-put : (j x : ℕ) → j < m → 7 * m + 7 * n ≤ length w → view m n (set w (3 * m + j) x) d ≡ first-set (view m n w d) j x
-  unfolding view first-set
-  first-put j x h r = λ i. record {
-    weight = seg-set-out w (3 * m + j) x (0) (m) (λ p q. omega arith) i;
-    first = seg-set-in w (3 * m) (m) j x h (omega arith) i;
-    second = seg-set-out w (3 * m + j) x (4 * m) (m) (λ p q. omega arith) i;
-    enext = seg-set-out w (3 * m + j) x (5 * m) (2 * m + n) (λ p q. omega arith) i;
-    rnext = seg-set-out w (3 * m + j) x (7 * m + n) (n) (λ p q. omega arith) i;
-    stamp = seg-set-out w (3 * m + j) x (7 * m + 2 * n) (n) (λ p q. omega arith) i;
-    size = seg-set-out w (3 * m + j) x (7 * m + 3 * n) (n) (λ p q. omega arith) i;
-    elen = seg-set-out w (3 * m + j) x (7 * m + 4 * n) (n) (λ p q. omega arith) i;
-    rlen = seg-set-out w (3 * m + j) x (7 * m + 5 * n) (n) (λ p q. omega arith) i;
-    count = seg-set-out w (3 * m + j) x (7 * m + 6 * n) (n) (λ p q. omega arith) i;
-    diff = d;
-  }
-
-  pub second-put : (j x : ℕ) → j < m → 7 * m + 7 * n ≤ length w → view m n (set w (4 * m + j) x) d ≡ second-set (view m n w d) j x
-  unfolding view second-set
-  second-put j x h r = λ i. record {
-    weight = seg-set-out w (4 * m + j) x (0) (m) (λ p q. omega arith) i;
-    first = seg-set-out w (4 * m + j) x (3 * m) (m) (λ p q. omega arith) i;
-    second = seg-set-in w (4 * m) (m) j x h (omega arith) i;
-    enext = seg-set-out w (4 * m + j) x (5 * m) (2 * m + n) (λ p q. omega arith) i;
-    rnext = seg-set-out w (4 * m + j) x (7 * m + n) (n) (λ p q. omega arith) i;
-    stamp = seg-set-out w (4 * m + j) x (7 * m + 2 * n) (n) (λ p q. omega arith) i;
-    size = seg-set-out w (4 * m + j) x (7 * m + 3 * n) (n) (λ p q. omega arith) i;
-    elen = seg-set-out w (4 * m + j) x (7 * m + 4 * n) (n) (λ p q. omega arith) i;
-    rlen = seg-set-out w (4 * m + j) x (7 * m + 5 * n) (n) (λ p q. omega arith) i;
-    count = seg-set-out w (4 * m + j) x (7 * m + 6 * n) (n) (λ p q. omega arith) i;
-    diff = d;
-  }
-
-  pub enext-put : (j x : ℕ) → j < 2 * m + n → 7 * m + 7 * n ≤ length w → view m n (set w (5 * m + j) x) d ≡ enext-set (view m n w d) j x
-  unfolding view enext-set
-  enext-put j x h r = λ i. record {
-    weight = seg-set-out w (5 * m + j) x (0) (m) (λ p q. omega arith) i;
-    first = seg-set-out w (5 * m + j) x (3 * m) (m) (λ p q. omega arith) i;
-    second = seg-set-out w (5 * m + j) x (4 * m) (m) (λ p q. omega arith) i;
-    enext = seg-set-in w (5 * m) (2 * m + n) j x h (omega arith) i;
-    rnext = seg-set-out w (5 * m + j) x (7 * m + n) (n) (λ p q. omega arith) i;
-    stamp = seg-set-out w (5 * m + j) x (7 * m + 2 * n) (n) (λ p q. omega arith) i;
-    size = seg-set-out w (5 * m + j) x (7 * m + 3 * n) (n) (λ p q. omega arith) i;
-    elen = seg-set-out w (5 * m + j) x (7 * m + 4 * n) (n) (λ p q. omega arith) i;
-    rlen = seg-set-out w (5 * m + j) x (7 * m + 5 * n) (n) (λ p q. omega arith) i;
-    count = seg-set-out w (5 * m + j) x (7 * m + 6 * n) (n) (λ p q. omega arith) i;
-    diff = d;
-  }
-
-  pub rnext-put : (j x : ℕ) → j < n → 7 * m + 7 * n ≤ length w → view m n (set w (7 * m + n + j) x) d ≡ rnext-set (view m n w d) j x
-  unfolding view rnext-set
-  rnext-put j x h r = λ i. record {
-    weight = seg-set-out w (7 * m + n + j) x (0) (m) (λ p q. omega arith) i;
-    first = seg-set-out w (7 * m + n + j) x (3 * m) (m) (λ p q. omega arith) i;
-    second = seg-set-out w (7 * m + n + j) x (4 * m) (m) (λ p q. omega arith) i;
-    enext = seg-set-out w (7 * m + n + j) x (5 * m) (2 * m + n) (λ p q. omega arith) i;
-    rnext = seg-set-in w (7 * m + n) (n) j x h (omega arith) i;
-    stamp = seg-set-out w (7 * m + n + j) x (7 * m + 2 * n) (n) (λ p q. omega arith) i;
-    size = seg-set-out w (7 * m + n + j) x (7 * m + 3 * n) (n) (λ p q. omega arith) i;
-    elen = seg-set-out w (7 * m + n + j) x (7 * m + 4 * n) (n) (λ p q. omega arith) i;
-    rlen = seg-set-out w (7 * m + n + j) x (7 * m + 5 * n) (n) (λ p q. omega arith) i;
-    count = seg-set-out w (7 * m + n + j) x (7 * m + 6 * n) (n) (λ p q. omega arith) i;
-    diff = d;
-  }
-
-  pub stamp-put : (j x : ℕ) → j < n → 7 * m + 7 * n ≤ length w → view m n (set w (7 * m + 2 * n + j) x) d ≡ stamp-set (view m n w d) j x
-  unfolding view stamp-set
-  stamp-put j x h r = λ i. record {
-    weight = seg-set-out w (7 * m + 2 * n + j) x (0) (m) (λ p q. omega arith) i;
-    first = seg-set-out w (7 * m + 2 * n + j) x (3 * m) (m) (λ p q. omega arith) i;
-    second = seg-set-out w (7 * m + 2 * n + j) x (4 * m) (m) (λ p q. omega arith) i;
-    enext = seg-set-out w (7 * m + 2 * n + j) x (5 * m) (2 * m + n) (λ p q. omega arith) i;
-    rnext = seg-set-out w (7 * m + 2 * n + j) x (7 * m + n) (n) (λ p q. omega arith) i;
-    stamp = seg-set-in w (7 * m + 2 * n) (n) j x h (omega arith) i;
-    size = seg-set-out w (7 * m + 2 * n + j) x (7 * m + 3 * n) (n) (λ p q. omega arith) i;
-    elen = seg-set-out w (7 * m + 2 * n + j) x (7 * m + 4 * n) (n) (λ p q. omega arith) i;
-    rlen = seg-set-out w (7 * m + 2 * n + j) x (7 * m + 5 * n) (n) (λ p q. omega arith) i;
-    count = seg-set-out w (7 * m + 2 * n + j) x (7 * m + 6 * n) (n) (λ p q. omega arith) i;
-    diff = d;
-  }
-
-  pub size-put : (j x : ℕ) → j < n → 7 * m + 7 * n ≤ length w → view m n (set w (7 * m + 3 * n + j) x) d ≡ size-set (view m n w d) j x
-  unfolding view size-set
-  size-put j x h r = λ i. record {
-    weight = seg-set-out w (7 * m + 3 * n + j) x (0) (m) (λ p q. omega arith) i;
-    first = seg-set-out w (7 * m + 3 * n + j) x (3 * m) (m) (λ p q. omega arith) i;
-    second = seg-set-out w (7 * m + 3 * n + j) x (4 * m) (m) (λ p q. omega arith) i;
-    enext = seg-set-out w (7 * m + 3 * n + j) x (5 * m) (2 * m + n) (λ p q. omega arith) i;
-    rnext = seg-set-out w (7 * m + 3 * n + j) x (7 * m + n) (n) (λ p q. omega arith) i;
-    stamp = seg-set-out w (7 * m + 3 * n + j) x (7 * m + 2 * n) (n) (λ p q. omega arith) i;
-    size = seg-set-in w (7 * m + 3 * n) (n) j x h (omega arith) i;
-    elen = seg-set-out w (7 * m + 3 * n + j) x (7 * m + 4 * n) (n) (λ p q. omega arith) i;
-    rlen = seg-set-out w (7 * m + 3 * n + j) x (7 * m + 5 * n) (n) (λ p q. omega arith) i;
-    count = seg-set-out w (7 * m + 3 * n + j) x (7 * m + 6 * n) (n) (λ p q. omega arith) i;
-    diff = d;
-  }
-
-  pub elen-put : (j x : ℕ) → j < n → 7 * m + 7 * n ≤ length w → view m n (set w (7 * m + 4 * n + j) x) d ≡ elen-set (view m n w d) j x
-  unfolding view elen-set
-  elen-put j x h r = λ i. record {
-    weight = seg-set-out w (7 * m + 4 * n + j) x (0) (m) (λ p q. omega arith) i;
-    first = seg-set-out w (7 * m + 4 * n + j) x (3 * m) (m) (λ p q. omega arith) i;
-    second = seg-set-out w (7 * m + 4 * n + j) x (4 * m) (m) (λ p q. omega arith) i;
-    enext = seg-set-out w (7 * m + 4 * n + j) x (5 * m) (2 * m + n) (λ p q. omega arith) i;
-    rnext = seg-set-out w (7 * m + 4 * n + j) x (7 * m + n) (n) (λ p q. omega arith) i;
-    stamp = seg-set-out w (7 * m + 4 * n + j) x (7 * m + 2 * n) (n) (λ p q. omega arith) i;
-    size = seg-set-out w (7 * m + 4 * n + j) x (7 * m + 3 * n) (n) (λ p q. omega arith) i;
-    elen = seg-set-in w (7 * m + 4 * n) (n) j x h (omega arith) i;
-    rlen = seg-set-out w (7 * m + 4 * n + j) x (7 * m + 5 * n) (n) (λ p q. omega arith) i;
-    count = seg-set-out w (7 * m + 4 * n + j) x (7 * m + 6 * n) (n) (λ p q. omega arith) i;
-    diff = d;
-  }
-
-  pub rlen-put : (j x : ℕ) → j < n → 7 * m + 7 * n ≤ length w → view m n (set w (7 * m + 5 * n + j) x) d ≡ rlen-set (view m n w d) j x
-  unfolding view rlen-set
-  rlen-put j x h r = λ i. record {
-    weight = seg-set-out w (7 * m + 5 * n + j) x (0) (m) (λ p q. omega arith) i;
-    first = seg-set-out w (7 * m + 5 * n + j) x (3 * m) (m) (λ p q. omega arith) i;
-    second = seg-set-out w (7 * m + 5 * n + j) x (4 * m) (m) (λ p q. omega arith) i;
-    enext = seg-set-out w (7 * m + 5 * n + j) x (5 * m) (2 * m + n) (λ p q. omega arith) i;
-    rnext = seg-set-out w (7 * m + 5 * n + j) x (7 * m + n) (n) (λ p q. omega arith) i;
-    stamp = seg-set-out w (7 * m + 5 * n + j) x (7 * m + 2 * n) (n) (λ p q. omega arith) i;
-    size = seg-set-out w (7 * m + 5 * n + j) x (7 * m + 3 * n) (n) (λ p q. omega arith) i;
-    elen = seg-set-out w (7 * m + 5 * n + j) x (7 * m + 4 * n) (n) (λ p q. omega arith) i;
-    rlen = seg-set-in w (7 * m + 5 * n) (n) j x h (omega arith) i;
-    count = seg-set-out w (7 * m + 5 * n + j) x (7 * m + 6 * n) (n) (λ p q. omega arith) i;
-    diff = d;
-  }
-
-  pub count-put : (j x : ℕ) → j < n → 7 * m + 7 * n ≤ length w → view m n (set w (7 * m + 6 * n + j) x) d ≡ count-set (view m n w d) j x
-  unfolding view count-set
-  count-put j x h r = λ i. record {
-    weight = seg-set-out w (7 * m + 6 * n + j) x (0) (m) (λ p q. omega arith) i;
-    first = seg-set-out w (7 * m + 6 * n + j) x (3 * m) (m) (λ p q. omega arith) i;
-    second = seg-set-out w (7 * m + 6 * n + j) x (4 * m) (m) (λ p q. omega arith) i;
-    enext = seg-set-out w (7 * m + 6 * n + j) x (5 * m) (2 * m + n) (λ p q. omega arith) i;
-    rnext = seg-set-out w (7 * m + 6 * n + j) x (7 * m + n) (n) (λ p q. omega arith) i;
-    stamp = seg-set-out w (7 * m + 6 * n + j) x (7 * m + 2 * n) (n) (λ p q. omega arith) i;
-    size = seg-set-out w (7 * m + 6 * n + j) x (7 * m + 3 * n) (n) (λ p q. omega arith) i;
-    elen = seg-set-out w (7 * m + 6 * n + j) x (7 * m + 4 * n) (n) (λ p q. omega arith) i;
-    rlen = seg-set-out w (7 * m + 6 * n + j) x (7 * m + 5 * n) (n) (λ p q. omega arith) i;
-    count = seg-set-in w (7 * m + 6 * n) (n) j x h (omega arith) i;
-    diff = d;
-  }
-
-  pub diff-put : (j : ℕ) (x : Float) → view m n w (set d j x) ≡ diff-set (view m n w d) j x
-  unfolding view diff-set
-  diff-put j x = refl
+pub diff-put : (m n : ℕ) (w : List ℕ) (d : List Float) (j : ℕ) (x : Float) → view m n w (set d j x) ≡ diff-set (view m n w d) j x
+unfolding view diff-set
+diff-put m n w d j x = refl
 
 -- the tree is in no table
 pub view-weighed : (m n : ℕ) (u w : List ℕ) (d : List Float) → Weighed m u w → view m n w d ≡ view m n u d
 unfolding view
-view-weighed m n u w d h = λ i. record {
-  weight = low i;
-  first = high (3 * m) (m) (omega arith) i;
-  second = high (4 * m) (m) (omega arith) i;
-  enext = high (5 * m) (2 * m + n) (omega arith) i;
-  rnext = high (7 * m + n) (n) (omega arith) i;
-  stamp = high (7 * m + 2 * n) (n) (omega arith) i;
-  size = high (7 * m + 3 * n) (n) (omega arith) i;
-  elen = high (7 * m + 4 * n) (n) (omega arith) i;
-  rlen = high (7 * m + 5 * n) (n) (omega arith) i;
-  count = high (7 * m + 6 * n) (n) (omega arith) i;
-  diff = d;
-}
+view-weighed m n u w d h = λ i. record { at = λ t. each t i; diff = d }
   where
     low : seg w 0 m ≡ seg u 0 m
     low = unfold seg in h .weights
@@ -241,3 +66,14 @@ view-weighed m n u w d h = λ i. record {
         let z : 3 * m + (b - 3 * m) ≡ b = omega arith in
         let part : (x : List ℕ) → drop b x ≡ drop (b - 3 * m) (drop (3 * m) x) = λ x. ap (λ (y : ℕ). drop y x) (sym z) ∙ sym (drop-drop (b - 3 * m) (3 * m) x) in
         ap (take l) (part w ∙ ap (drop (b - 3 * m)) (h .rest) ∙ sym (part u))
+
+    none : (b l : ℕ) → l ≡ 0 → seg w b l ≡ seg u b l
+    none b l z = unfold seg in ap (λ (y : ℕ). take y (drop b w)) z ∙ sym (ap (λ (y : ℕ). take y (drop b u)) z)
+
+    later : InTurn (3 * m) (drop 1 (tables m n)) (tableWords m n)
+    later = unfold InTurn in (omega arith, in-turn m n .1 .1)
+
+    each : (t : Table) → seg w (from t m n) (long t m n) ≡ seg u (from t m n) (long t m n)
+    each (table zero) = low
+    each (table (suc k)) =
+        ⊎-elim (high (from (table (suc k)) m n) (long (table (suc k)) m n)) (none (from (table (suc k)) m n) (long (table (suc k)) m n)) (part-start (3 * m) (drop 1 (tables m n)) (tableWords m n) later k)

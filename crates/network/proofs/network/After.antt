@@ -9,11 +9,12 @@ use lib.IntN.{ℤ, _+ℤ_}
 use lib.ListN.{length, getD, set, length-set}
 use lib.Seq.{getD-set-same, getD-set-other}
 use Rattle.network.specs.Network.{Region, gather, raised, bounded}
-use Rattle.merge.specs.Mem.{Mem, Sound, enext-set, rnext-set, size-set, elen-set, rlen-set}
+use Rattle.merge.specs.Mem.{Mem, Sound, store}
+use Rattle.merge.specs.Table.{enext, rnext, stamp, size, elen, rlen, count}
 use Rattle.merge.specs.Steps.{turned, splice, grow}
 use Rattle.network.specs.Net.{rows, edgeOf, edgeNow}
 use Rattle.merge.specs.Chain.{cur, Chains, own-joined, pos-joined, len-joined}
-use Rattle.merge.proofs.merge.SoundSet.{eq-or-ne, sound-enext, sound-rnext, sound-size, sound-elen, sound-rlen}
+use Rattle.merge.proofs.merge.SoundSet.{eq-or-ne, sound-store}
 use Rattle.network.proofs.network.Circles.{joined}
 use Rattle.network.proofs.network.Moved.{same-no, same-yes}
 use lib.Dec.{eqb}
@@ -54,47 +55,47 @@ module _ (m b v : ℕ) (s : Mem) where
   after = grow b v (splice m b v s)
 
   pub after-edges : (j : ℕ) → edgeNow after j ≡ edgeNow s j
-  unfolding edgeNow turned edgeOf grow splice enext-set rnext-set size-set elen-set rlen-set
+  unfolding edgeNow turned edgeOf grow splice store
   after-edges j = refl
 
-  pub after-stamp : after .stamp ≡ s .stamp
-  unfolding grow splice enext-set rnext-set size-set elen-set rlen-set
+  pub after-stamp : after .at stamp ≡ s .at stamp
+  unfolding grow splice store
   after-stamp = refl
 
-  pub after-count : after .count ≡ s .count
-  unfolding grow splice enext-set rnext-set size-set elen-set rlen-set
+  pub after-count : after .at count ≡ s .at count
+  unfolding grow splice store
   after-count = refl
 
-  pub after-rnext : after .rnext ≡ swap (s .rnext) b v
-  unfolding grow splice enext-set rnext-set size-set elen-set rlen-set swap
+  pub after-rnext : after .at rnext ≡ swap (s .at rnext) b v
+  unfolding grow splice store swap
   after-rnext = refl
 
-  pub after-enext : after .enext ≡ swap (s .enext) (2 * m + b) (2 * m + v)
-  unfolding grow splice enext-set rnext-set size-set elen-set rlen-set swap
+  pub after-enext : after .at enext ≡ swap (s .at enext) (2 * m + b) (2 * m + v)
+  unfolding grow splice store swap
   after-enext = refl
 
-  pub after-size : after .size ≡ set (s .size) b (getD (s .size) b 0 + getD (s .size) v 0)
-  unfolding grow splice enext-set rnext-set size-set elen-set rlen-set
+  pub after-size : after .at size ≡ set (s .at size) b (getD (s .at size) b 0 + getD (s .at size) v 0)
+  unfolding grow splice store
   after-size = refl
 
-  pub after-elen : after .elen ≡ set (s .elen) b (getD (s .elen) b 0 + getD (s .elen) v 0)
-  unfolding grow splice enext-set rnext-set size-set elen-set rlen-set
+  pub after-elen : after .at elen ≡ set (s .at elen) b (getD (s .at elen) b 0 + getD (s .at elen) v 0)
+  unfolding grow splice store
   after-elen = refl
 
-  pub after-rlen : after .rlen ≡ set (s .rlen) b (getD (s .rlen) b 0 + getD (s .rlen) v 0)
-  unfolding grow splice enext-set rnext-set size-set elen-set rlen-set
+  pub after-rlen : after .at rlen ≡ set (s .at rlen) b (getD (s .at rlen) b 0 + getD (s .at rlen) v 0)
+  unfolding grow splice store
   after-rlen = refl
 
   pub sound-splice : (n : ℕ) → b < n → v < n → Sound m n s → Sound m n (splice m b v s)
   unfolding splice
   sound-splice n hb hv h =
-      let h₁ : Sound m n (enext-set s (2 * m + b) (getD (s .enext) (2 * m + v) 0)) = sound-enext m n s h (2 * m + b) (getD (s .enext) (2 * m + v) 0) (omega arith) (h .enext-in (2 * m + v) (omega arith)) in
-      let h₂ : Sound m n (enext-set (enext-set s (2 * m + b) (getD (s .enext) (2 * m + v) 0)) (2 * m + v) (getD (s .enext) (2 * m + b) 0)) = sound-enext m n _ h₁ (2 * m + v) (getD (s .enext) (2 * m + b) 0) (omega arith) (h .enext-in (2 * m + b) (omega arith)) in
-      sound-rnext m n _ (sound-rnext m n _ h₂ b (getD (s .rnext) v 0) hb (h .rnext-in v hv)) v (getD (s .rnext) b 0) hv (h .rnext-in b hb)
+      let h₁ : Sound m n (store enext s (2 * m + b) (getD (s .at enext) (2 * m + v) 0)) = sound-store enext m n s h (2 * m + b) (getD (s .at enext) (2 * m + v) 0) refl (h .within enext (2 * m + v) (omega arith)) in
+      let h₂ : Sound m n (store enext (store enext s (2 * m + b) (getD (s .at enext) (2 * m + v) 0)) (2 * m + v) (getD (s .at enext) (2 * m + b) 0)) = sound-store enext m n _ h₁ (2 * m + v) (getD (s .at enext) (2 * m + b) 0) refl (h .within enext (2 * m + b) (omega arith)) in
+      sound-store rnext m n _ (sound-store rnext m n _ h₂ b (getD (s .at rnext) v 0) refl (h .within rnext v hv)) v (getD (s .at rnext) b 0) refl (h .within rnext b hb)
 
   pub sound-after : (n : ℕ) → b < n → v < n → Sound m n s → Sound m n after
   unfolding grow
-  sound-after n hb hv h = sound-rlen m n _ (sound-elen m n _ (sound-size m n _ (sound-splice n hb hv h) b _) b _) b _
+  sound-after n hb hv h = sound-store rlen m n _ (sound-store elen m n _ (sound-store size m n _ (sound-splice n hb hv h) b _ refl tt) b _ refl tt) b _ refl tt
 
 -- a table with a sum at b
 pub sum-there : (l : List ℕ) (n b v x : ℕ) → length l ≡ n → b < n → getD (set l b (getD l b 0 + getD l v 0)) x 0 ≡ cond (eqb b x) (getD l b 0 + getD l v 0) (getD l x 0)

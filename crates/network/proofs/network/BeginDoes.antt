@@ -7,10 +7,12 @@ use native.Mathlib.Omega.{arith}
 use lib.ListN.{length, getD, set, length-set}
 use lib.Seq.{getD-set-same, getD-set-other}
 use Rattle.memory.proofs.tree.TreeLaws.{tree-set}
-use Rattle.merge.specs.Mem.{Mem, view, Room, enext-set, stamp-set, elen-set, rlen-set, count-set}
+use Rattle.memory.specs.Layout.{tableWords}
+use Rattle.merge.specs.Mem.{Mem, view, Room, store}
+use Rattle.merge.specs.Table.{first, second, enext, rnext, stamp, elen, rlen, count}
 use Rattle.merge.specs.Does.{Does}
 use Rattle.network.specs.Begin.{slotsFrom, regionsFrom, linkAt, linkEdge, linkFrom, Linkable}
-use Rattle.merge.proofs.merge.View.{enext-at, elen-at, first-at, second-at, enext-put, rnext-put, elen-put, rlen-put, count-put, stamp-put}
+use Rattle.merge.proofs.merge.View.{read, write}
 use Rattle.merge.proofs.merge.Leaf.{room-of}
 use Rattle.merge.proofs.merge.SoundSet.{eq-or-ne}
 use lib.Ieee.{Float}
@@ -25,7 +27,7 @@ pub record Going (m n : ℕ) (rest : ℕ → Mem → ℕ → Mem) (w₀ : List �
 pub going-start : (m n : ℕ) (rest : ℕ → Mem → ℕ → Mem) (w : List ℕ) (d : List Float) (l : ℕ) → Room m n w d → Going m n rest w w d l 0 (rest l (view m n w d) 0)
 going-start m n rest w d l r = let z : l - 0 ≡ l = omega arith in record { room = r; most = omega arith; left = ap (λ (x : ℕ). rest x (view m n w d) 0) z; same-w = refl }
 
-slots-law : (k : ℕ) (s : Mem) (i : ℕ) → slotsFrom (suc k) s i ≡ slotsFrom k (enext-set s i i) (i + 1)
+slots-law : (k : ℕ) (s : Mem) (i : ℕ) → slotsFrom (suc k) s i ≡ slotsFrom k (store enext s i i) (i + 1)
 unfolding slotsFrom
 slots-law k s i = refl
 
@@ -36,7 +38,7 @@ slots-turn m n w₀ w d i goal k lt =
     record {
       room = room-of m n w (set w (5 * m + i) i) d d (k .room) lw refl (tree-set m w (5 * m + i) i (omega arith) (k .room .tree));
       most = omega arith;
-      left = ap (λ (s : Mem). slotsFrom (2 * m + n - (i + 1)) s (i + 1)) (enext-put m n w d i i lt (k .room .words)) ∙ sym (slots-law (2 * m + n - (i + 1)) (view m n w d) i) ∙ ap (λ (x : ℕ). slotsFrom x (view m n w d) i) (sym z) ∙ k .left;
+      left = ap (λ (s : Mem). slotsFrom (2 * m + n - (i + 1)) s (i + 1)) (write enext m n w d i i lt (k .room .words)) ∙ sym (slots-law (2 * m + n - (i + 1)) (view m n w d) i) ∙ ap (λ (x : ℕ). slotsFrom x (view m n w d) i) (sym z) ∙ k .left;
       same-w = lw ∙ k .same-w;
     }
 
@@ -56,7 +58,7 @@ regions-turn m n w₀ w d x goal k lt =
     let w₃ : List ℕ = set w₂ (7 * m + 4 * n + x) 1 in
     let w₄ : List ℕ = set w₃ (7 * m + 6 * n + x) 1000 in
     let w₅ : List ℕ = set w₄ (7 * m + 2 * n + x) 0 in
-    let l₀ : 7 * m + 7 * n ≤ length w = k .room .words in
+    let l₀ : tableWords m n ≤ length w = k .room .words in
     let l₁ : length w₁ ≡ length w = length-set w (7 * m + n + x) x in
     let l₂ : length w₂ ≡ length w₁ = length-set w₁ (7 * m + 5 * n + x) 1 in
     let l₃ : length w₃ ≡ length w₂ = length-set w₂ (7 * m + 4 * n + x) 1 in
@@ -67,11 +69,11 @@ regions-turn m n w₀ w d x goal k lt =
           (tree-set m w₄ (7 * m + 2 * n + x) 0 (omega arith) (tree-set m w₃ (7 * m + 6 * n + x) 1000 (omega arith) (tree-set m w₂ (7 * m + 4 * n + x) 1 (omega arith) (tree-set m w₁ (7 * m + 5 * n + x) 1 (omega arith) (tree-set m w (7 * m + n + x) x (omega arith) (k .room .tree))))));
       most = omega arith;
       left = ap (λ (s : Mem). regionsFrom (n - (x + 1)) s (x + 1))
-          (stamp-put m n w₄ d x 0 lt (omega arith)
-          ∙ ap (λ (s : Mem). stamp-set s x 0) (count-put m n w₃ d x 1000 lt (omega arith)
-          ∙ ap (λ (s : Mem). count-set s x 1000) (elen-put m n w₂ d x 1 lt (omega arith)
-          ∙ ap (λ (s : Mem). elen-set s x 1) (rlen-put m n w₁ d x 1 lt (omega arith)
-          ∙ ap (λ (s : Mem). rlen-set s x 1) (rnext-put m n w d x x lt l₀)))))
+          (write stamp m n w₄ d x 0 lt (omega arith)
+          ∙ ap (λ (s : Mem). store stamp s x 0) (write count m n w₃ d x 1000 lt (omega arith)
+          ∙ ap (λ (s : Mem). store count s x 1000) (write elen m n w₂ d x 1 lt (omega arith)
+          ∙ ap (λ (s : Mem). store elen s x 1) (write rlen m n w₁ d x 1 lt (omega arith)
+          ∙ ap (λ (s : Mem). store rlen s x 1) (write rnext m n w d x x lt l₀)))))
           ∙ ap (λ (y : ℕ). regionsFrom y (view m n w d) x) (sym z) ∙ k .left;
       same-w = l₅ ∙ l₄ ∙ l₃ ∙ l₂ ∙ l₁ ∙ k .same-w;
     }
@@ -90,30 +92,30 @@ link-does m n w d r a i ha hi =
     let l : ℕ = getD w (7 * m + 4 * n + a) 0 in
     let w₁ : List ℕ = set w (5 * m + (2 * m + a)) t in
     let w₂ : List ℕ = set w₁ (5 * m + i) h in
-    let l₀ : 7 * m + 7 * n ≤ length w = r .words in
+    let l₀ : tableWords m n ≤ length w = r .words in
     let l₁ : length w₁ ≡ length w = length-set w (5 * m + (2 * m + a)) t in
     let l₂ : length w₂ ≡ length w₁ = length-set w₁ (5 * m + i) h in
     record {
-      tables = rw (enext-at m n w d i (omega arith), enext-at m n w d (2 * m + a) (omega arith), elen-at m n w d a ha)
-          (elen-put m n w₂ d a (l + 1) ha (omega arith)
-          ∙ ap (λ (s : Mem). elen-set s a (l + 1)) (enext-put m n w₁ d i h (omega arith) (omega arith)
-          ∙ ap (λ (s : Mem). enext-set s i h) (enext-put m n w d (2 * m + a) t (omega arith) l₀)));
+      tables = rw (read enext m n w d i (omega arith), read enext m n w d (2 * m + a) (omega arith), read elen m n w d a ha)
+          (write elen m n w₂ d a (l + 1) ha (omega arith)
+          ∙ ap (λ (s : Mem). store elen s a (l + 1)) (write enext m n w₁ d i h (omega arith) (omega arith)
+          ∙ ap (λ (s : Mem). store enext s i h) (write enext m n w d (2 * m + a) t (omega arith) l₀)));
       tree = tree-set m w₂ (7 * m + 4 * n + a) (l + 1) (omega arith) (tree-set m w₁ (5 * m + i) h (omega arith) (tree-set m w (5 * m + (2 * m + a)) t (omega arith) (r .tree)));
     }
 
-link-len : (m a i : ℕ) (s : Mem) (x : ℕ) → getD (linkAt m a i s .elen) x 0 ≤ getD (s .elen) x 0 + 1
-unfolding linkAt enext-set elen-set
+link-len : (m a i : ℕ) (s : Mem) (x : ℕ) → getD (linkAt m a i s .at elen) x 0 ≤ getD (s .at elen) x 0 + 1
+unfolding linkAt store
 link-len m a i s x = ⊎-elim
     (λ e. ⊎-elim
-    (λ p. let q : getD (set (s .elen) a (getD (s .elen) a 0 + 1)) x 0 ≡ getD (s .elen) a 0 + 1 = ap (λ (y : ℕ). getD (set (s .elen) a (getD (s .elen) a 0 + 1)) y 0) e ∙ getD-set-same (s .elen) a (getD (s .elen) a 0 + 1) 0 p in
-    let z : getD (s .elen) x 0 ≡ getD (s .elen) a 0 = ap (λ (y : ℕ). getD (s .elen) y 0) e in omega arith)
-    (λ p. let q : getD (set (s .elen) a (getD (s .elen) a 0 + 1)) x 0 ≡ getD (s .elen) x 0 = ap (λ (y : List ℕ). getD y x 0) (lib.Seq.set-out (s .elen) a (getD (s .elen) a 0 + 1) p) in omega arith)
-    (Rattle.merge.proofs.merge.Bias.lt-or-le a (length (s .elen))))
-    (λ e. let q : getD (set (s .elen) a (getD (s .elen) a 0 + 1)) x 0 ≡ getD (s .elen) x 0 = getD-set-other (s .elen) a x (getD (s .elen) a 0 + 1) 0 e in omega arith)
+    (λ p. let q : getD (set (s .at elen) a (getD (s .at elen) a 0 + 1)) x 0 ≡ getD (s .at elen) a 0 + 1 = ap (λ (y : ℕ). getD (set (s .at elen) a (getD (s .at elen) a 0 + 1)) y 0) e ∙ getD-set-same (s .at elen) a (getD (s .at elen) a 0 + 1) 0 p in
+    let z : getD (s .at elen) x 0 ≡ getD (s .at elen) a 0 = ap (λ (y : ℕ). getD (s .at elen) y 0) e in omega arith)
+    (λ p. let q : getD (set (s .at elen) a (getD (s .at elen) a 0 + 1)) x 0 ≡ getD (s .at elen) x 0 = ap (λ (y : List ℕ). getD y x 0) (lib.Seq.set-out (s .at elen) a (getD (s .at elen) a 0 + 1) p) in omega arith)
+    (Rattle.merge.proofs.merge.Bias.lt-or-le a (length (s .at elen))))
+    (λ e. let q : getD (set (s .at elen) a (getD (s .at elen) a 0 + 1)) x 0 ≡ getD (s .at elen) x 0 = getD-set-other (s .at elen) a x (getD (s .at elen) a 0 + 1) 0 e in omega arith)
     (eq-or-ne x a)
 
-link-ends : (m a i : ℕ) (s : Mem) → (linkAt m a i s .first ≡ s .first) × (linkAt m a i s .second ≡ s .second)
-unfolding linkAt enext-set elen-set
+link-ends : (m a i : ℕ) (s : Mem) → (linkAt m a i s .at first ≡ s .at first) × (linkAt m a i s .at second ≡ s .at second)
+unfolding linkAt store
 link-ends m a i s = (refl, refl)
 
 -- ---- link_all
@@ -138,22 +140,22 @@ module _ (m n : ℕ) (w₀ : List ℕ) (d₀ : List Float) (w : List ℕ) (d : L
   abbrev b : ℕ
   b = getD w (4 * m + j) 0
 
-  first-is : getD (s .first) j 0 ≡ a
-  first-is = first-at m n w d j lt
+  first-is : getD (s .at first) j 0 ≡ a
+  first-is = read first m n w d j lt
 
-  second-is : getD (s .second) j 0 ≡ b
-  second-is = second-at m n w d j lt
+  second-is : getD (s .at second) j 0 ≡ b
+  second-is = read second m n w d j lt
 
-  pub link-one : Room m n w d × (((a < n) × (2 * j < 2 * m)) × (getD (s .elen) a 0 + 1 < 2 ^ 32))
+  pub link-one : Room m n w d × (((a < n) × (2 * j < 2 * m)) × (getD (s .at elen) a 0 + 1 < 2 ^ 32))
   link-one =
       let ha : a < n = omega (arith, first-is, k .able .first-in j lt) in
       (k .room, ((ha, omega arith), omega (arith, k .able .lengths a ha, k .room .small)))
 
   module _ (w₁ : List ℕ) (d₁ : List Float) (lw₁ : length w₁ ≡ length w) (ld₁ : length d₁ ≡ length d) (D₁ : Does m n w₁ d₁ (linkAt m a (2 * j) s)) where
-    pub link-two : Room m n w₁ d₁ × (((b < n) × (2 * j + 1 < 2 * m)) × (getD (view m n w₁ d₁ .elen) b 0 + 1 < 2 ^ 32))
+    pub link-two : Room m n w₁ d₁ × (((b < n) × (2 * j + 1 < 2 * m)) × (getD (view m n w₁ d₁ .at elen) b 0 + 1 < 2 ^ 32))
     link-two =
         let hb : b < n = omega (arith, second-is, k .able .second-in j lt) in
-        let e : getD (view m n w₁ d₁ .elen) b 0 ≡ getD (linkAt m a (2 * j) s .elen) b 0 = ap (λ (u : Mem). getD (u .elen) b 0) (D₁ .tables) in
+        let e : getD (view m n w₁ d₁ .at elen) b 0 ≡ getD (linkAt m a (2 * j) s .at elen) b 0 = ap (λ (u : Mem). getD (u .at elen) b 0) (D₁ .tables) in
         (room-of m n w w₁ d d₁ (k .room) lw₁ ld₁ (D₁ .tree), ((hb, omega arith), omega (arith, link-len m a (2 * j) s b, k .able .lengths b hb, k .room .small)))
 
     pub link-turn : (w₂ : List ℕ) (d₂ : List Float) → length w₂ ≡ length w₁ → length d₂ ≡ length d₁ → Does m n w₂ d₂ (linkAt m b (2 * j + 1) (view m n w₁ d₁)) → Linking m n w₀ d₀ w₂ d₂ (j + 1) goal
@@ -171,7 +173,7 @@ module _ (m n : ℕ) (w₀ : List ℕ) (d₀ : List Float) (w : List ℕ) (d : L
             lengths = λ x h. omega (arith, link-len m b (2 * j + 1) s₁ x, link-len m a (2 * j) s x, k .able .lengths x h);
           });
           most = omega arith;
-          left = ap (λ (u : Mem). linkFrom (m - (j + 1)) m u (j + 1)) (e ∙ ap (λ (y : ℕ). linkAt m y (2 * j + 1) s₁) (sym second-is) ∙ ap (λ (y : ℕ). linkAt m (getD (s .second) j 0) (2 * j + 1) (linkAt m y (2 * j) s)) (sym first-is))
+          left = ap (λ (u : Mem). linkFrom (m - (j + 1)) m u (j + 1)) (e ∙ ap (λ (y : ℕ). linkAt m y (2 * j + 1) s₁) (sym second-is) ∙ ap (λ (y : ℕ). linkAt m (getD (s .at second) j 0) (2 * j + 1) (linkAt m y (2 * j) s)) (sym first-is))
               ∙ ap (λ (y : ℕ). linkFrom y m s j) (sym z) ∙ k .left;
           same-w = lw₂ ∙ lw₁ ∙ k .same-w;
           same-d = ld₂ ∙ ld₁ ∙ k .same-d;

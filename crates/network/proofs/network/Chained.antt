@@ -8,12 +8,13 @@ use native.Mathlib.Omega.{arith}
 use lib.ListN.{getD}
 use Rattle.network.specs.Network.{Edge}
 use Rattle.merge.specs.Mem.{Mem}
+use Rattle.merge.specs.Table.{enext, elen}
 use Rattle.merge.specs.Chain.{cur, Chains}
 use Rattle.network.specs.Rep.{Circled, Ends}
 use Rattle.network.proofs.network.Circles.{later}
 
 -- the same chains in other tables
-pub circled-by : (m n : ℕ) (node : ℕ → ℕ) (E : ℕ → Edge) (s s' : Mem) (o q l : ℕ → ℕ) → s' .enext ≡ s .enext → s' .elen ≡ s .elen → Circled m n node E s o q l → Circled m n node E s' o q l
+pub circled-by : (m n : ℕ) (node : ℕ → ℕ) (E : ℕ → Edge) (s s' : Mem) (o q l : ℕ → ℕ) → s' .at enext ≡ s .at enext → s' .at elen ≡ s .at elen → Circled m n node E s o q l → Circled m n node E s' o q l
 circled-by m n node E s s' o q l e f C = record {
   echains = subst (λ (N : List ℕ). Chains N (2 * m + n) o q l) (sym e) (C .echains);
   header = C .header;
@@ -54,14 +55,14 @@ at-end m o j e x h = go
 
 -- a slot of node x's chain is met on the walk along it
 pub met : (m n : ℕ) (node : ℕ → ℕ) (K : ℕ → Edge) (s : Mem) (o q l : ℕ → ℕ) → Circled m n node K s o q l → (j x : ℕ) → x < n → node x ≡ x → At m o j x
-    → (i : ℕ) × (i < getD (s .elen) x 0 - 1) × (cur (s .enext) (getD (s .enext) (2 * m + x) 0) i / 2 ≡ j)
+    → (i : ℕ) × (i < getD (s .at elen) x 0 - 1) × (cur (s .at enext) (getD (s .at enext) (2 * m + x) 0) i / 2 ≡ j)
 unfolding cur
 met m n node K s o q l C j x h w a =
     let sl : ℕ = a .slot in
     let inside : sl < 2 * m + n = omega (arith, a .slot-in) in
-    let p : 1 ≤ q sl = later (s .enext) (2 * m + n) o q l (C .echains) sl inside (λ e. omega (arith, a .owner, a .slot-in)) in
+    let p : 1 ≤ q sl = later (s .at enext) (2 * m + n) o q l (C .echains) sl inside (λ e. omega (arith, a .owner, a .slot-in)) in
     let k : suc (q sl - 1) ≡ q sl = omega arith in (
       q sl - 1,
       omega (arith, C .echains .here sl inside, ap l (a .owner), C .lengths x h w),
-      ap (λ (y : ℕ). cur (s .enext) (2 * m + x) y / 2) k ∙ ap (λ (y : ℕ). cur (s .enext) y (q sl) / 2) (sym (a .owner)) ∙ ap (λ (y : ℕ). y / 2) (C .echains .at sl inside) ∙ a .slot-of,
+      ap (λ (y : ℕ). cur (s .at enext) (2 * m + x) y / 2) k ∙ ap (λ (y : ℕ). cur (s .at enext) y (q sl) / 2) (sym (a .owner)) ∙ ap (λ (y : ℕ). y / 2) (C .echains .at sl inside) ∙ a .slot-of,
     )

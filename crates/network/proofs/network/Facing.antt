@@ -10,7 +10,8 @@ use lib.ListN.{getD}
 use lib.Seq.{getD-set-same, getD-set-other}
 use borrow.Author.Tests.{ltb-true, lt-ltb, le-ltb, eq-eqb, ne-eqb}
 use Rattle.network.specs.Network.{Edge, turn, turnIf}
-use Rattle.merge.specs.Mem.{Mem, Sound, weight-set, first-set, second-set, stamp-set, diff-set}
+use Rattle.merge.specs.Mem.{Mem, Sound, store, diff-set}
+use Rattle.merge.specs.Table.{weight, first, second, stamp}
 use Rattle.merge.specs.Steps.{turnAt, turned, faceAt, absorbAt, attachAt}
 use Rattle.network.specs.Net.{edgeOf, edgeNow}
 use Rattle.merge.proofs.merge.SoundSet.{eq-or-ne}
@@ -64,9 +65,9 @@ module _ (s : Mem) (j : ℕ) where
 
 -- what the words say of an edge that stands as e
 pub record Stands (s : Mem) (j : ℕ) (e : Edge) : Type 0 where
-  pub some : getD (s .weight) j 0 ≡ 0 → ⊥
-  pub weight-is : getD (s .weight) j 0 ≡ e .weight
-  pub ends : ((getD (s .first) j 0 ≡ e .first) × (getD (s .second) j 0 ≡ e .second)) ⊎ ((getD (s .first) j 0 ≡ e .second) × (getD (s .second) j 0 ≡ e .first))
+  pub some : getD (s .at weight) j 0 ≡ 0 → ⊥
+  pub weight-is : getD (s .at weight) j 0 ≡ e .weight
+  pub ends : ((getD (s .at first) j 0 ≡ e .first) × (getD (s .at second) j 0 ≡ e .second)) ⊎ ((getD (s .at first) j 0 ≡ e .second) × (getD (s .at second) j 0 ≡ e .first))
 
 pub stands : (s : Mem) (j : ℕ) (e : Edge) → edgeNow s j ≡ e → e .live ≡ true → Stands s j e
 unfolding edgeNow turnIf edgeOf
@@ -76,31 +77,31 @@ stands s j e h l = record {
   ends = go (turned s j) (ap (λ (x : Edge). x .first) h) (ap (λ (x : Edge). x .second) h);
 }
   where
-    go : (t : Bool) → cond t (getD (s .second) j 0) (getD (s .first) j 0) ≡ e .first → cond t (getD (s .first) j 0) (getD (s .second) j 0) ≡ e .second
-        → ((getD (s .first) j 0 ≡ e .first) × (getD (s .second) j 0 ≡ e .second)) ⊎ ((getD (s .first) j 0 ≡ e .second) × (getD (s .second) j 0 ≡ e .first))
+    go : (t : Bool) → cond t (getD (s .at second) j 0) (getD (s .at first) j 0) ≡ e .first → cond t (getD (s .at first) j 0) (getD (s .at second) j 0) ≡ e .second
+        → ((getD (s .at first) j 0 ≡ e .first) × (getD (s .at second) j 0 ≡ e .second)) ⊎ ((getD (s .at first) j 0 ≡ e .second) × (getD (s .at second) j 0 ≡ e .first))
     go true p q = inr (q, p)
     go false p q = inl (p, q)
 
 -- ends in range
 pub stands-in : (m n : ℕ) (s : Mem) (j : ℕ) (e : Edge) → Sound m n s → j < m → Stands s j e → (e .first < n) × (e .second < n)
 stands-in m n s j e h lt w = ⊎-elim
-    (λ p. (omega (arith, p .0, h .first-in j lt), omega (arith, p .1, h .second-in j lt)))
-    (λ p. (omega (arith, p .1, h .second-in j lt), omega (arith, p .0, h .first-in j lt)))
+    (λ p. (omega (arith, p .0, h .within first j lt), omega (arith, p .1, h .within second j lt)))
+    (λ p. (omega (arith, p .1, h .within second j lt), omega (arith, p .0, h .within first j lt)))
     (w .ends)
 
 -- ---- facing
 module _ (m n : ℕ) (s : Mem) (h : Sound m n s) (f : ℕ) (lt : f < m) where
   -- the stamps of the ends of an edge that is turned
   back : turned s f ≡ true → turned (turnAt s f) f ≡ false
-  unfolding turned turnAt first-set second-set diff-set
+  unfolding turned turnAt store diff-set
   back e =
-      let p : getD (s .stamp) (getD (s .first) f 0) 0 < getD (s .stamp) (getD (s .second) f 0) 0 = ltb-true (getD (s .stamp) (getD (s .first) f 0) 0) (getD (s .stamp) (getD (s .second) f 0) 0) e in
-      rw (getD-set-same (s .first) f (getD (s .second) f 0) 0 (omega (arith, h .l-first)), getD-set-same (s .second) f (getD (s .first) f 0) 0 (omega (arith, h .l-second)))
-      (le-ltb (getD (s .stamp) (getD (s .second) f 0) 0) (getD (s .stamp) (getD (s .first) f 0) 0) (omega arith))
+      let p : getD (s .at stamp) (getD (s .at first) f 0) 0 < getD (s .at stamp) (getD (s .at second) f 0) 0 = ltb-true (getD (s .at stamp) (getD (s .at first) f 0) 0) (getD (s .at stamp) (getD (s .at second) f 0) 0) e in
+      rw (getD-set-same (s .at first) f (getD (s .at second) f 0) 0 (omega (arith, h .lengths first)), getD-set-same (s .at second) f (getD (s .at first) f 0) 0 (omega (arith, h .lengths second)))
+      (le-ltb (getD (s .at stamp) (getD (s .at second) f 0) 0) (getD (s .at stamp) (getD (s .at first) f 0) 0) (omega arith))
 
   else-turned : (j : ℕ) → (j ≡ f → ⊥) → turned (turnAt s f) j ≡ turned s j
-  unfolding turned turnAt first-set second-set diff-set
-  else-turned j ne = rw (getD-set-other (s .first) f j (getD (s .second) f 0) 0 ne, getD-set-other (s .second) f j (getD (s .first) f 0) 0 ne) refl
+  unfolding turned turnAt store diff-set
+  else-turned j ne = rw (getD-set-other (s .at first) f j (getD (s .at second) f 0) 0 ne, getD-set-other (s .at second) f j (getD (s .at first) f 0) 0 ne) refl
 
   swapped : edgeOf (turnAt s f) f ≡ turnIf true (edgeOf s f)
   unfolding turnIf edgeOf
@@ -129,94 +130,94 @@ module _ (m n : ℕ) (s : Mem) (h : Sound m n s) (f : ℕ) (lt : f < m) where
       go false e = e
 
 -- ---- the newest base's edges stand from it
-pub mate-now : (m b : ℕ) (s : Mem) (c q : ℕ) → Mate m b s c q → getD (s .stamp) c 0 < getD (s .stamp) b 0 → (edgeNow s q .first ≡ b) × (edgeNow s q .second ≡ c)
+pub mate-now : (m b : ℕ) (s : Mem) (c q : ℕ) → Mate m b s c q → getD (s .at stamp) c 0 < getD (s .at stamp) b 0 → (edgeNow s q .first ≡ b) × (edgeNow s q .second ≡ c)
 unfolding edgeOf turnIf
 mate-now m b s c q t lt = go (t .ends)
   where
-    go : ((getD (s .first) q 0 ≡ b) × (getD (s .second) q 0 ≡ c)) ⊎ ((getD (s .first) q 0 ≡ c) × (getD (s .second) q 0 ≡ b)) → (edgeNow s q .first ≡ b) × (edgeNow s q .second ≡ c)
+    go : ((getD (s .at first) q 0 ≡ b) × (getD (s .at second) q 0 ≡ c)) ⊎ ((getD (s .at first) q 0 ≡ c) × (getD (s .at second) q 0 ≡ b)) → (edgeNow s q .first ≡ b) × (edgeNow s q .second ≡ c)
     go (inl e) =
-        let no : turned s q ≡ false = unfold turned in rw (e .0, e .1) (le-ltb (getD (s .stamp) b 0) (getD (s .stamp) c 0) (omega arith)) in
+        let no : turned s q ≡ false = unfold turned in rw (e .0, e .1) (le-ltb (getD (s .at stamp) b 0) (getD (s .at stamp) c 0) (omega arith)) in
         (ap (λ (x : Edge). x .first) (now-straight s q no) ∙ e .0, ap (λ (x : Edge). x .second) (now-straight s q no) ∙ e .1)
     go (inr e) =
-        let yes : turned s q ≡ true = unfold turned in rw (e .0, e .1) (lt-ltb (getD (s .stamp) c 0) (getD (s .stamp) b 0) lt) in
+        let yes : turned s q ≡ true = unfold turned in rw (e .0, e .1) (lt-ltb (getD (s .at stamp) c 0) (getD (s .at stamp) b 0) lt) in
         (ap (λ (x : Edge). x .first) (now-turned s q yes) ∙ e .1, ap (λ (x : Edge). x .second) (now-turned s q yes) ∙ e .0)
 
 -- ---- a stamp greater than all others turns the node's edges to it
-module _ (m n : ℕ) (s : Mem) (h : Sound m n s) (b k : ℕ) (hb : b < n) (newest : (x : ℕ) → getD (s .stamp) x 0 < k) where
-  at-b : getD (stamp-set s b k .stamp) b 0 ≡ k
-  unfolding stamp-set
-  at-b = getD-set-same (s .stamp) b k 0 (omega (arith, h .l-stamp))
+module _ (m n : ℕ) (s : Mem) (h : Sound m n s) (b k : ℕ) (hb : b < n) (newest : (x : ℕ) → getD (s .at stamp) x 0 < k) where
+  at-b : getD (store stamp s b k .at stamp) b 0 ≡ k
+  unfolding store
+  at-b = getD-set-same (s .at stamp) b k 0 (omega (arith, h .lengths stamp))
 
-  else : (x : ℕ) → (x ≡ b → ⊥) → getD (stamp-set s b k .stamp) x 0 ≡ getD (s .stamp) x 0
-  unfolding stamp-set
-  else x ne = getD-set-other (s .stamp) b x k 0 ne
+  else : (x : ℕ) → (x ≡ b → ⊥) → getD (store stamp s b k .at stamp) x 0 ≡ getD (s .at stamp) x 0
+  unfolding store
+  else x ne = getD-set-other (s .at stamp) b x k 0 ne
 
-  pub stamp-newest : (x : ℕ) → (x ≡ b → ⊥) → getD (stamp-set s b k .stamp) x 0 < getD (stamp-set s b k .stamp) b 0
+  pub stamp-newest : (x : ℕ) → (x ≡ b → ⊥) → getD (store stamp s b k .at stamp) x 0 < getD (store stamp s b k .at stamp) b 0
   stamp-newest x ne = omega (arith, at-b, else x ne, newest x)
 
-  pub stamp-most : (x : ℕ) → getD (stamp-set s b k .stamp) x 0 ≤ k
+  pub stamp-most : (x : ℕ) → getD (store stamp s b k .at stamp) x 0 ≤ k
   stamp-most x = ⊎-elim (λ e. rw e (omega (arith, at-b))) (λ e. omega (arith, else x e, newest x)) (eq-or-ne x b)
 
-  module _ (j : ℕ) (proper : getD (s .first) j 0 ≡ getD (s .second) j 0 → ⊥) where
+  module _ (j : ℕ) (proper : getD (s .at first) j 0 ≡ getD (s .at second) j 0 → ⊥) where
     abbrev x : ℕ
-    x = getD (s .first) j 0
+    x = getD (s .at first) j 0
 
     abbrev y : ℕ
-    y = getD (s .second) j 0
+    y = getD (s .at second) j 0
 
-    stored : edgeOf (stamp-set s b k) j ≡ edgeOf s j
-    unfolding edgeOf stamp-set
+    stored : edgeOf (store stamp s b k) j ≡ edgeOf s j
+    unfolding edgeOf store
     stored = refl
 
-    turned-by : turned (stamp-set s b k) j ≡ ltb (getD (stamp-set s b k .stamp) x 0) (getD (stamp-set s b k .stamp) y 0)
-    unfolding turned stamp-set
+    turned-by : turned (store stamp s b k) j ≡ ltb (getD (store stamp s b k .at stamp) x 0) (getD (store stamp s b k .at stamp) y 0)
+    unfolding turned store
     turned-by = refl
 
-    second-b : y ≡ b → edgeNow (stamp-set s b k) j ≡ turn b (edgeNow s j)
+    second-b : y ≡ b → edgeNow (store stamp s b k) j ≡ turn b (edgeNow s j)
     unfolding edgeOf turnIf
     second-b e =
         let far : x ≡ b → ⊥ = λ w. proper (w ∙ sym e) in
-        let yes : turned (stamp-set s b k) j ≡ true = turned-by ∙ (rw e (lt-ltb (getD (stamp-set s b k .stamp) x 0) (getD (stamp-set s b k .stamp) b 0) (stamp-newest x far))) in
-        now-turned (stamp-set s b k) j yes ∙ ap (turnIf true) stored ∙ go far (turned s j) refl
+        let yes : turned (store stamp s b k) j ≡ true = turned-by ∙ (rw e (lt-ltb (getD (store stamp s b k .at stamp) x 0) (getD (store stamp s b k .at stamp) b 0) (stamp-newest x far))) in
+        now-turned (store stamp s b k) j yes ∙ ap (turnIf true) stored ∙ go far (turned s j) refl
       where
         go : (x ≡ b → ⊥) → (t : Bool) → turned s j ≡ t → turnIf true (edgeOf s j) ≡ turn b (edgeNow s j)
         go far true w = sym (ap (turn b) (now-turned s j w) ∙ turn-no b (turnIf true (edgeOf s j)) far)
         go far false w = sym (ap (turn b) (now-straight s j w) ∙ turn-yes b (edgeOf s j) e)
 
-    first-b : x ≡ b → edgeNow (stamp-set s b k) j ≡ turn b (edgeNow s j)
+    first-b : x ≡ b → edgeNow (store stamp s b k) j ≡ turn b (edgeNow s j)
     unfolding edgeOf turnIf
     first-b e =
         let far : y ≡ b → ⊥ = λ w. proper (e ∙ sym w) in
-        let no : turned (stamp-set s b k) j ≡ false = turned-by ∙ (rw e (le-ltb (getD (stamp-set s b k .stamp) b 0) (getD (stamp-set s b k .stamp) y 0) (omega (arith, stamp-newest y far)))) in
-        now-straight (stamp-set s b k) j no ∙ stored ∙ go far (turned s j) refl
+        let no : turned (store stamp s b k) j ≡ false = turned-by ∙ (rw e (le-ltb (getD (store stamp s b k .at stamp) b 0) (getD (store stamp s b k .at stamp) y 0) (omega (arith, stamp-newest y far)))) in
+        now-straight (store stamp s b k) j no ∙ stored ∙ go far (turned s j) refl
       where
         go : (y ≡ b → ⊥) → (t : Bool) → turned s j ≡ t → edgeOf s j ≡ turn b (edgeNow s j)
         go far true w = sym (ap (turn b) (now-turned s j w) ∙ turn-yes b (turnIf true (edgeOf s j)) e ∙ if-twice (edgeOf s j))
         go far false w = sym (ap (turn b) (now-straight s j w) ∙ turn-no b (edgeOf s j) far)
 
-    neither : (x ≡ b → ⊥) → (y ≡ b → ⊥) → edgeNow (stamp-set s b k) j ≡ turn b (edgeNow s j)
+    neither : (x ≡ b → ⊥) → (y ≡ b → ⊥) → edgeNow (store stamp s b k) j ≡ turn b (edgeNow s j)
     unfolding edgeOf turnIf
     neither p q =
-        let same : turned (stamp-set s b k) j ≡ turned s j = turned-by ∙ (rw (else x p, else y q) (unfold turned in refl)) in
-        now-by s j (stamp-set s b k) same stored ∙ go (turned s j) refl
+        let same : turned (store stamp s b k) j ≡ turned s j = turned-by ∙ (rw (else x p, else y q) (unfold turned in refl)) in
+        now-by s j (store stamp s b k) same stored ∙ go (turned s j) refl
       where
         go : (t : Bool) → turned s j ≡ t → edgeNow s j ≡ turn b (edgeNow s j)
         go true w = sym (turn-no b (edgeNow s j) (λ r. p (sym (ap (λ (z : Edge). z .second) (now-turned s j w)) ∙ r)))
         go false w = sym (turn-no b (edgeNow s j) (λ r. q (sym (ap (λ (z : Edge). z .second) (now-straight s j w)) ∙ r)))
 
-    pub stamp-now : edgeNow (stamp-set s b k) j ≡ turn b (edgeNow s j)
+    pub stamp-now : edgeNow (store stamp s b k) j ≡ turn b (edgeNow s j)
     stamp-now = ⊎-elim second-b (λ q. ⊎-elim first-b (λ p. neither p q) (eq-or-ne x b)) (eq-or-ne y b)
 
 -- ---- which way edges stand after a step
 pub absorb-turned : (s : Mem) (q f : ℕ) (x : Float) (j : ℕ) → turned (absorbAt s q f x) j ≡ turned s j
-unfolding turned absorbAt weight-set diff-set
+unfolding turned absorbAt store diff-set
 absorb-turned s q f x j = refl
 
 module _ (m n b : ℕ) (s : Mem) (h : Sound m n s) (f c : ℕ) (x : Float) (lt : f < m) where
   pub attach-turned : (j : ℕ) → (j ≡ f → ⊥) → turned (attachAt b s f c x) j ≡ turned s j
-  unfolding turned attachAt first-set second-set diff-set
-  attach-turned j ne = rw (getD-set-other (s .first) f j b 0 ne, getD-set-other (s .second) f j c 0 ne) refl
+  unfolding turned attachAt store diff-set
+  attach-turned j ne = rw (getD-set-other (s .at first) f j b 0 ne, getD-set-other (s .at second) f j c 0 ne) refl
 
-  pub attach-straight : getD (s .stamp) c 0 < getD (s .stamp) b 0 → turned (attachAt b s f c x) f ≡ false
-  unfolding turned attachAt first-set second-set diff-set
-  attach-straight p = rw (getD-set-same (s .first) f b 0 (omega (arith, h .l-first)), getD-set-same (s .second) f c 0 (omega (arith, h .l-second))) (le-ltb (getD (s .stamp) b 0) (getD (s .stamp) c 0) (omega arith))
+  pub attach-straight : getD (s .at stamp) c 0 < getD (s .at stamp) b 0 → turned (attachAt b s f c x) f ≡ false
+  unfolding turned attachAt store diff-set
+  attach-straight p = rw (getD-set-same (s .at first) f b 0 (omega (arith, h .lengths first)), getD-set-same (s .at second) f c 0 (omega (arith, h .lengths second))) (le-ltb (getD (s .at stamp) b 0) (getD (s .at stamp) c 0) (omega arith))

@@ -24,6 +24,7 @@ use Rattle.network.specs.Simple.{Simple, Joined}
 use Rattle.edges.specs.Order.{weigh}
 use Rattle.edges.specs.Gather.{diffOf}
 use Rattle.merge.specs.Mem.{Mem, total}
+use Rattle.merge.specs.Table.{weight, first, second, size}
 use Rattle.network.specs.Net.{rows, edgeOf}
 use Rattle.network.specs.Begin.{Raw, rawRegion}
 use Rattle.edges.proofs.edges.Assembly.{map-getD}
@@ -36,11 +37,11 @@ blank = record { one = 0; two = 0; count = 0; sum1 = nan; sum2 = nan }
 -- the tables of m edges, from records of k regions, and of the sizes of labels 0 to k
 pub record Filled (wide : Float) (k m : ℕ) (L : List ℕ) (rs : List EdgeRecord) (s : Mem) : Type 0 where
   pub count : m ≡ length rs
-  pub weight : s .weight ≡ map (λ r. r .count) rs
-  pub first : s .first ≡ map (λ r. r .one) rs
-  pub second : s .second ≡ map (λ r. r .two) rs
+  pub weight : s .at weight ≡ map (λ r. r .count) rs
+  pub first : s .at first ≡ map (λ r. r .one) rs
+  pub second : s .at second ≡ map (λ r. r .two) rs
   pub diff : seg (s .diff) 0 m ≡ map (diffOf wide) rs
-  pub size : s .size ≡ tabulate (k + 1) (sizeIn L)
+  pub size : s .at size ≡ tabulate (k + 1) (sizeIn L)
 
 -- ---- an edge of the tables is the record's
 
@@ -116,13 +117,13 @@ module _ (wide : Float) (k m : ℕ) (L : List ℕ) (ps : List Pair) (s : Mem) (F
   pub good : (j : ℕ) → j < m → Good k ps (getD (used k ps) j blank)
   good j h = all-place (Good k ps) (used k ps) blank (used-good k ps) j (in-rs j h)
 
-  pub weight-of : (j : ℕ) → j < m → getD (s .weight) j 0 ≡ getD (used k ps) j blank .count
+  pub weight-of : (j : ℕ) → j < m → getD (s .at weight) j 0 ≡ getD (used k ps) j blank .count
   weight-of j h = ap (λ (l : List ℕ). getD l j 0) (F .weight) ∙ map-getD (λ (r : EdgeRecord). r .count) (used k ps) j blank 0 (in-rs j h)
 
-  pub first-of : (j : ℕ) → j < m → getD (s .first) j 0 ≡ getD (used k ps) j blank .one
+  pub first-of : (j : ℕ) → j < m → getD (s .at first) j 0 ≡ getD (used k ps) j blank .one
   first-of j h = ap (λ (l : List ℕ). getD l j 0) (F .first) ∙ map-getD (λ (r : EdgeRecord). r .one) (used k ps) j blank 0 (in-rs j h)
 
-  pub second-of : (j : ℕ) → j < m → getD (s .second) j 0 ≡ getD (used k ps) j blank .two
+  pub second-of : (j : ℕ) → j < m → getD (s .at second) j 0 ≡ getD (used k ps) j blank .two
   second-of j h = ap (λ (l : List ℕ). getD l j 0) (F .second) ∙ map-getD (λ (r : EdgeRecord). r .two) (used k ps) j blank 0 (in-rs j h)
 
   pub diff-of : (j : ℕ) → j < m → getD (s .diff) j nan ≡ diffOf wide (getD (used k ps) j blank)
@@ -133,7 +134,7 @@ module _ (wide : Float) (k m : ℕ) (L : List ℕ) (ps : List Pair) (s : Mem) (F
   edge-of : (j : ℕ) → j < m → edgeOf s j ≡ Network.edgeOf wide j (getD (used k ps) j blank)
   unfolding edgeOf Network.edgeOf diffOf
   edge-of j h =
-      let live : not (eqb (getD (s .weight) j 0) 0) ≡ true = ap (λ (b : Bool). not b) (ne-eqb (getD (s .weight) j 0) 0 (λ e. omega (arith, weight-of j h, good j h .some))) in
+      let live : not (eqb (getD (s .at weight) j 0) 0) ≡ true = ap (λ (b : Bool). not b) (ne-eqb (getD (s .at weight) j 0) 0 (λ e. omega (arith, weight-of j h, good j h .some))) in
       λ i. record { num = j; live = live i; first = first-of j h i; second = second-of j h i; weight = weight-of j h i; diff = diff-of j h i }
 
   pub edges-are : rows (edgeOf s) 0 m ≡ numbered wide 0 (used k ps)
@@ -186,7 +187,7 @@ module _ (wide : Float) (k m : ℕ) (L : List ℕ) (ps : List Pair) (s : Mem) (F
   total-counts [] = refl
   total-counts (r ∷ rs) = ap (λ (x : ℕ). r .count + x) (total-counts rs)
 
-  size-of : (l : ℕ) → l < k + 1 → getD (s .size) l 0 ≡ sizeIn L l
+  size-of : (l : ℕ) → l < k + 1 → getD (s .at size) l 0 ≡ sizeIn L l
   size-of l h = ap (λ (x : List ℕ). getD x l 0) (F .size) ∙ tab-at (sizeIn L) (k + 1) l 0 h
 
   -- the regions 0 to k of the tables

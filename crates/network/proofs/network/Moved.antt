@@ -15,6 +15,7 @@ use Rattle.network.specs.Network.{Edge, Link, link, find, absorb, hand, 
 use Rattle.arithmetic.specs.Rounding.{scale}
 use Rattle.network.proofs.SimpleLaws.{Turned}
 use Rattle.merge.specs.Mem.{Mem}
+use Rattle.merge.specs.Table.{enext, stamp, elen}
 use Rattle.merge.specs.Steps.{unbias, joinEdge, shift, movedEdge}
 use Rattle.merge.specs.Chain.{cur}
 use Rattle.network.specs.Net.{rows, edgeOf, edgeNow, Like}
@@ -80,9 +81,9 @@ mid m b v P Q done j =
 -- the tables in the middle of the walk: links N, lengths L and stamps T stay
 pub record Middle (m b v : ℕ) (P Q : ℕ → Edge) (N L T : List ℕ) (done : ℕ → Bool) (s : Mem) : Type 0 where
   pub like : (j : ℕ) → j < m → Like (edgeNow s j) (mid m b v P Q done j)
-  pub links : s .enext ≡ N
-  pub lens : s .elen ≡ L
-  pub stamps : s .stamp ≡ T
+  pub links : s .at enext ≡ N
+  pub lens : s .at elen ≡ L
+  pub stamps : s .at stamp ≡ T
 
 -- each live edge has a slot in the chain of each end, and the base is the newest
 pub record Grounds (m b : ℕ) (P : ℕ → Edge) (N L T : List ℕ) : Type 0 where

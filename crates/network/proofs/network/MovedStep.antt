@@ -12,6 +12,7 @@ use lib.ListN.{getD}
 use borrow.Author.Tests.{eqb-true, eqb-false, ne-eqb, lt-ltb, ltb-true, ltb-false}
 use Rattle.network.specs.Network.{Edge, Link, link, find, absorb, absent, hand}
 use Rattle.merge.specs.Mem.{Mem, Sound}
+use Rattle.merge.specs.Table.{weight, enext, stamp, elen}
 use Rattle.merge.specs.Steps.{turned, faceAt, mate, absorbAt, attachAt, joinEdge, movedEdge, takeEdge}
 use Rattle.merge.specs.Chain.{cur}
 use Rattle.network.specs.Net.{rows, edgeOf, edgeNow, Like}
@@ -29,9 +30,9 @@ module _ (m b v g : ℕ) (P Q : ℕ → Edge) (S : Setting m b v g P Q) (N L T :
   middle-face : (n : ℕ) (s : Mem) (done : ℕ → Bool) (f : ℕ) → Sound m n s → f < m → Middle m b v P Q N L T done s → Middle m b v P Q N L T done (faceAt s f)
   middle-face n s done f h lt I = record {
     like = λ j hj. like-at _ _ _ (face-now m n s h f lt j) (I .like j hj);
-    links = frame-face s f .enext ∙ I .links;
-    lens = frame-face s f .elen ∙ I .lens;
-    stamps = frame-face s f .stamp ∙ I .stamps;
+    links = frame-face s f .at enext ∙ I .links;
+    lens = frame-face s f .at elen ∙ I .lens;
+    stamps = frame-face s f .at stamp ∙ I .stamps;
   }
 
   -- edge q is the base's to c, as prepared
@@ -50,13 +51,13 @@ module _ (m b v g : ℕ) (P Q : ℕ → Edge) (S : Setting m b v g P Q) (N L T :
     now : edgeNow s f ≡ Q f
     now = I .like f lt .whole (ap (λ (x : Edge). x .live) (mid-moved m b v g P Q S done f false e todo) ∙ S .alike f ∙ l) ∙ mid-moved m b v g P Q S done f false e todo
 
-    weighs : getD (s .weight) f 0 ≡ P f .weight
+    weighs : getD (s .at weight) f 0 ≡ P f .weight
     weighs = stands s f (Q f) now (S .alike f ∙ l) .weight-is ∙ before m b v g P Q S f lt l e .weigh
 
     me : Hit v c₀ (P f)
     me = record { live = l; first = e; second = refl }
 
-    older : getD (s .stamp) c₀ 0 < getD (s .stamp) b 0
+    older : getD (s .at stamp) c₀ 0 < getD (s .at stamp) b 0
     older = subst (λ (t : List ℕ). getD t c₀ 0 < getD t b 0) (sym (I .stamps)) (G .newest c₀ (S .turned f lt l .0))
 
     partner : (q : ℕ) → Mate m b s c₀ q → Partner s c₀ q
@@ -139,7 +140,7 @@ module _ (m b v g : ℕ) (P Q : ℕ → Edge) (S : Setting m b v g P Q) (N L T :
       unfolding absorb link
       grown =
           let w : Words s q (P q) = words s q (P q) (sym (now-straight s q straight) ∙ pq .q-now) (pq .q-live) in
-          let sum-live : not (eqb (getD (s .weight) q 0 + getD (s .weight) f 0) 0) ≡ true = rw (ne-eqb (getD (s .weight) q 0 + getD (s .weight) f 0) 0 (λ z. w .some (omega arith))) refl in
+          let sum-live : not (eqb (getD (s .at weight) q 0 + getD (s .at weight) f 0) 0) ≡ true = rw (ne-eqb (getD (s .at weight) q 0 + getD (s .at weight) f 0) 0 (λ z. w .some (omega arith))) refl in
           now-straight s' q (absorb-turned s q f (P f .diff) q ∙ straight)
           ∙ absorb-grown m n s sound q f (P f .diff) hq lt qf
           ∙ (λ i. record {
@@ -147,7 +148,7 @@ module _ (m b v g : ℕ) (P Q : ℕ → Edge) (S : Setting m b v g P Q) (N L T :
             live = (sum-live ∙ sym (pq .q-live)) i;
             first = w .first-is i;
             second = w .second-is i;
-            weight = (ap (λ (x : ℕ). x + getD (s .weight) f 0) (w .weight-is) ∙ ap (λ (x : ℕ). P q .weight + x) weighs) i;
+            weight = (ap (λ (x : ℕ). x + getD (s .at weight) f 0) (w .weight-is) ∙ ap (λ (x : ℕ). P q .weight + x) weighs) i;
             diff = ap (λ (x : Float). add binary32 x (P f .diff)) (w .diff-is) i;
           })
           ∙ sym (mid-base m b v g P Q S (also done f) q (pq .q-first) ∙ ap (λ (o : Option Link). absorb o (P q)) (ap (find (rows (only P (also done f)) 0 m) v) (pq .q-second) ∙ found-now m b v g P Q S (also done f) f lt l e (also-new done f)))
@@ -170,9 +171,9 @@ module _ (m b v g : ℕ) (P Q : ℕ → Edge) (S : Setting m b v g P Q) (N L T :
             (mid-kept j hj nf (λ a c d. nq (alone m b v g P Q S b c₀ j q hj hq (record { live = a; first = c; second = d }) (record { live = pq .q-live; first = pq .q-first; second = pq .q-second })))))
             (eq-or-ne j q))
             (eq-or-ne j f);
-        links = frame-absorb s q f (P f .diff) .enext ∙ I .links;
-        lens = frame-absorb s q f (P f .diff) .elen ∙ I .lens;
-        stamps = frame-absorb s q f (P f .diff) .stamp ∙ I .stamps;
+        links = frame-absorb s q f (P f .diff) .at enext ∙ I .links;
+        lens = frame-absorb s q f (P f .diff) .at elen ∙ I .lens;
+        stamps = frame-absorb s q f (P f .diff) .at stamp ∙ I .stamps;
       }
 
     -- the base has none
@@ -188,9 +189,9 @@ module _ (m b v g : ℕ) (P Q : ℕ → Edge) (S : Setting m b v g P Q) (N L T :
           let found : mate m b s c₀ < m = mate-finds m b c₀ s j t (λ r. S .turned f lt l .0 (sym r)) (reached j b hj (h .live) (inl (h .first))) (reached j c₀ hj (h .live) (inr (h .second))) in
           omega arith
         where
-          reached : (j x : ℕ) → j < m → P j .live ≡ true → (P j .first ≡ x) ⊎ (P j .second ≡ x) → (i : ℕ) × (i < getD (s .elen) x 0 - 1) × (cur (s .enext) (getD (s .enext) (2 * m + x) 0) i / 2 ≡ j)
+          reached : (j x : ℕ) → j < m → P j .live ≡ true → (P j .first ≡ x) ⊎ (P j .second ≡ x) → (i : ℕ) × (i < getD (s .at elen) x 0 - 1) × (cur (s .at enext) (getD (s .at enext) (2 * m + x) 0) i / 2 ≡ j)
           reached j x hj k d =
-              subst (λ (t : List ℕ). (i : ℕ) × (i < getD (s .elen) x 0 - 1) × (cur t (getD t (2 * m + x) 0) i / 2 ≡ j)) (sym (I .links))
+              subst (λ (t : List ℕ). (i : ℕ) × (i < getD (s .at elen) x 0 - 1) × (cur t (getD t (2 * m + x) 0) i / 2 ≡ j)) (sym (I .links))
               (subst (λ (t : List ℕ). (i : ℕ) × (i < getD t x 0 - 1) × (cur N (getD N (2 * m + x) 0) i / 2 ≡ j)) (sym (I .lens)) (G .reach j x hj k d))
 
       free : find (rows P 0 m) b c₀ ≡ none
@@ -216,9 +217,9 @@ module _ (m b v g : ℕ) (P Q : ℕ → Edge) (S : Setting m b v g P Q) (N L T :
             (λ nf. like-at _ _ _ (now-by s j s'' (attach-turned m n b s sound f c₀ (P f .diff) lt j nf) (attach-kept m n s sound b f c₀ (P f .diff) lt j nf))
             (mid-kept j hj nf (λ a c d. nobody j hj (record { live = a; first = c; second = d }))))
             (eq-or-ne j f);
-        links = frame-attach b s f c₀ (P f .diff) .enext ∙ I .links;
-        lens = frame-attach b s f c₀ (P f .diff) .elen ∙ I .lens;
-        stamps = frame-attach b s f c₀ (P f .diff) .stamp ∙ I .stamps;
+        links = frame-attach b s f c₀ (P f .diff) .at enext ∙ I .links;
+        lens = frame-attach b s f c₀ (P f .diff) .at elen ∙ I .lens;
+        stamps = frame-attach b s f c₀ (P f .diff) .at stamp ∙ I .stamps;
       }
 
   -- ---- the step

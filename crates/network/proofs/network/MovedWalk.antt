@@ -11,6 +11,7 @@ use Rattle.merge.proofs.merge.Bias.{lt-or-le}
 use lib.ListN.{getD}
 use Rattle.network.specs.Network.{Edge, Link, link, find, absorb, hand, combine, turn, turnIf, adjust, shifted, isZero}
 use Rattle.merge.specs.Mem.{Mem, Sound}
+use Rattle.merge.specs.Table.{enext, stamp, elen}
 use Rattle.merge.specs.Steps.{unbias, takeEdge, walkMoved}
 use Rattle.merge.specs.Does.{Gains}
 use Rattle.network.specs.Net.{rows, edgeNow, Like}
@@ -46,7 +47,7 @@ module _ (m b v g : ℕ) (P Q : ℕ → Edge) (S : Setting m b v g P Q) where
   none-done : (x c : ℕ) → find (rows (only P nothing) 0 m) x c ≡ none
   none-done x c = find-no (only P nothing) x c 0 m (λ j a d h. true≢false (sym (hit-only m b v g P Q S nothing x c j h .1)))
 
-  pub begin : (s : Mem) → ((j : ℕ) → j < m → Like (edgeNow s j) (Q j)) → Middle m b v P Q (s .enext) (s .elen) (s .stamp) nothing s
+  pub begin : (s : Mem) → ((j : ℕ) → j < m → Like (edgeNow s j) (Q j)) → Middle m b v P Q (s .at enext) (s .at elen) (s .at stamp) nothing s
   begin s like = record { like = λ j hj. go j hj (P j .live) refl (eqb b (P j .first)) refl (eqb v (P j .first)) refl; links = refl; lens = refl; stamps = refl }
     where
       go : (j : ℕ) → j < m → (u : Bool) → P j .live ≡ u → (x : Bool) → eqb b (P j .first) ≡ x → (y : Bool) → eqb v (P j .first) ≡ y → Like (edgeNow s j) (mid m b v P Q nothing j)
@@ -87,7 +88,7 @@ module _ (m b v g : ℕ) (P Q : ℕ → Edge) (S : Setting m b v g P Q) where
     walk n ok (suc k) s h done I x =
         let one : One (takeEdge m b v g s (x / 2)) done (x / 2) = one-slot n s h done I (x / 2) in
         let s' : Mem = takeEdge m b v g s (x / 2) in
-        let nx : getD (s .enext) x 0 ≡ getD N x 0 = ap (λ (l : List ℕ). getD l x 0) (I .links) in
+        let nx : getD (s .at enext) x 0 ≡ getD N x 0 = ap (λ (l : List ℕ). getD l x 0) (I .links) in
         let rest : Walked (walkMoved k m b v g s' (getD N x 0)) (one .0) (getD N x 0) k = walk n ok k s' (sound-take m n b v g s (x / 2) h ok) (one .0) (one .1) (getD N x 0) in
         record {
           done' = rest .done';

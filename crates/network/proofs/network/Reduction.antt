@@ -20,6 +20,7 @@ use Rattle.edges.specs.Sees.{shape}
 use Rattle.edges.specs.Whole.{Asked, Edged}
 use Rattle.network.specs.Sizes.{Sizes}
 use Rattle.merge.specs.Mem.{view}
+use Rattle.merge.specs.Table.{count}
 use Rattle.merge.specs.Steps.{unbias}
 use Rattle.network.specs.Begin.{Space, Raw, AllIs}
 use Rattle.memory.specs.Layout.{sizesAt, countsAt}
@@ -162,7 +163,7 @@ module _ (f : Frame) (u : List ℕ) (d vel : List Float) (n k : ℕ) (wide : Flo
                   ∙ ap (λ (x : List ℕ). seg x a b) e4′ ∙ seg-put-below v3 (13 * n) y a b (omega (arith, q .few, q .some))
 
               -- the count of label l
-              count-of : (l : ℕ) → 1 ≤ l → l ≤ k → getD v6 (n + (k + 1) + l) 0 ≡ getD (view e (k + 1) y d2 .count) l 0
+              count-of : (l : ℕ) → 1 ≤ l → l ≤ k → getD v6 (n + (k + 1) + l) 0 ≡ getD (view e (k + 1) y d2 .at count) l 0
               unfolding view
               count-of l a b =
                   ap (λ (x : List ℕ). getD x (n + (k + 1) + l) 0) e6 ∙ getD-set-other v5 (n + (k + 1)) (n + (k + 1) + l) 1000 0 (λ p. omega arith)
@@ -206,7 +207,7 @@ module _ (f : Frame) (u : List ℕ) (d vel : List Float) (n k : ℕ) (wide : Flo
                   count-0′ : getD v6 (countsAt n k + 0) 0 ≡ 1000
                   count-0′ = unfold countsAt in count-0
 
-                  count-of′ : (l : ℕ) → 1 ≤ l → l ≤ k → getD v6 (countsAt n k + l) 0 ≡ getD (view e (k + 1) y d2 .count) l 0
+                  count-of′ : (l : ℕ) → 1 ≤ l → l ≤ k → getD v6 (countsAt n k + l) 0 ≡ getD (view e (k + 1) y d2 .at count) l 0
                   count-of′ l a b = unfold countsAt in count-of l a b
 
                   sizes-3 : seg v3 n (k + 1) ≡ tabulate (k + 1) (sizeIn (seg u 0 n))

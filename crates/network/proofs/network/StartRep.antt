@@ -10,10 +10,10 @@ use lib.IntN.{pos}
 use lib.Ieee.{nan, Float}
 use lib.ListN.{length, getD, List·getD-eq-default}
 use borrow.Author.Tests.{lt-ltb, le-ltb}
-use Rattle.arithmetic.proofs.SegLaws.{length-seg}
 use Rattle.network.specs.Network.{Edge, Region, State, sizeOf, gatesOf}
 use Rattle.memory.specs.Tree.{Weighed}
 use Rattle.merge.specs.Mem.{Mem, view, Room, Sound, total}
+use Rattle.merge.specs.Table.{Table, long, weight, first, second, enext, rnext, stamp, size, elen, rlen, count}
 use Rattle.merge.specs.Steps.{unbias, turned}
 use Rattle.merge.specs.Does.{Does}
 use Rattle.network.specs.Net.{rows, edgeOf, regionOf, stateOf}
@@ -22,16 +22,17 @@ use Rattle.network.specs.TurnIs.{gatesIn, firstOf, RanIs}
 use Rattle.network.specs.Begin.{slotsFrom, regionsFrom, linkFrom, rawRegion, rawNet, Space, Raw, Begun, Linkable, AllIs}
 use Rattle.network.specs.Settle.{settle}
 use Rattle.network.specs.declared.network.Ran.{Ran}
-use Rattle.merge.proofs.merge.View.{view-weighed}
+use Rattle.merge.proofs.merge.View.{view-lengths, view-weighed}
 use Rattle.merge.proofs.merge.Leaf.{room-of}
 use Rattle.merge.proofs.merge.Bias.{lt-or-le, unbias-up}
-use Rattle.merge.proofs.merge.SoundSet.{eq-or-ne}
+use Rattle.merge.proofs.merge.SoundSet.{eq-or-ne, within-all}
+use Rattle.merge.proofs.merge.Frames.{Same}
 use Rattle.network.proofs.network.Rows.{rows-ext}
 use Rattle.network.proofs.network.TableEdges.{like-of}
 use Rattle.network.proofs.network.Facing.{now-straight}
 use Rattle.network.proofs.network.Moved.{same-no, same-yes}
 use Rattle.network.specs.Simple.{Simple}
-use Rattle.network.proofs.network.StartLinks.{Given, given-then, Slots, slots-are, Regions, regions-are, ones, next-in, lens, Linked, Kept, range-of, linked-all}
+use Rattle.network.proofs.network.StartLinks.{Given, given-then, given-same, Slots, given-slots, slots-are, Regions, given-regions, regions-are, ones, next-in, lens, Linked, range-of, linked-all, linked-long}
 
 -- ---- sizes of single regions
 size-none : (f : ℕ → Region) → ((r : ℕ) → f r .node ≡ r) → (k n x : ℕ) → x < k → sizeOf (rows f k n) x ≡ 0
@@ -57,33 +58,8 @@ size-one f e k (suc n) x p q = ⊎-elim
 
 -- ---- the lengths of the tables in the words
 pub record Lengths (m n : ℕ) (s : Mem) : Type 0 where
-  pub l-weight : length (s .weight) ≡ m
-  pub l-first : length (s .first) ≡ m
-  pub l-second : length (s .second) ≡ m
-  pub l-enext : length (s .enext) ≡ 2 * m + n
-  pub l-rnext : length (s .rnext) ≡ n
-  pub l-stamp : length (s .stamp) ≡ n
-  pub l-size : length (s .size) ≡ n
-  pub l-elen : length (s .elen) ≡ n
-  pub l-rlen : length (s .rlen) ≡ n
-  pub l-count : length (s .count) ≡ n
+  pub lengths : (u : Table) → length (s .at u) ≡ long u m n
   pub l-diff : m ≤ length (s .diff)
-
-pub lengths : (m n : ℕ) (w : List ℕ) (d : List Float) → 7 * m + 7 * n ≤ length w → m ≤ length d → Lengths m n (view m n w d)
-unfolding view
-lengths m n w d h k = record {
-  l-weight = length-seg w 0 m (omega arith);
-  l-first = length-seg w (3 * m) m (omega arith);
-  l-second = length-seg w (4 * m) m (omega arith);
-  l-enext = length-seg w (5 * m) (2 * m + n) (omega arith);
-  l-rnext = length-seg w (7 * m + n) n (omega arith);
-  l-stamp = length-seg w (7 * m + 2 * n) n (omega arith);
-  l-size = length-seg w (7 * m + 3 * n) n (omega arith);
-  l-elen = length-seg w (7 * m + 4 * n) n (omega arith);
-  l-rlen = length-seg w (7 * m + 5 * n) n (omega arith);
-  l-count = length-seg w (7 * m + 6 * n) n (omega arith);
-  l-diff = k;
-}
 
 -- ---- all together
 module _ (m n : ℕ) (s : Mem) (lens₀ : Lengths m n s) (raw : Raw m n s) (small : 2 * m + n < 2 ^ 32) where
@@ -97,16 +73,16 @@ module _ (m n : ℕ) (s : Mem) (lens₀ : Lengths m n s) (raw : Raw m n s) (smal
   s₃ = linkFrom m m s₂ 0
 
   S : Slots s s₁ 0 (2 * m + n)
-  S = slots-are (2 * m + n) s 0 (omega (arith, lens₀ .l-enext))
+  S = slots-are (2 * m + n) s 0 (omega (arith, lens₀ .lengths enext))
 
   G : Regions s₁ s₂ 0 n
-  G = regions-are n n s₁ 0 (omega arith) (ap length (S .rnext) ∙ lens₀ .l-rnext) (ap length (S .elen) ∙ lens₀ .l-elen) (ap length (S .rlen) ∙ lens₀ .l-rlen) (ap length (S .count) ∙ lens₀ .l-count) (ap length (S .stamp) ∙ lens₀ .l-stamp)
+  G = regions-are n n s₁ 0 (omega arith) (ap length (S .tables .at rnext) ∙ lens₀ .lengths rnext) (ap length (S .tables .at elen) ∙ lens₀ .lengths elen) (ap length (S .tables .at rlen) ∙ lens₀ .lengths rlen) (ap length (S .tables .at count) ∙ lens₀ .lengths count) (ap length (S .tables .at stamp) ∙ lens₀ .lengths stamp)
 
   given₂ : Given s₂ s
-  given₂ = given-then s₂ s₁ s (G .given) (S .given)
+  given₂ = given-then s₂ s₁ s (given-regions s₁ s₂ 0 n G) (given-slots s s₁ 0 (2 * m + n) S)
 
-  enext₂ : (x : ℕ) → x < 2 * m + n → getD (s₂ .enext) x 0 ≡ x
-  enext₂ x h = ap (λ (l : List ℕ). getD l x 0) (G .enext) ∙ S .own x (omega arith) (omega arith)
+  enext₂ : (x : ℕ) → x < 2 * m + n → getD (s₂ .at enext) x 0 ≡ x
+  enext₂ x h = ap (λ (l : List ℕ). getD l x 0) (G .tables .at enext) ∙ S .own x (omega arith) (omega arith)
 
   pub linkable : Linkable m n 0 s₂
   linkable = record {
@@ -119,11 +95,11 @@ module _ (m n : ℕ) (s : Mem) (lens₀ : Lengths m n s) (raw : Raw m n s) (smal
   start = record {
     own = λ x. x;
     pos' = λ x. 0;
-    l-enext = ap length (G .enext) ∙ S .l-enext ∙ lens₀ .l-enext;
-    l-elen = G .l-elen ∙ ap length (S .elen) ∙ lens₀ .l-elen;
-    chains = ones (s₂ .enext) (2 * m + n) (lens m s₂) enext₂ (λ x h. ⊎-elim
-        (λ p. ap (λ (b : Bool). cond b 1 (getD (s₂ .elen) (x - 2 * m) 0)) (lt-ltb x (2 * m) p))
-        (λ p. ap (λ (b : Bool). cond b 1 (getD (s₂ .elen) (x - 2 * m) 0)) (le-ltb x (2 * m) p) ∙ G .own (x - 2 * m) (omega arith) (omega arith) .1)
+    l-enext = ap length (G .tables .at enext) ∙ S .long enext ∙ lens₀ .lengths enext;
+    l-elen = G .long elen ∙ ap length (S .tables .at elen) ∙ lens₀ .lengths elen;
+    chains = ones (s₂ .at enext) (2 * m + n) (lens m s₂) enext₂ (λ x h. ⊎-elim
+        (λ p. ap (λ (b : Bool). cond b 1 (getD (s₂ .at elen) (x - 2 * m) 0)) (lt-ltb x (2 * m) p))
+        (λ p. ap (λ (b : Bool). cond b 1 (getD (s₂ .at elen) (x - 2 * m) 0)) (le-ltb x (2 * m) p) ∙ G .own (x - 2 * m) (omega arith) (omega arith) .1)
         (lt-or-le x (2 * m)));
     even = λ j h. absurd (omega arith);
     odd = λ j h. absurd (omega arith);
@@ -131,19 +107,19 @@ module _ (m n : ℕ) (s : Mem) (lens₀ : Lengths m n s) (raw : Raw m n s) (smal
     heads = λ x p. refl;
   }
 
-  all₃ : Linked m n (2 * (0 + m)) s₃ × Kept s₃ s₂
+  all₃ : Linked m n (2 * (0 + m)) s₃ × Same s₃ s₂
   all₃ = linked-all m n m s₂ 0 start (omega arith) (range-of m n s₂ s given₂ (raw .first-in, raw .second-in))
 
   I : Linked m n (2 * (0 + m)) s₃
   I = all₃ .0
 
   given₃ : Given s₃ s
-  given₃ = given-then s₃ s₂ s (all₃ .1 .given) given₂
+  given₃ = given-then s₃ s₂ s (given-same s₃ s₂ (all₃ .1)) given₂
 
-  own-even : (j : ℕ) → j < m → I .own (2 * j) ≡ 2 * m + getD (s₃ .first) j 0
+  own-even : (j : ℕ) → j < m → I .own (2 * j) ≡ 2 * m + getD (s₃ .at first) j 0
   own-even j h = I .even j (omega arith)
 
-  own-odd : (j : ℕ) → j < m → I .own (2 * j + 1) ≡ 2 * m + getD (s₃ .second) j 0
+  own-odd : (j : ℕ) → j < m → I .own (2 * j + 1) ≡ 2 * m + getD (s₃ .at second) j 0
   own-odd j h = I .odd j (omega arith)
 
   circled₃ : Circled m n (λ x. x) (edgeOf s₃) s₃ (I .own) (I .pos') (lens m s₃)
@@ -151,25 +127,25 @@ module _ (m n : ℕ) (s : Mem) (lens₀ : Lengths m n s) (raw : Raw m n s) (smal
   circled₃ = record {
     echains = I .chains;
     header = λ x h e. I .heads x h;
-    lengths = λ x h e. let z : 2 * m + x - 2 * m ≡ x = omega arith in ap (λ (b : Bool). cond b 1 (getD (s₃ .elen) (2 * m + x - 2 * m) 0)) (le-ltb (2 * m + x) (2 * m) (omega arith)) ∙ ap (λ (y : ℕ). getD (s₃ .elen) y 0) z;
+    lengths = λ x h e. let z : 2 * m + x - 2 * m ≡ x = omega arith in ap (λ (b : Bool). cond b 1 (getD (s₃ .at elen) (2 * m + x - 2 * m) 0)) (le-ltb (2 * m + x) (2 * m) (omega arith)) ∙ ap (λ (y : ℕ). getD (s₃ .at elen) y 0) z;
     ends = λ j h l. inl (unfold edgeOf in own-even j h, unfold edgeOf in own-odd j h);
   }
 
-  rnext₃ : (x : ℕ) → x < n → getD (s₃ .rnext) x 0 ≡ x
-  rnext₃ x h = ap (λ (l : List ℕ). getD l x 0) (all₃ .1 .rnext) ∙ G .own x (omega arith) (omega arith) .0
+  rnext₃ : (x : ℕ) → x < n → getD (s₃ .at rnext) x 0 ≡ x
+  rnext₃ x h = ap (λ (l : List ℕ). getD l x 0) (all₃ .1 .beside .at rnext) ∙ G .own x (omega arith) (omega arith) .0
 
-  rlen₃ : (x : ℕ) → x < n → getD (s₃ .rlen) x 0 ≡ 1
-  rlen₃ x h = ap (λ (l : List ℕ). getD l x 0) (all₃ .1 .rlen) ∙ G .own x (omega arith) (omega arith) .2
+  rlen₃ : (x : ℕ) → x < n → getD (s₃ .at rlen) x 0 ≡ 1
+  rlen₃ x h = ap (λ (l : List ℕ). getD l x 0) (all₃ .1 .beside .at rlen) ∙ G .own x (omega arith) (omega arith) .2
 
-  count₃ : (x : ℕ) → x < n → getD (s₃ .count) x 0 ≡ 1000
-  count₃ x h = ap (λ (l : List ℕ). getD l x 0) (all₃ .1 .count) ∙ G .own x (omega arith) (omega arith) .3
+  count₃ : (x : ℕ) → x < n → getD (s₃ .at count) x 0 ≡ 1000
+  count₃ x h = ap (λ (l : List ℕ). getD l x 0) (all₃ .1 .beside .at count) ∙ G .own x (omega arith) (omega arith) .3
 
-  stamp₃ : (x : ℕ) → x < n → getD (s₃ .stamp) x 0 ≡ 0
-  stamp₃ x h = ap (λ (l : List ℕ). getD l x 0) (all₃ .1 .stamp) ∙ G .own x (omega arith) (omega arith) .4
+  stamp₃ : (x : ℕ) → x < n → getD (s₃ .at stamp) x 0 ≡ 0
+  stamp₃ x h = ap (λ (l : List ℕ). getD l x 0) (all₃ .1 .beside .at stamp) ∙ G .own x (omega arith) (omega arith) .4
 
   edge₃ : (j : ℕ) → edgeOf s₃ j ≡ edgeOf s j
   unfolding edgeOf
-  edge₃ j = rw (given₃ .weight, given₃ .first, given₃ .second, given₃ .diff) refl
+  edge₃ j = rw (given₃ .tables .at weight, given₃ .tables .at first, given₃ .tables .at second, given₃ .diff) refl
 
   edges₃ : rows (edgeOf s₃) 0 m ≡ rows (edgeOf s) 0 m
   edges₃ = rows-ext (edgeOf s₃) (edgeOf s) 0 m (λ j p q. edge₃ j)
@@ -177,8 +153,8 @@ module _ (m n : ℕ) (s : Mem) (lens₀ : Lengths m n s) (raw : Raw m n s) (smal
   region₃ : (r : ℕ) → r < n → regionOf (gatesIn s₃) (λ x. x) s₃ r ≡ rawRegion s r
   unfolding regionOf rawRegion gatesIn
   region₃ r h =
-      let c : unbias (getD (s₃ .count) r 0) ≡ pos 0 = ap unbias (count₃ r h) ∙ unbias-up 1000 (omega arith) in
-      λ i. record { label = r; size = ap (λ (l : List ℕ). getD l r 0) (given₃ .size) i; node = r; count = c i }
+      let c : unbias (getD (s₃ .at count) r 0) ≡ pos 0 = ap unbias (count₃ r h) ∙ unbias-up 1000 (omega arith) in
+      λ i. record { label = r; size = ap (λ (l : List ℕ). getD l r 0) (given₃ .tables .at size) i; node = r; count = c i }
 
   regions₃ : rows (regionOf (gatesIn s₃) (λ x. x) s₃) 0 n ≡ rows (rawRegion s) 0 n
   regions₃ = rows-ext (regionOf (gatesIn s₃) (λ x. x) s₃) (rawRegion s) 0 n (λ r p q. region₃ r (omega arith))
@@ -189,28 +165,18 @@ module _ (m n : ℕ) (s : Mem) (lens₀ : Lengths m n s) (raw : Raw m n s) (smal
 
   pub gates₃ : gatesIn s₃ ≡ gatesIn s
   unfolding gatesIn
-  gates₃ = fun-ext (λ r. ap (λ (l : List ℕ). getD l r 0) (given₃ .size))
+  gates₃ = fun-ext (λ r. ap (λ (l : List ℕ). getD l r 0) (given₃ .tables .at size))
 
   sound₃ : Sound m n s₃
   sound₃ = record {
-    l-weight = ap length (given₃ .weight) ∙ lens₀ .l-weight;
-    l-first = ap length (given₃ .first) ∙ lens₀ .l-first;
-    l-second = ap length (given₃ .second) ∙ lens₀ .l-second;
-    l-enext = I .l-enext;
-    l-rnext = ap length (all₃ .1 .rnext) ∙ G .l-rnext ∙ ap length (S .rnext) ∙ lens₀ .l-rnext;
-    l-stamp = ap length (all₃ .1 .stamp) ∙ G .l-stamp ∙ ap length (S .stamp) ∙ lens₀ .l-stamp;
-    l-size = ap length (given₃ .size) ∙ lens₀ .l-size;
-    l-elen = I .l-elen;
-    l-rlen = ap length (all₃ .1 .rlen) ∙ G .l-rlen ∙ ap length (S .rlen) ∙ lens₀ .l-rlen;
-    l-count = ap length (all₃ .1 .count) ∙ G .l-count ∙ ap length (S .count) ∙ lens₀ .l-count;
+    lengths = λ u. linked-long m m s₂ 0 u ∙ G .long u ∙ S .long u ∙ lens₀ .lengths u;
     l-diff = subst (λ (l : List Float). m ≤ length l) (sym (given₃ .diff)) (lens₀ .l-diff);
-    first-in = range-of m n s₃ s given₃ (raw .first-in, raw .second-in) .0;
-    second-in = range-of m n s₃ s given₃ (raw .first-in, raw .second-in) .1;
-    enext-in = λ j h. next-in (s₃ .enext) (2 * m + n) (I .own) (I .pos') (lens m s₃) (I .chains) j h;
-    rnext-in = λ j h. omega (arith, rnext₃ j h);
+    within = within-all m n s₃ (range-of m n s₃ s given₃ (raw .first-in, raw .second-in) .0) (range-of m n s₃ s given₃ (raw .first-in, raw .second-in) .1)
+        (λ j h. next-in (s₃ .at enext) (2 * m + n) (I .own) (I .pos') (lens m s₃) (I .chains) j h)
+        (λ j h. omega (arith, rnext₃ j h))
+        (λ j h. omega (arith, count₃ j h));
     single = subst (λ (l : List Float). (j : ℕ) → j < m → lib.Dec.T (lib.Ieee.fits lib.Ieee.binary32 (getD l j nan))) (sym (given₃ .diff)) (raw .single);
-    light = subst (λ (l : List ℕ). total l < 2 ^ 32) (sym (given₃ .weight)) (raw .light);
-    counts = λ j h. omega (arith, count₃ j h);
+    light = subst (λ (l : List ℕ). total l < 2 ^ 32) (sym (given₃ .tables .at weight)) (raw .light);
   }
 
   pub rep₃ : Rep m n (gatesIn s₃) 0 s₃ (firstOf m n s₃)
@@ -231,15 +197,15 @@ module _ (m n : ℕ) (s : Mem) (lens₀ : Lengths m n s) (raw : Raw m n s) (smal
     small = small;
     like = λ j h. like-of _ _ (now-straight s₃ j (straight j h));
     sizes = λ x h e. sym (size-one (regionOf (gatesIn s₃) (λ y. y) s₃) (λ r. unfold regionOf in refl) 0 n x (omega arith) (omega arith) ∙ (unfold regionOf gatesIn in refl));
-    rchains = ones (s₃ .rnext) n (λ x. getD (s₃ .rlen) x 0) rnext₃ rlen₃;
+    rchains = ones (s₃ .at rnext) n (λ x. getD (s₃ .at rlen) x 0) rnext₃ rlen₃;
     circled = circled₃;
     leading = λ j h l. (refl, refl);
-    stamps = λ x. ⊎-elim (λ h. omega (arith, stamp₃ x h)) (λ h. omega (arith, List·getD-eq-default (s₃ .stamp) 0 {n = x} (omega (arith, sound₃ .l-stamp)))) (lt-or-le x n);
+    stamps = λ x. ⊎-elim (λ h. omega (arith, stamp₃ x h)) (λ h. omega (arith, List·getD-eq-default (s₃ .at stamp) 0 {n = x} (omega (arith, sound₃ .lengths stamp)))) (lt-or-le x n);
   }
     where
       -- no edge is turned where no node was a base
       straight : (j : ℕ) → j < m → turned s₃ j ≡ false
-      straight j h = unfold turned in rw (stamp₃ (getD (s₃ .first) j 0) (sound₃ .first-in j h), stamp₃ (getD (s₃ .second) j 0) (sound₃ .second-in j h)) (le-ltb 0 0 (omega arith))
+      straight j h = unfold turned in rw (stamp₃ (getD (s₃ .at first) j 0) (sound₃ .within first j h), stamp₃ (getD (s₃ .at second) j 0) (sound₃ .within second j h)) (le-ltb 0 0 (omega arith))
 
 -- ---- begin
 module _ (m n : ℕ) (w : List ℕ) (d : List Float) (sp : Space m n w d) (raw : Raw m n (view m n w d)) (w₁ : List ℕ) (D₁ : Weighed m w w₁) where
@@ -247,7 +213,7 @@ module _ (m n : ℕ) (w : List ℕ) (d : List Float) (sp : Space m n w d) (raw :
   s₀ = view m n w d
 
   l₀ : Lengths m n s₀
-  l₀ = lengths m n w d (sp .words) (sp .diffs)
+  l₀ = record { lengths = view-lengths m n w d (sp .words); l-diff = unfold view in sp .diffs }
 
   tables₁ : view m n w₁ d ≡ s₀
   tables₁ = view-weighed m n w w₁ d D₁

@@ -16,6 +16,7 @@ use Rattle.arithmetic.specs.Seq.{All, upto, keep, all}
 use Rattle.edges.specs.Edges.{Pair, used}
 use Rattle.network.specs.Network.{Region, State, Event, alone, start, sizeIn, merges, run, trace, replay, inRange, countOf}
 use Rattle.merge.specs.Mem.{Mem, view}
+use Rattle.merge.specs.Table.{count, first, second}
 use Rattle.merge.specs.Steps.{unbias}
 use Rattle.network.specs.Net.{rows, edgeOf, regionOf}
 use Rattle.network.specs.Settle.{Done, settle}
@@ -78,7 +79,7 @@ module _ (wide : Float) (k m : ℕ) (L : List ℕ) (ps : List Pair) (s : Mem) (F
   edges-ok = all-rows (OkE some-label any-edge) (edgeOf s) 0 m (λ j a b.
       let h : j < m = omega arith in
       let g = good wide k m L ps s F j h in
-      unfold edgeOf in (label-ok (getD (s .first) j 0) (omega (arith, first-of wide k m L ps s F j h, g .low, g .less)), label-ok (getD (s .second) j 0) (omega (arith, second-of wide k m L ps s F j h, g .low))))
+      unfold edgeOf in (label-ok (getD (s .at first) j 0) (omega (arith, first-of wide k m L ps s F j h, g .low, g .less)), label-ok (getD (s .at second) j 0) (omega (arith, second-of wide k m L ps s F j h, g .low))))
 
   closed : Closed some-label any-edge tables
   unfolding tables rawNet
@@ -162,8 +163,8 @@ module _ (wide : Float) (k m : ℕ) (L : List ℕ) (ps : List Pair) (s : Mem) (F
 
   pub record Left (w : List ℕ) (d : List Float) (r : Ran) : Type 0 where
     pub settled : r ≡ Settled (length (merges network))
-    pub counts : (l : ℕ) → 1 ≤ l → l ≤ k → unbias (getD (view m (k + 1) w d .count) l 0) ≡ countOf (replay network (merges network) .regions) l
-    pub most : (l : ℕ) → l ≤ k → getD (view m (k + 1) w d .count) l 0 ≤ 2000
+    pub counts : (l : ℕ) → 1 ≤ l → l ≤ k → unbias (getD (view m (k + 1) w d .at count) l 0) ≡ countOf (replay network (merges network) .regions) l
+    pub most : (l : ℕ) → l ≤ k → getD (view m (k + 1) w d .at count) l 0 ≤ 2000
 
   module _ (w : List ℕ) (d : List Float) (r : Ran) (h : AllIs m (k + 1) s w d r) where
     ran : (b : Bool) → all inRange (trace network (merges network)) ≡ b → RanIs m (k + 1) (gatesIn s) (ending b) w d r
@@ -193,7 +194,7 @@ module _ (wide : Float) (k m : ℕ) (L : List ℕ) (ps : List Pair) (s : Mem) (F
         side : restrict some-label any-edge (replay tables (merges tables)) .regions ≡ keep (regionIn some-label any-edge) (rows (regionOf (gatesIn s) node (view m (k + 1) w d)) 0 (suc k))
         side = unfold restrict in ap (keep (regionIn some-label any-edge)) (e ∙ ap (rows (regionOf (gatesIn s) node (view m (k + 1) w d)) 0) (add-one k))
 
-    count-of : (node : ℕ → ℕ) (l : ℕ) → regionOf (gatesIn s) node (view m (k + 1) w d) l .count ≡ unbias (getD (view m (k + 1) w d .count) l 0)
+    count-of : (node : ℕ → ℕ) (l : ℕ) → regionOf (gatesIn s) node (view m (k + 1) w d) l .count ≡ unbias (getD (view m (k + 1) w d .at count) l 0)
     unfolding regionOf
     count-of node l = refl
 

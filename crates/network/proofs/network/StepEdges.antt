@@ -9,16 +9,18 @@ use lib.Dec.{eqb, ltb}
 use lib.ListN.{getD}
 use lib.Seq.{getD-set-same, getD-set-other}
 use Rattle.network.specs.Network.{Edge, Region, State, Plan, sizeOf, plan, planFor, kill, turn, turnIf, adjust, prepare, combine}
-use Rattle.merge.specs.Mem.{Mem, Sound, weight-set, stamp-set}
+use Rattle.merge.specs.Mem.{Mem, Sound, store}
+use Rattle.merge.specs.Table.{is, weight, first, second, enext, rnext, stamp, size, elen, rlen, count}
 use Rattle.merge.specs.Steps.{unbias, turned, pruned, takeEdge, walkMoved, movedAll}
 use Rattle.merge.specs.Does.{Gains}
 use Rattle.network.specs.Net.{rows, edgeOf, edgeNow, regionOf, Like}
 use Rattle.merge.specs.Chain.{cur}
 use Rattle.network.specs.Rep.{Rep, Circled}
-use Rattle.merge.proofs.merge.SoundSet.{eq-or-ne, sound-weight, sound-stamp}
+use Rattle.merge.proofs.merge.SoundSet.{eq-or-ne, sound-weight, sound-store}
 use Rattle.merge.proofs.merge.SoundSteps.{sound-take}
 use Rattle.merge.proofs.merge.Leaf.{total-less}
-use Rattle.merge.proofs.merge.Frames.{Frame, frame-moved-all, Beside, Same}
+use Rattle.merge.proofs.merge.Frames.{Frame, frame-moved-all, Same}
+use Rattle.merge.proofs.merge.TableLaws.{Alike, alike-store}
 use Rattle.network.proofs.network.TableEdges.{like-of, like-dead, like-then, like-at, live-word, word-dead}
 use Rattle.network.proofs.network.Facing.{now-live, Stands, stands, stands-in, stamp-newest, stamp-most, stamp-now}
 use Rattle.network.proofs.network.Rows.{has-rows}
@@ -32,19 +34,19 @@ use Rattle.network.proofs.network.Prepared.{nodes-apart, setting}
 pub sound-walk-moved : (m n b v g k : ℕ) (s : Mem) (x : ℕ) → Gains n b v g → Sound m n s → Sound m n (walkMoved k m b v g s x)
 unfolding walkMoved
 sound-walk-moved m n b v g zero s x ok h = h
-sound-walk-moved m n b v g (suc k) s x ok h = sound-walk-moved m n b v g k (takeEdge m b v g s (x / 2)) (getD (s .enext) x 0) ok (sound-take m n b v g s (x / 2) h ok)
+sound-walk-moved m n b v g (suc k) s x ok h = sound-walk-moved m n b v g k (takeEdge m b v g s (x / 2)) (getD (s .at enext) x 0) ok (sound-take m n b v g s (x / 2) h ok)
 
 pub sound-moved-all : (m n b v g : ℕ) (s : Mem) → Gains n b v g → Sound m n s → Sound m n (movedAll m b v g s)
 unfolding movedAll
-sound-moved-all m n b v g s ok h = sound-walk-moved m n b v g (getD (s .elen) v 0 - 1) s (getD (s .enext) (2 * m + v) 0) ok h
+sound-moved-all m n b v g s ok h = sound-walk-moved m n b v g (getD (s .at elen) v 0 - 1) s (getD (s .at enext) (2 * m + v) 0) ok h
 
 counted-edges : (s t : Mem) → Counted s t → (j : ℕ) → edgeNow s j ≡ edgeNow t j
 unfolding edgeNow turned edgeOf
-counted-edges s t c j = rw (c .weight, c .first, c .second, c .stamp, c .diff) refl
+counted-edges s t c j = rw (c .tables .at weight, c .tables .at first, c .tables .at second, c .tables .at stamp, c .diff) refl
 
 same-edges : (s t : Mem) → Same s t → (j : ℕ) → edgeNow s j ≡ edgeNow t j
 unfolding edgeNow turned edgeOf
-same-edges s t c j = rw (c .weight, c .first, c .second, c .stamp, c .diff) refl
+same-edges s t c j = rw (c .beside .at weight, c .beside .at first, c .beside .at second, c .beside .at stamp, c .diff) refl
 
 -- preparing turns an edge or leaves its ends
 pub prep-ends : (pl : Plan) (e : Edge) → ((prepare pl e .first ≡ e .first) × (prepare pl e .second ≡ e .second)) ⊎ ((prepare pl e .second ≡ e .first) × (prepare pl e .first ≡ e .second))
@@ -114,10 +116,10 @@ module _ (m n : ℕ) (gates : ℕ → ℕ) (past : ℕ) (s : Mem) (t : State) (R
 
     -- ---- the chosen edge dies
     abbrev pub s₁ : Mem
-    s₁ = weight-set s e 0
+    s₁ = store weight s e 0
 
     pub sound₁ : Sound m n s₁
-    sound₁ = sound-weight m n s (R .sound) e 0 (omega (arith, total-less (s .weight) e (omega (arith, R .sound .l-weight)), R .sound .light))
+    sound₁ = sound-weight m n s (R .sound) e 0 (omega (arith, total-less (s .at weight) e (omega (arith, R .sound .lengths weight)), R .sound .light))
 
     edge-is : pl .edge ≡ e
     unfolding plan planFor
@@ -141,16 +143,16 @@ module _ (m n : ℕ) (gates : ℕ → ℕ) (past : ℕ) (s : Mem) (t : State) (R
         and-false true = refl
         and-false false = refl
 
-    dead₁ : getD (s₁ .weight) e 0 ≡ 0
-    unfolding weight-set
-    dead₁ = getD-set-same (s .weight) e 0 0 (omega (arith, R .sound .l-weight))
+    dead₁ : getD (s₁ .at weight) e 0 ≡ 0
+    unfolding store
+    dead₁ = getD-set-same (s .at weight) e 0 0 (omega (arith, R .sound .lengths weight))
 
     kept₁ : (j : ℕ) → (j ≡ e → ⊥) → edgeNow s₁ j ≡ edgeNow s j
-    unfolding edgeNow turned edgeOf weight-set
-    kept₁ j w = rw (getD-set-other (s .weight) e j 0 0 w) refl
+    unfolding edgeNow turned edgeOf store
+    kept₁ j w = rw (getD-set-other (s .at weight) e j 0 0 w) refl
 
-    pub same₁ : (s₁ .stamp ≡ s .stamp) × (s₁ .enext ≡ s .enext) × (s₁ .elen ≡ s .elen) × (s₁ .rnext ≡ s .rnext) × (s₁ .rlen ≡ s .rlen) × (s₁ .size ≡ s .size) × (s₁ .count ≡ s .count)
-    unfolding weight-set
+    pub same₁ : (s₁ .at stamp ≡ s .at stamp) × (s₁ .at enext ≡ s .at enext) × (s₁ .at elen ≡ s .at elen) × (s₁ .at rnext ≡ s .at rnext) × (s₁ .at rlen ≡ s .at rlen) × (s₁ .at size ≡ s .at size) × (s₁ .at count ≡ s .at count)
+    unfolding store
     same₁ = (refl, refl, refl, refl, refl, refl, refl)
 
     like₁ : (j : ℕ) → j < m → Like (edgeNow s₁ j) (killed j)
@@ -168,20 +170,20 @@ module _ (m n : ℕ) (gates : ℕ → ℕ) (past : ℕ) (s : Mem) (t : State) (R
 
     -- ---- the base is stamped, and its edges stand from it
     abbrev pub s₂ : Mem
-    s₂ = stamp-set s₁ (pl .base) (past + 1)
+    s₂ = store stamp s₁ (pl .base) (past + 1)
 
-    pub beside₂ : Beside s₂ s₁
-    unfolding stamp-set
-    beside₂ = record { rnext = refl; size = refl; rlen = refl; count = refl }
+    pub beside₂ : Alike (is stamp) s₂ s₁
+    unfolding store
+    beside₂ = alike-store (is stamp) stamp s₁ (pl .base) (past + 1) refl
 
     pub sound₂ : Sound m n s₂
-    sound₂ = sound-stamp m n s₁ sound₁ (pl .base) (past + 1)
+    sound₂ = sound-store stamp m n s₁ sound₁ (pl .base) (past + 1) refl tt
 
-    newest₁ : (x : ℕ) → getD (s₁ .stamp) x 0 < past + 1
+    newest₁ : (x : ℕ) → getD (s₁ .at stamp) x 0 < past + 1
     newest₁ x = subst (λ (y : List ℕ). getD y x 0 < past + 1) (sym (same₁ .0)) (omega (arith, R .stamps x))
 
     circled₂ : Circled m n (R .node) killed s₂ (R .eown) (R .epos) (R .elens)
-    unfolding stamp-set
+    unfolding store
     circled₂ = circled-by m n (R .node) killed s s₂ (R .eown) (R .epos) (R .elens) (same₁ .1) (same₁ .2) (circled-less m n (R .node) (R .E) killed s (R .eown) (R .epos) (R .elens) lived (R .circled))
 
     proper : (j : ℕ) → j < m → killed j .live ≡ true → killed j .first ≡ killed j .second → ⊥
@@ -192,7 +194,7 @@ module _ (m n : ℕ) (gates : ℕ → ℕ) (past : ℕ) (s : Mem) (t : State) (R
     like₂ j h = go (killed j .live) refl
       where
         same-live : edgeNow s₂ j .live ≡ edgeNow s₁ j .live
-        same-live = let e : edgeOf s₂ j .live ≡ edgeOf s₁ j .live = unfold edgeOf stamp-set in refl in now-live s₂ j ∙ e ∙ sym (now-live s₁ j)
+        same-live = let e : edgeOf s₂ j .live ≡ edgeOf s₁ j .live = unfold edgeOf store in refl in now-live s₂ j ∙ e ∙ sym (now-live s₁ j)
 
         turn-live : turn (pl .base) (killed j) .live ≡ killed j .live
         turn-live = unfold turn turnIf in refl
@@ -202,7 +204,7 @@ module _ (m n : ℕ) (gates : ℕ → ℕ) (past : ℕ) (s : Mem) (t : State) (R
         go true u =
             let is : edgeNow s₁ j ≡ killed j = like₁ j h .whole u in
             let w : Stands s₁ j (killed j) = stands s₁ j (killed j) is u in
-            let apart₁ : getD (s₁ .first) j 0 ≡ getD (s₁ .second) j 0 → ⊥ = λ r. proper j h u (⊎-elim (λ p. sym (p .0) ∙ r ∙ p .1) (λ p. sym (p .1) ∙ sym r ∙ p .0) (w .ends)) in
+            let apart₁ : getD (s₁ .at first) j 0 ≡ getD (s₁ .at second) j 0 → ⊥ = λ r. proper j h u (⊎-elim (λ p. sym (p .0) ∙ r ∙ p .1) (λ p. sym (p .1) ∙ sym r ∙ p .0) (w .ends)) in
             like-of _ _ (stamp-now m n s₁ sound₁ (pl .base) (past + 1) base-in newest₁ j apart₁ ∙ ap (turn (pl .base)) is)
 
     -- ---- the moved node's edges go to the base
@@ -225,13 +227,13 @@ module _ (m n : ℕ) (gates : ℕ → ℕ) (past : ℕ) (s : Mem) (t : State) (R
 
       pub prunedₚ : Pruned m n (R .node) killed s₃ sₚ
       prunedₚ = prune-is m n (R .node) killed (pl .moved) moved-in moved-leads s₃ (R .eown) (R .epos) (R .elens)
-          (circled-by m n (R .node) killed s₂ s₃ (R .eown) (R .epos) (R .elens) (counted .enext) (counted .elen) circled₂) sound₃
+          (circled-by m n (R .node) killed s₂ s₃ (R .eown) (R .epos) (R .elens) (counted .tables .at enext) (counted .tables .at elen) circled₂) sound₃
           (λ j h k. live-word s₃ j (sym (now-live s₃ j) ∙ like₃ j h .live ∙ (unfold turn turnIf in k)))
 
-      stampₚ : sₚ .stamp ≡ s₂ .stamp
-      stampₚ = prunedₚ .same .stamp ∙ counted .stamp
+      stampₚ : sₚ .at stamp ≡ s₂ .at stamp
+      stampₚ = prunedₚ .same .beside .at stamp ∙ counted .tables .at stamp
 
-      middleₚ : Middle m (pl .base) (pl .moved) prep ready (sₚ .enext) (sₚ .elen) (sₚ .stamp) (λ j. false) sₚ
+      middleₚ : Middle m (pl .base) (pl .moved) prep ready (sₚ .at enext) (sₚ .at elen) (sₚ .at stamp) (λ j. false) sₚ
       middleₚ = begin m (pl .base) (pl .moved) g prep ready S sₚ (λ j h. like-at _ _ _ (same-edges sₚ s₃ (prunedₚ .same) j) (like₃ j h))
 
       abbrev pub s₄ : Mem
@@ -243,13 +245,9 @@ module _ (m n : ℕ) (gates : ℕ → ℕ) (past : ℕ) (s : Mem) (t : State) (R
       frame₄ : Frame s₄ sₚ
       frame₄ = frame-moved-all m (pl .base) (pl .moved) g sₚ
 
-      pub beside₄ : Beside s₄ s₃
-      beside₄ = record {
-        rnext = frame₄ .rnext ∙ prunedₚ .same .beside .rnext;
-        size = frame₄ .size ∙ prunedₚ .same .beside .size;
-        rlen = frame₄ .rlen ∙ prunedₚ .same .beside .rlen;
-        count = frame₄ .count ∙ prunedₚ .same .beside .count;
-      }
+      -- the tables of regions
+      pub beside₄ : (s₄ .at rnext ≡ s₃ .at rnext) × (s₄ .at size ≡ s₃ .at size) × (s₄ .at rlen ≡ s₃ .at rlen) × (s₄ .at count ≡ s₃ .at count)
+      beside₄ = let p = prunedₚ .same .beside in (frame₄ .at rnext ∙ p .at rnext, frame₄ .at size ∙ p .at size, frame₄ .at rlen ∙ p .at rlen, frame₄ .at count ∙ p .at count)
 
       -- owners, places and lengths in the chains of slots
       abbrev pub o₄ : ℕ → ℕ
@@ -262,7 +260,7 @@ module _ (m n : ℕ) (gates : ℕ → ℕ) (past : ℕ) (s : Mem) (t : State) (R
       l₄ = prunedₚ .l
 
       pub circled₄ : Circled m n (R .node) killed s₄ o₄ q₄ l₄
-      circled₄ = circled-by m n (R .node) killed sₚ s₄ o₄ q₄ l₄ (frame₄ .enext) (frame₄ .elen) (prunedₚ .circled)
+      circled₄ = circled-by m n (R .node) killed sₚ s₄ o₄ q₄ l₄ (frame₄ .at enext) (frame₄ .at elen) (prunedₚ .circled)
 
       -- an end of an edge before is one of the edge as prepared
       ended : (j x : ℕ) → (prep j .first ≡ x) ⊎ (prep j .second ≡ x) → (killed j .first ≡ x) ⊎ (killed j .second ≡ x)
@@ -283,30 +281,30 @@ module _ (m n : ℕ) (gates : ℕ → ℕ) (past : ℕ) (s : Mem) (t : State) (R
           (λ w. subst (λ (y : ℕ). (y < n) × (R .node y ≡ y)) (sym (ap (λ (z : Edge). z .second) (q .1)) ∙ w) (ends-in j h (q .0) .1, R .leading j h (q .0) .1))
           d
 
-      reach : (j x : ℕ) → j < m → prep j .live ≡ true → (prep j .first ≡ x) ⊎ (prep j .second ≡ x) → (i : ℕ) × (i < getD (sₚ .elen) x 0 - 1) × (cur (sₚ .enext) (getD (sₚ .enext) (2 * m + x) 0) i / 2 ≡ j)
+      reach : (j x : ℕ) → j < m → prep j .live ≡ true → (prep j .first ≡ x) ⊎ (prep j .second ≡ x) → (i : ℕ) × (i < getD (sₚ .at elen) x 0 - 1) × (cur (sₚ .at enext) (getD (sₚ .at enext) (2 * m + x) 0) i / 2 ≡ j)
       reach j x h k d =
           let kl : killed j .live ≡ true = sym (prep-live pl (R .E j)) ∙ k in
           let y : (x < n) × (R .node x ≡ x) = leads j x h kl (ended j x d) in
           met m n (R .node) killed sₚ o₄ q₄ l₄ (prunedₚ .circled) j x (y .0) (y .1) (at-end m o₄ j (killed j) x h (prunedₚ .circled .ends j h kl) (ended j x d))
 
-      grounds : Grounds m (pl .base) prep (sₚ .enext) (sₚ .elen) (sₚ .stamp)
+      grounds : Grounds m (pl .base) prep (sₚ .at enext) (sₚ .at elen) (sₚ .at stamp)
       grounds = record {
         reach = reach;
         newest = λ x w. subst (λ (y : List ℕ). getD y x 0 < getD y (pl .base) 0) (sym stampₚ) (stamp-newest m n s₁ sound₁ (pl .base) (past + 1) base-in newest₁ x w);
       }
 
-      walked : Walked m (pl .base) (pl .moved) g prep ready S (sₚ .enext) (sₚ .elen) (sₚ .stamp) grounds s₄ (λ j. false) (getD (sₚ .enext) (2 * m + pl .moved) 0) (getD (sₚ .elen) (pl .moved) 0 - 1)
+      walked : Walked m (pl .base) (pl .moved) g prep ready S (sₚ .at enext) (sₚ .at elen) (sₚ .at stamp) grounds s₄ (λ j. false) (getD (sₚ .at enext) (2 * m + pl .moved) 0) (getD (sₚ .at elen) (pl .moved) 0 - 1)
       unfolding movedAll
-      walked = walk m (pl .base) (pl .moved) g prep ready S (sₚ .enext) (sₚ .elen) (sₚ .stamp) grounds n ok (getD (sₚ .elen) (pl .moved) 0 - 1) sₚ (prunedₚ .sound) (λ j. false) middleₚ (getD (sₚ .enext) (2 * m + pl .moved) 0)
+      walked = walk m (pl .base) (pl .moved) g prep ready S (sₚ .at enext) (sₚ .at elen) (sₚ .at stamp) grounds n ok (getD (sₚ .at elen) (pl .moved) 0 - 1) sₚ (prunedₚ .sound) (λ j. false) middleₚ (getD (sₚ .at enext) (2 * m + pl .moved) 0)
 
       all-done : (j : ℕ) → j < m → prep j .live ≡ true → prep j .first ≡ pl .moved → walked .done' j ≡ true
       all-done j h k w =
-          let u : (i : ℕ) × (i < getD (sₚ .elen) (pl .moved) 0 - 1) × (cur (sₚ .enext) (getD (sₚ .enext) (2 * m + pl .moved) 0) i / 2 ≡ j) = reach j (pl .moved) h k (inl w) in
+          let u : (i : ℕ) × (i < getD (sₚ .at elen) (pl .moved) 0 - 1) × (cur (sₚ .at enext) (getD (sₚ .at enext) (2 * m + pl .moved) 0) i / 2 ≡ j) = reach j (pl .moved) h k (inl w) in
           ap (walked .done') (sym (u .2)) ∙ walked .seen (u .0) (u .1) (subst (λ (y : ℕ). y < m) (sym (u .2)) h)
           (ap (λ (y : ℕ). prep y .live) (u .2) ∙ k) (ap (λ (y : ℕ). prep y .first) (u .2) ∙ w)
 
       pub like₄ : (j : ℕ) → j < m → Like (edgeNow s₄ j) (combine (rows prep 0 m) (pl .base) (pl .moved) (prep j))
-      like₄ = finish m (pl .base) (pl .moved) g prep ready S (sₚ .enext) (sₚ .elen) (sₚ .stamp) s₄ (walked .done') (walked .middle) all-done
+      like₄ = finish m (pl .base) (pl .moved) g prep ready S (sₚ .at enext) (sₚ .at elen) (sₚ .at stamp) s₄ (walked .done') (walked .middle) all-done
 
-      pub stamps₄ : (x : ℕ) → getD (s₄ .stamp) x 0 ≤ past + 1
-      stamps₄ x = subst (λ (y : List ℕ). getD y x 0 ≤ past + 1) (sym (frame₄ .stamp ∙ stampₚ)) (stamp-most m n s₁ sound₁ (pl .base) (past + 1) base-in newest₁ x)
+      pub stamps₄ : (x : ℕ) → getD (s₄ .at stamp) x 0 ≤ past + 1
+      stamps₄ x = subst (λ (y : List ℕ). getD y x 0 ≤ past + 1) (sym (frame₄ .at stamp ∙ stampₚ)) (stamp-most m n s₁ sound₁ (pl .base) (past + 1) base-in newest₁ x)

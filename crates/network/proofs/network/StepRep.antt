@@ -13,7 +13,8 @@ use Rattle.network.proofs.Restrict.{prepare-num, combine-num}
 use Rattle.network.proofs.Ends.{combine-live}
 use Rattle.network.proofs.Choice.{size-base}
 use Rattle.network.proofs.SimpleLaws.{Turned, step-simple}
-use Rattle.merge.specs.Mem.{Mem, Sound, weight-set, stamp-set}
+use Rattle.merge.specs.Mem.{Mem, Sound, store}
+use Rattle.merge.specs.Table.{weight, enext, rnext, stamp, size, elen, rlen, count}
 use Rattle.merge.specs.Steps.{unbias, accepts, walkRaise, pruned, movedAll, handed, then, merged}
 use Rattle.network.specs.Net.{rows, regionOf}
 use Rattle.merge.specs.Chain.{cur, Chains, own-joined, pos-joined, len-joined}
@@ -21,7 +22,6 @@ use Rattle.network.specs.Rep.{Rep, Circled, Ends}
 use Rattle.merge.proofs.merge.SoundSet.{eq-or-ne}
 use Rattle.network.proofs.network.Rows.{map-rows, rows-ext}
 use Rattle.network.proofs.network.TableEdges.{like-at}
-use Rattle.merge.proofs.merge.Frames.{Beside}
 use Rattle.network.proofs.network.Moved.{same-no, same-yes}
 use Rattle.merge.proofs.merge.Counts.{Gained, Gives, raise}
 use Rattle.network.proofs.network.Sums.{accepts-is, accepted-sum, size-else, gates-move}
@@ -84,7 +84,7 @@ module _ (m n : ℕ) (gates : ℕ → ℕ) (past : ℕ) (s : Mem) (t : State) (R
   node' = own-joined (R .node) b v
 
   abbrev s₂ : Mem
-  s₂ = stamp-set (weight-set s e 0) b (past + 1)
+  s₂ = store stamp (store weight s e 0) b (past + 1)
 
   hb : b < n
   hb = base-in m n gates past s t R e lt l
@@ -101,11 +101,11 @@ module _ (m n : ℕ) (gates : ℕ → ℕ) (past : ℕ) (s : Mem) (t : State) (R
   ne : b ≡ v → ⊥
   ne = apart m n gates past s t R e lt l
 
-  rnext₂ : s₂ .rnext ≡ s .rnext
-  rnext₂ = beside₂ m n gates past s t R e lt l .rnext ∙ same₁ m n gates past s t R e lt l .3
+  rnext₂ : s₂ .at rnext ≡ s .at rnext
+  rnext₂ = beside₂ m n gates past s t R e lt l .at rnext ∙ same₁ m n gates past s t R e lt l .3
 
-  count₂ : s₂ .count ≡ s .count
-  count₂ = beside₂ m n gates past s t R e lt l .count ∙ same₁ m n gates past s t R e lt l .6
+  count₂ : s₂ .at count ≡ s .at count
+  count₂ = beside₂ m n gates past s t R e lt l .at count ∙ same₁ m n gates past s t R e lt l .6
 
   node-moved : (x : ℕ) → R .node x ≡ v → node' x ≡ b
   unfolding own-joined
@@ -129,7 +129,7 @@ module _ (m n : ℕ) (gates : ℕ → ℕ) (past : ℕ) (s : Mem) (t : State) (R
       ∙ ap (λ (x : List Edge). map (combine x b v) x) (map-rows (prepare pl) (R .E) 0 m) ∙ map-rows (combine (rows prep 0 m) b v) prep 0 m
 
   -- ---- the counts
-  module _ (g : ℕ) (gain : unbias g ≡ pl .gain) (g-in : g ≤ 2000) (s₃ : Mem) (G : Gained g (s .rnext) v (getD (s .rlen) v 0) n s₂ s₃) where
+  module _ (g : ℕ) (gain : unbias g ≡ pl .gain) (g-in : g ≤ 2000) (s₃ : Mem) (G : Gained g (s .at rnext) v (getD (s .at rlen) v 0) n s₂ s₃) where
     abbrev s₄ : Mem
     s₄ = movedAll m b v g (pruned m v s₃)
 
@@ -139,31 +139,31 @@ module _ (m n : ℕ) (gates : ℕ → ℕ) (past : ℕ) (s : Mem) (t : State) (R
     sound₃ : Sound m n s₃
     sound₃ = G .sound m (sound₂ m n gates past s t R e lt l)
 
-    still₄ : Beside s₄ s₃
+    still₄ : (s₄ .at rnext ≡ s₃ .at rnext) × (s₄ .at size ≡ s₃ .at size) × (s₄ .at rlen ≡ s₃ .at rlen) × (s₄ .at count ≡ s₃ .at count)
     still₄ = beside₄ m n gates past s t R e lt l g gain g-in s₃ (G .else) sound₃
 
-    rnext₄ : s₄ .rnext ≡ s .rnext
-    rnext₄ = still₄ .rnext ∙ G .else .rnext ∙ rnext₂
+    rnext₄ : s₄ .at rnext ≡ s .at rnext
+    rnext₄ = still₄ .0 ∙ G .else .tables .at rnext ∙ rnext₂
 
-    size₄ : s₄ .size ≡ s .size
-    size₄ = still₄ .size ∙ G .else .size ∙ beside₂ m n gates past s t R e lt l .size ∙ same₁ m n gates past s t R e lt l .5
+    size₄ : s₄ .at size ≡ s .at size
+    size₄ = still₄ .1 ∙ G .else .tables .at size ∙ beside₂ m n gates past s t R e lt l .at size ∙ same₁ m n gates past s t R e lt l .5
 
-    rlen₄ : s₄ .rlen ≡ s .rlen
-    rlen₄ = still₄ .rlen ∙ G .else .rlen ∙ beside₂ m n gates past s t R e lt l .rlen ∙ same₁ m n gates past s t R e lt l .4
+    rlen₄ : s₄ .at rlen ≡ s .at rlen
+    rlen₄ = still₄ .2 ∙ G .else .tables .at rlen ∙ beside₂ m n gates past s t R e lt l .at rlen ∙ same₁ m n gates past s t R e lt l .4
 
-    count₆ : s₆ .count ≡ s₃ .count
-    count₆ = after-count m b v s₄ ∙ still₄ .count
+    count₆ : s₆ .at count ≡ s₃ .at count
+    count₆ = after-count m b v s₄ ∙ still₄ .3
 
     -- a region of the moved node stands in its chain
-    moved-count : (r : ℕ) → r < n → R .node r ≡ v → (accepts (getD (s .count) r 0 + g) ≡ true) × (getD (s₃ .count) r 0 ≡ getD (s .count) r 0 + g - 1000)
+    moved-count : (r : ℕ) → r < n → R .node r ≡ v → (accepts (getD (s .at count) r 0 + g) ≡ true) × (getD (s₃ .at count) r 0 ≡ getD (s .at count) r 0 + g - 1000)
     moved-count r h w =
         let i : ℕ = R .rpos r in
-        let at-r : cur (s .rnext) v i ≡ r = ap (λ (x : ℕ). cur (s .rnext) x i) (sym w) ∙ R .rchains .at r h in
-        let p : i < getD (s .rlen) v 0 = subst (λ (x : ℕ). i < getD (s .rlen) x 0) w (R .rchains .here r h) in
-        let c : getD (s₂ .count) (cur (s .rnext) v i) 0 ≡ getD (s .count) r 0 = ap (λ (x : List ℕ). getD x (cur (s .rnext) v i) 0) count₂ ∙ ap (λ (x : ℕ). getD (s .count) x 0) at-r in
-        (ap (λ (x : ℕ). accepts (x + g)) (sym c) ∙ G .yes i p, ap (λ (x : ℕ). getD (s₃ .count) x 0) (sym at-r) ∙ G .here i p ∙ ap (λ (x : ℕ). x + g - 1000) c)
+        let at-r : cur (s .at rnext) v i ≡ r = ap (λ (x : ℕ). cur (s .at rnext) x i) (sym w) ∙ R .rchains .at r h in
+        let p : i < getD (s .at rlen) v 0 = subst (λ (x : ℕ). i < getD (s .at rlen) x 0) w (R .rchains .here r h) in
+        let c : getD (s₂ .at count) (cur (s .at rnext) v i) 0 ≡ getD (s .at count) r 0 = ap (λ (x : List ℕ). getD x (cur (s .at rnext) v i) 0) count₂ ∙ ap (λ (x : ℕ). getD (s .at count) x 0) at-r in
+        (ap (λ (x : ℕ). accepts (x + g)) (sym c) ∙ G .yes i p, ap (λ (x : ℕ). getD (s₃ .at count) x 0) (sym at-r) ∙ G .here i p ∙ ap (λ (x : ℕ). x + g - 1000) c)
 
-    other-count : (r : ℕ) → (R .node r ≡ v → ⊥) → getD (s₃ .count) r 0 ≡ getD (s .count) r 0
+    other-count : (r : ℕ) → (R .node r ≡ v → ⊥) → getD (s₃ .at count) r 0 ≡ getD (s .at count) r 0
     other-count r w =
         G .there r (λ i p q. w (ap (R .node) q ∙ R .rchains .owned v i hv lv p)) ∙ ap (λ (x : List ℕ). getD x r 0) count₂
 
@@ -171,23 +171,23 @@ module _ (m n : ℕ) (gates : ℕ → ℕ) (past : ℕ) (s : Mem) (t : State) (R
     unfolding move regionOf own-joined
     region' r h = ⊎-elim mine other (eq-or-ne (R .node r) v)
       where
-        c₆ : getD (s₆ .count) r 0 ≡ getD (s₃ .count) r 0
+        c₆ : getD (s₆ .at count) r 0 ≡ getD (s₃ .at count) r 0
         c₆ = ap (λ (x : List ℕ). getD x r 0) count₆
 
         mine : R .node r ≡ v → move pl (regionOf gates (R .node) s r) ≡ regionOf gates node' s₆ r
         mine w =
-            let q : (accepts (getD (s .count) r 0 + g) ≡ true) × (getD (s₃ .count) r 0 ≡ getD (s .count) r 0 + g - 1000) = moved-count r h w in
+            let q : (accepts (getD (s .at count) r 0 + g) ≡ true) × (getD (s₃ .at count) r 0 ≡ getD (s .at count) r 0 + g - 1000) = moved-count r h w in
             let yes : eqb v (R .node r) ≡ true = same-yes v (R .node r) (sym w) in
-            let c : cond (eqb v (R .node r)) (unbias (getD (s .count) r 0) +ℤ pl .gain) (unbias (getD (s .count) r 0)) ≡ unbias (getD (s₆ .count) r 0) =
-            ap (λ (x : Bool). cond x (unbias (getD (s .count) r 0) +ℤ pl .gain) (unbias (getD (s .count) r 0))) yes ∙ ap (λ (z : ℤ). unbias (getD (s .count) r 0) +ℤ z) (sym gain)
-            ∙ sym (accepted-sum (getD (s .count) r 0) g (q .0)) ∙ ap unbias (sym (q .1)) ∙ ap unbias (sym c₆) in
+            let c : cond (eqb v (R .node r)) (unbias (getD (s .at count) r 0) +ℤ pl .gain) (unbias (getD (s .at count) r 0)) ≡ unbias (getD (s₆ .at count) r 0) =
+            ap (λ (x : Bool). cond x (unbias (getD (s .at count) r 0) +ℤ pl .gain) (unbias (getD (s .at count) r 0))) yes ∙ ap (λ (z : ℤ). unbias (getD (s .at count) r 0) +ℤ z) (sym gain)
+            ∙ sym (accepted-sum (getD (s .at count) r 0) g (q .0)) ∙ ap unbias (sym (q .1)) ∙ ap unbias (sym c₆) in
             λ i. record { label = r; size = gates r; node = cond (eqb v (R .node r)) b (R .node r); count = c i }
 
         other : (R .node r ≡ v → ⊥) → move pl (regionOf gates (R .node) s r) ≡ regionOf gates node' s₆ r
         other w =
             let no : eqb v (R .node r) ≡ false = same-no v (R .node r) (λ q. w (sym q)) in
-            let c : cond (eqb v (R .node r)) (unbias (getD (s .count) r 0) +ℤ pl .gain) (unbias (getD (s .count) r 0)) ≡ unbias (getD (s₆ .count) r 0) =
-            ap (λ (x : Bool). cond x (unbias (getD (s .count) r 0) +ℤ pl .gain) (unbias (getD (s .count) r 0))) no ∙ ap unbias (sym (other-count r w)) ∙ ap unbias (sym c₆) in
+            let c : cond (eqb v (R .node r)) (unbias (getD (s .at count) r 0) +ℤ pl .gain) (unbias (getD (s .at count) r 0)) ≡ unbias (getD (s₆ .at count) r 0) =
+            ap (λ (x : Bool). cond x (unbias (getD (s .at count) r 0) +ℤ pl .gain) (unbias (getD (s .at count) r 0))) no ∙ ap unbias (sym (other-count r w)) ∙ ap unbias (sym c₆) in
             λ i. record { label = r; size = gates r; node = cond (eqb v (R .node r)) b (R .node r); count = c i }
 
     moved-rows : map (move pl) rs ≡ rows (regionOf gates node' s₆) 0 n
@@ -198,12 +198,12 @@ module _ (m n : ℕ) (gates : ℕ → ℕ) (past : ℕ) (s : Mem) (t : State) (R
     regions' = ap (λ (x : State). x .regions) merges ∙ ap (map (move pl)) (R .regions) ∙ moved-rows
 
     -- ---- the chains
-    rchains' : Chains (s₆ .rnext) n node' (pos-joined (R .node) (R .rpos) (λ x. getD (s .rlen) x 0) b v) (λ x. getD (s₆ .rlen) x 0)
+    rchains' : Chains (s₆ .at rnext) n node' (pos-joined (R .node) (R .rpos) (λ x. getD (s .at rlen) x 0) b v) (λ x. getD (s₆ .at rlen) x 0)
     unfolding len-joined
-    rchains' = subst (λ (N : List ℕ). Chains N n node' (pos-joined (R .node) (R .rpos) (λ x. getD (s .rlen) x 0) b v) (λ x. getD (s₆ .rlen) x 0)) (sym (after-rnext m b v s₄ ∙ ap (λ (N : List ℕ). swap N b v) rnext₄))
-        (chains-len (swap (s .rnext) b v) n node' (pos-joined (R .node) (R .rpos) (λ x. getD (s .rlen) x 0) b v) (len-joined (λ x. getD (s .rlen) x 0) b v) (λ x. getD (s₆ .rlen) x 0)
-        (swapped (s .rnext) n (R .node) (R .rpos) (λ x. getD (s .rlen) x 0) (R .rchains) (R .sound .l-rnext) b v hb hv lb lv ne)
-        (λ h p o. sym (ap (λ (y : List ℕ). getD y h 0) (after-rlen m b v s₄ ∙ ap (λ (y : List ℕ). set y b (getD y b 0 + getD y v 0)) rlen₄) ∙ sum-there (s .rlen) n b v h (R .sound .l-rlen) hb)))
+    rchains' = subst (λ (N : List ℕ). Chains N n node' (pos-joined (R .node) (R .rpos) (λ x. getD (s .at rlen) x 0) b v) (λ x. getD (s₆ .at rlen) x 0)) (sym (after-rnext m b v s₄ ∙ ap (λ (N : List ℕ). swap N b v) rnext₄))
+        (chains-len (swap (s .at rnext) b v) n node' (pos-joined (R .node) (R .rpos) (λ x. getD (s .at rlen) x 0) b v) (len-joined (λ x. getD (s .at rlen) x 0) b v) (λ x. getD (s₆ .at rlen) x 0)
+        (swapped (s .at rnext) n (R .node) (R .rpos) (λ x. getD (s .at rlen) x 0) (R .rchains) (R .sound .lengths rnext) b v hb hv lb lv ne)
+        (λ h p o. sym (ap (λ (y : List ℕ). getD y h 0) (after-rlen m b v s₄ ∙ ap (λ (y : List ℕ). set y b (getD y b 0 + getD y v 0)) rlen₄) ∙ sum-there (s .at rlen) n b v h (R .sound .lengths rlen) hb)))
 
     -- owners, places and lengths in the chains of slots, before they are joined
     abbrev o : ℕ → ℕ
@@ -234,9 +234,9 @@ module _ (m n : ℕ) (gates : ℕ → ℕ) (past : ℕ) (s : Mem) (t : State) (R
         ap (λ (z : Bool). cond z (2 * m + b) (o i)) y ∙ w ∙ ap (λ (z : ℕ). 2 * m + z) (sym (to-else b v x q)))
         (eq-or-ne x v)
 
-    echains' : Chains (s₆ .enext) (2 * m + n) eown' (pos-joined o q len (2 * m + b) (2 * m + v)) (len-joined len (2 * m + b) (2 * m + v))
+    echains' : Chains (s₆ .at enext) (2 * m + n) eown' (pos-joined o q len (2 * m + b) (2 * m + v)) (len-joined len (2 * m + b) (2 * m + v))
     echains' = subst (λ (N : List ℕ). Chains N (2 * m + n) eown' (pos-joined o q len (2 * m + b) (2 * m + v)) (len-joined len (2 * m + b) (2 * m + v))) (sym (after-enext m b v s₄))
-        (swapped (s₄ .enext) (2 * m + n) o q len (C .echains) (sound₄ m n gates past s t R e lt l g gain g-in s₃ (G .else) sound₃ .l-enext) (2 * m + b) (2 * m + v) (omega (arith, hb)) (omega (arith, hv)) (C .header b hb lb) (C .header v hv lv) (λ w. ne (omega arith)))
+        (swapped (s₄ .at enext) (2 * m + n) o q len (C .echains) (sound₄ m n gates past s t R e lt l g gain g-in s₃ (G .else) sound₃ .lengths enext) (2 * m + b) (2 * m + v) (omega (arith, hb)) (omega (arith, hv)) (C .header b hb lb) (C .header v hv lv) (λ w. ne (omega arith)))
 
     -- a node that leads afterwards led before, and is not the moved node
     was-leader : (x : ℕ) → node' x ≡ x → (R .node x ≡ x) × (x ≡ v → ⊥)
@@ -248,14 +248,14 @@ module _ (m n : ℕ) (gates : ℕ → ℕ) (past : ℕ) (s : Mem) (t : State) (R
     header' : (x : ℕ) → x < n → node' x ≡ x → eown' (2 * m + x) ≡ 2 * m + x
     header' x h w = eown-to (2 * m + x) x (C .header x h (was-leader x w .0)) ∙ ap (λ (y : ℕ). 2 * m + y) (to-else b v x (was-leader x w .1))
 
-    lengths' : (x : ℕ) → x < n → node' x ≡ x → len-joined len (2 * m + b) (2 * m + v) (2 * m + x) ≡ getD (s₆ .elen) x 0
+    lengths' : (x : ℕ) → x < n → node' x ≡ x → len-joined len (2 * m + b) (2 * m + v) (2 * m + x) ≡ getD (s₆ .at elen) x 0
     unfolding len-joined
-    lengths' x h w = ⊎-elim here there (eq-or-ne x b) ∙ sym (ap (λ (y : List ℕ). getD y x 0) (after-elen m b v s₄) ∙ sum-there (s₄ .elen) n b v x (sound₄ m n gates past s t R e lt l g gain g-in s₃ (G .else) sound₃ .l-elen) hb)
+    lengths' x h w = ⊎-elim here there (eq-or-ne x b) ∙ sym (ap (λ (y : List ℕ). getD y x 0) (after-elen m b v s₄) ∙ sum-there (s₄ .at elen) n b v x (sound₄ m n gates past s t R e lt l g gain g-in s₃ (G .else) sound₃ .lengths elen) hb)
       where
-        here : x ≡ b → cond (eqb (2 * m + b) (2 * m + x)) (len (2 * m + b) + len (2 * m + v)) (len (2 * m + x)) ≡ cond (eqb b x) (getD (s₄ .elen) b 0 + getD (s₄ .elen) v 0) (getD (s₄ .elen) x 0)
-        here z = rw (same-yes (2 * m + b) (2 * m + x) (omega arith), same-yes b x (sym z)) (ap (λ (y : ℕ). y + len (2 * m + v)) (C .lengths b hb lb) ∙ ap (λ (y : ℕ). getD (s₄ .elen) b 0 + y) (C .lengths v hv lv))
+        here : x ≡ b → cond (eqb (2 * m + b) (2 * m + x)) (len (2 * m + b) + len (2 * m + v)) (len (2 * m + x)) ≡ cond (eqb b x) (getD (s₄ .at elen) b 0 + getD (s₄ .at elen) v 0) (getD (s₄ .at elen) x 0)
+        here z = rw (same-yes (2 * m + b) (2 * m + x) (omega arith), same-yes b x (sym z)) (ap (λ (y : ℕ). y + len (2 * m + v)) (C .lengths b hb lb) ∙ ap (λ (y : ℕ). getD (s₄ .at elen) b 0 + y) (C .lengths v hv lv))
 
-        there : (x ≡ b → ⊥) → cond (eqb (2 * m + b) (2 * m + x)) (len (2 * m + b) + len (2 * m + v)) (len (2 * m + x)) ≡ cond (eqb b x) (getD (s₄ .elen) b 0 + getD (s₄ .elen) v 0) (getD (s₄ .elen) x 0)
+        there : (x ≡ b → ⊥) → cond (eqb (2 * m + b) (2 * m + x)) (len (2 * m + b) + len (2 * m + v)) (len (2 * m + x)) ≡ cond (eqb b x) (getD (s₄ .at elen) b 0 + getD (s₄ .at elen) v 0) (getD (s₄ .at elen) x 0)
         there z = rw (same-no (2 * m + b) (2 * m + x) (λ y. z (omega arith)), same-no b x (λ y. z (sym y))) (C .lengths x h (was-leader x w .0))
 
     -- ---- the edges
@@ -309,25 +309,25 @@ module _ (m n : ℕ) (gates : ℕ → ℕ) (past : ℕ) (s : Mem) (t : State) (R
         go (inl p) w = (end-to _ _ _ (c .0) (p .0) (w .0), end-to _ _ _ (c .1) (p .1) (w .1))
         go (inr p) w = (end-to _ _ _ (c .0) (p .1) (w .1), end-to _ _ _ (c .1) (p .0) (w .0))
 
-    stamps' : (x : ℕ) → getD (s₆ .stamp) x 0 ≤ past + 1
+    stamps' : (x : ℕ) → getD (s₆ .at stamp) x 0 ≤ past + 1
     stamps' x = subst (λ (y : List ℕ). getD y x 0 ≤ past + 1) (sym (after-stamp m b v s₄)) (stamps₄ m n gates past s t R e lt l g gain g-in s₃ (G .else) sound₃ x)
 
     -- ---- the sizes
-    sizes' : (x : ℕ) → x < n → node' x ≡ x → getD (s₆ .size) x 0 ≡ sizeOf (rows (regionOf gates node' s₆) 0 n) x
+    sizes' : (x : ℕ) → x < n → node' x ≡ x → getD (s₆ .at size) x 0 ≡ sizeOf (rows (regionOf gates node' s₆) 0 n) x
     sizes' x h w =
-        ap (λ (y : List ℕ). getD y x 0) (after-size m b v s₄ ∙ ap (λ (y : List ℕ). set y b (getD y b 0 + getD y v 0)) size₄) ∙ sum-there (s .size) n b v x (R .sound .l-size) hb
+        ap (λ (y : List ℕ). getD y x 0) (after-size m b v s₄ ∙ ap (λ (y : List ℕ). set y b (getD y b 0 + getD y v 0)) size₄) ∙ sum-there (s .at size) n b v x (R .sound .lengths size) hb
         ∙ ⊎-elim grown kept (eq-or-ne x b) ∙ ap (λ (y : List Region). sizeOf y x) moved-rows
       where
-        grown : x ≡ b → cond (eqb b x) (getD (s .size) b 0 + getD (s .size) v 0) (getD (s .size) x 0) ≡ sizeOf (map (move pl) rs) x
+        grown : x ≡ b → cond (eqb b x) (getD (s .at size) b 0 + getD (s .at size) v 0) (getD (s .at size) x 0) ≡ sizeOf (map (move pl) rs) x
         grown q =
-            ap (λ (y : Bool). cond y (getD (s .size) b 0 + getD (s .size) v 0) (getD (s .size) x 0)) (same-yes b x (sym q))
-            ∙ ap (λ (y : ℕ). y + getD (s .size) v 0) (R .sizes b hb lb) ∙ ap (λ (y : ℕ). sizeOf rs b + y) (R .sizes v hv lv) ∙ sym (size-base pl (same-no b v ne) rs) ∙ ap (sizeOf (map (move pl) rs)) (sym q)
+            ap (λ (y : Bool). cond y (getD (s .at size) b 0 + getD (s .at size) v 0) (getD (s .at size) x 0)) (same-yes b x (sym q))
+            ∙ ap (λ (y : ℕ). y + getD (s .at size) v 0) (R .sizes b hb lb) ∙ ap (λ (y : ℕ). sizeOf rs b + y) (R .sizes v hv lv) ∙ sym (size-base pl (same-no b v ne) rs) ∙ ap (sizeOf (map (move pl) rs)) (sym q)
 
-        kept : (x ≡ b → ⊥) → cond (eqb b x) (getD (s .size) b 0 + getD (s .size) v 0) (getD (s .size) x 0) ≡ sizeOf (map (move pl) rs) x
+        kept : (x ≡ b → ⊥) → cond (eqb b x) (getD (s .at size) b 0 + getD (s .at size) v 0) (getD (s .at size) x 0) ≡ sizeOf (map (move pl) rs) x
         kept q = ⊎-elim
             (λ r. absurd (q (sym w ∙ node-moved x r)))
             (λ r. let o : R .node x ≡ x = sym (node-else x r) ∙ w in
-            ap (λ (y : Bool). cond y (getD (s .size) b 0 + getD (s .size) v 0) (getD (s .size) x 0)) (same-no b x (λ z. q (sym z)))
+            ap (λ (y : Bool). cond y (getD (s .at size) b 0 + getD (s .at size) v 0) (getD (s .at size) x 0)) (same-no b x (λ z. q (sym z)))
             ∙ R .sizes x h o ∙ sym (size-else pl x q (λ z. r (o ∙ z)) rs))
             (eq-or-ne (R .node x) v)
 
@@ -335,7 +335,7 @@ module _ (m n : ℕ) (gates : ℕ → ℕ) (past : ℕ) (s : Mem) (t : State) (R
     rep' = record {
       E = E';
       node = node';
-      rpos = pos-joined (R .node) (R .rpos) (λ x. getD (s .rlen) x 0) b v;
+      rpos = pos-joined (R .node) (R .rpos) (λ x. getD (s .at rlen) x 0) b v;
       eown = eown';
       epos = pos-joined o q len (2 * m + b) (2 * m + v);
       elens = len-joined len (2 * m + b) (2 * m + v);
@@ -357,7 +357,7 @@ module _ (m n : ℕ) (gates : ℕ → ℕ) (past : ℕ) (s : Mem) (t : State) (R
     yes' : all (bounded 1000) (raised (pl .gain) rs v) ≡ true
     yes' = all-yes (regionOf gates (R .node) s) (pl .gain) v 0 n
         (λ r p q w. ap (λ (z : ℤ). bounded 1000 (regionOf gates (R .node) s r .count +ℤ z)) (sym gain)
-        ∙ (unfold regionOf in sym (accepts-is (getD (s .count) r 0) g) ∙ moved-count r (omega arith) w .0))
+        ∙ (unfold regionOf in sym (accepts-is (getD (s .at count) r 0) g) ∙ moved-count r (omega arith) w .0))
 
   -- ---- the whole merge
   unfoldable pub MergeIs : Option Mem → Type 0
@@ -366,13 +366,13 @@ module _ (m n : ℕ) (gates : ℕ → ℕ) (past : ℕ) (s : Mem) (t : State) (R
 
   pub merge-is : (g : ℕ) → unbias g ≡ pl .gain → g ≤ 2000 → MergeIs (merged m (past + 1) e b v g s)
   unfolding MergeIs merged then handed Gives
-  merge-is g gain g-in = go (walkRaise (getD (s .rlen) v 0) g s₂ v)
-      (raise g (s .rnext) n (getD (s .rlen) v 0) v s₂ (ap length count₂ ∙ R .sound .l-count) rnext₂ (λ i p. R .rchains .inside v i hv lv p)
+  merge-is g gain g-in = go (walkRaise (getD (s .at rlen) v 0) g s₂ v)
+      (raise g (s .at rnext) n (getD (s .at rlen) v 0) v s₂ (ap length count₂ ∙ R .sound .lengths count) rnext₂ (λ i p. R .rchains .inside v i hv lv p)
       (λ i j p q r. sym (R .rchains .placed v i hv lv p) ∙ ap (R .rpos) r ∙ R .rchains .placed v j hv lv q))
     where
-      go : (o : Option Mem) → Gives g (s .rnext) v (getD (s .rlen) v 0) n s₂ o → MergeIs (then o (handed m b v g))
+      go : (o : Option Mem) → Gives g (s .at rnext) v (getD (s .at rlen) v 0) n s₂ o → MergeIs (then o (handed m b v g))
       go none w =
-          let r : ℕ = cur (s .rnext) v (w .0) in
+          let r : ℕ = cur (s .at rnext) v (w .0) in
           all-no (regionOf gates (R .node) s) (pl .gain) v 0 n r (omega arith) (omega (arith, R .rchains .inside v (w .0) hv lv (w .1))) (unfold regionOf in R .rchains .owned v (w .0) hv lv (w .1))
-          (ap (λ (z : ℤ). bounded 1000 (regionOf gates (R .node) s r .count +ℤ z)) (sym gain) ∙ (unfold regionOf in sym (accepts-is (getD (s .count) r 0) g) ∙ ap (λ (x : List ℕ). accepts (getD x r 0 + g)) (sym count₂) ∙ w .2))
+          (ap (λ (z : ℤ). bounded 1000 (regionOf gates (R .node) s r .count +ℤ z)) (sym gain) ∙ (unfold regionOf in sym (accepts-is (getD (s .at count) r 0) g) ∙ ap (λ (x : List ℕ). accepts (getD x r 0 + g)) (sym count₂) ∙ w .2))
       go (some s₃) w = (yes' g gain g-in s₃ w, rep' g gain g-in s₃ w)

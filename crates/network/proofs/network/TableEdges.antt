@@ -9,7 +9,8 @@ use lib.ListN.{getD, set, length-set}
 use lib.Seq.{getD-set-same, getD-set-other}
 use borrow.Author.Tests.{eqb-true, eq-eqb, ne-eqb}
 use Rattle.network.specs.Network.{Edge}
-use Rattle.merge.specs.Mem.{Mem, Sound, weight-set, first-set, second-set, diff-set}
+use Rattle.merge.specs.Mem.{Mem, Sound, store, diff-set}
+use Rattle.merge.specs.Table.{weight, first, second}
 use Rattle.merge.specs.Steps.{turnAt, absorbAt, attachAt, joinEdge, shift, movedEdge}
 use Rattle.network.specs.Net.{edgeOf, Like}
 
@@ -26,32 +27,32 @@ pub like-at : (x y z : Edge) → x ≡ y → Like y z → Like x z
 like-at x y z e h = subst (λ (t : Edge). Like t z) (sym e) h
 
 -- ---- live and dead words
-pub live-word : (s : Mem) (j : ℕ) → edgeOf s j .live ≡ true → getD (s .weight) j 0 ≡ 0 → ⊥
+pub live-word : (s : Mem) (j : ℕ) → edgeOf s j .live ≡ true → getD (s .at weight) j 0 ≡ 0 → ⊥
 unfolding edgeOf
-live-word s j h e = true≢false (sym h ∙ (rw (eq-eqb (getD (s .weight) j 0) 0 e) refl))
+live-word s j h e = true≢false (sym h ∙ (rw (eq-eqb (getD (s .at weight) j 0) 0 e) refl))
 
-pub word-live : (s : Mem) (j : ℕ) → (getD (s .weight) j 0 ≡ 0 → ⊥) → edgeOf s j .live ≡ true
+pub word-live : (s : Mem) (j : ℕ) → (getD (s .at weight) j 0 ≡ 0 → ⊥) → edgeOf s j .live ≡ true
 unfolding edgeOf
-word-live s j h = rw (ne-eqb (getD (s .weight) j 0) 0 h) refl
+word-live s j h = rw (ne-eqb (getD (s .at weight) j 0) 0 h) refl
 
-pub dead-word : (s : Mem) (j : ℕ) → edgeOf s j .live ≡ false → getD (s .weight) j 0 ≡ 0
+pub dead-word : (s : Mem) (j : ℕ) → edgeOf s j .live ≡ false → getD (s .at weight) j 0 ≡ 0
 unfolding edgeOf
-dead-word s j h = go (eqb (getD (s .weight) j 0) 0) refl h
+dead-word s j h = go (eqb (getD (s .at weight) j 0) 0) refl h
   where
-    go : (t : Bool) → eqb (getD (s .weight) j 0) 0 ≡ t → not t ≡ false → getD (s .weight) j 0 ≡ 0
-    go true e r = eqb-true (getD (s .weight) j 0) 0 e
+    go : (t : Bool) → eqb (getD (s .at weight) j 0) 0 ≡ t → not t ≡ false → getD (s .at weight) j 0 ≡ 0
+    go true e r = eqb-true (getD (s .at weight) j 0) 0 e
     go false e r = absurd (true≢false r)
 
-pub word-dead : (s : Mem) (j : ℕ) → getD (s .weight) j 0 ≡ 0 → edgeOf s j .live ≡ false
+pub word-dead : (s : Mem) (j : ℕ) → getD (s .at weight) j 0 ≡ 0 → edgeOf s j .live ≡ false
 unfolding edgeOf
-word-dead s j h = rw (eq-eqb (getD (s .weight) j 0) 0 h) refl
+word-dead s j h = rw (eq-eqb (getD (s .at weight) j 0) 0 h) refl
 
 -- an edge by its words
 pub record Words (s : Mem) (j : ℕ) (e : Edge) : Type 0 where
-  pub some : getD (s .weight) j 0 ≡ 0 → ⊥
-  pub first-is : getD (s .first) j 0 ≡ e .first
-  pub second-is : getD (s .second) j 0 ≡ e .second
-  pub weight-is : getD (s .weight) j 0 ≡ e .weight
+  pub some : getD (s .at weight) j 0 ≡ 0 → ⊥
+  pub first-is : getD (s .at first) j 0 ≡ e .first
+  pub second-is : getD (s .at second) j 0 ≡ e .second
+  pub weight-is : getD (s .at weight) j 0 ≡ e .weight
   pub diff-is : getD (s .diff) j nan ≡ e .diff
 
 pub words : (s : Mem) (j : ℕ) (e : Edge) → edgeOf s j ≡ e → e .live ≡ true → Words s j e
@@ -65,60 +66,60 @@ words s j e h l = record {
 
 -- ---- which step movedEdge is
 module _ (m b v g : ℕ) (s : Mem) (f : ℕ) where
-  pub moved-none : getD (s .weight) f 0 ≡ 0 → movedEdge m b v g s f ≡ s
+  pub moved-none : getD (s .at weight) f 0 ≡ 0 → movedEdge m b v g s f ≡ s
   unfolding movedEdge
-  moved-none e = rw (eq-eqb (getD (s .weight) f 0) 0 e) refl
+  moved-none e = rw (eq-eqb (getD (s .at weight) f 0) 0 e) refl
 
-  module _ (live : getD (s .weight) f 0 ≡ 0 → ⊥) where
-    pub moved-else : (getD (s .first) f 0 ≡ v → ⊥) → (getD (s .second) f 0 ≡ v → ⊥) → movedEdge m b v g s f ≡ s
+  module _ (live : getD (s .at weight) f 0 ≡ 0 → ⊥) where
+    pub moved-else : (getD (s .at first) f 0 ≡ v → ⊥) → (getD (s .at second) f 0 ≡ v → ⊥) → movedEdge m b v g s f ≡ s
     unfolding movedEdge
-    moved-else p q = rw (ne-eqb (getD (s .weight) f 0) 0 live, ne-eqb (getD (s .first) f 0) v p, ne-eqb (getD (s .second) f 0) v q) refl
+    moved-else p q = rw (ne-eqb (getD (s .at weight) f 0) 0 live, ne-eqb (getD (s .at first) f 0) v p, ne-eqb (getD (s .at second) f 0) v q) refl
 
-    pub moved-one : getD (s .first) f 0 ≡ v → movedEdge m b v g s f ≡ joinEdge m b s f (getD (s .second) f 0) (shift false g (getD (s .weight) f 0) (getD (s .diff) f nan))
+    pub moved-one : getD (s .at first) f 0 ≡ v → movedEdge m b v g s f ≡ joinEdge m b s f (getD (s .at second) f 0) (shift false g (getD (s .at weight) f 0) (getD (s .diff) f nan))
     unfolding movedEdge
-    moved-one p = rw (ne-eqb (getD (s .weight) f 0) 0 live, eq-eqb (getD (s .first) f 0) v p) refl
+    moved-one p = rw (ne-eqb (getD (s .at weight) f 0) 0 live, eq-eqb (getD (s .at first) f 0) v p) refl
 
-    pub moved-two : (getD (s .first) f 0 ≡ v → ⊥) → getD (s .second) f 0 ≡ v → movedEdge m b v g s f ≡ joinEdge m b s f (getD (s .first) f 0) (neg (shift true g (getD (s .weight) f 0) (getD (s .diff) f nan)))
+    pub moved-two : (getD (s .at first) f 0 ≡ v → ⊥) → getD (s .at second) f 0 ≡ v → movedEdge m b v g s f ≡ joinEdge m b s f (getD (s .at first) f 0) (neg (shift true g (getD (s .at weight) f 0) (getD (s .diff) f nan)))
     unfolding movedEdge
-    moved-two p q = rw (ne-eqb (getD (s .weight) f 0) 0 live, ne-eqb (getD (s .first) f 0) v p, eq-eqb (getD (s .second) f 0) v q) refl
+    moved-two p q = rw (ne-eqb (getD (s .at weight) f 0) 0 live, ne-eqb (getD (s .at first) f 0) v p, eq-eqb (getD (s .at second) f 0) v q) refl
 
 -- ---- the edges after a step
 module _ (m n : ℕ) (s : Mem) (h : Sound m n s) where
   module _ (q f : ℕ) (x : Float) (hq : q < m) (hf : f < m) (ne : q ≡ f → ⊥) where
     pub absorb-gone : edgeOf (absorbAt s q f x) f .live ≡ false
-    unfolding absorbAt weight-set diff-set
-    absorb-gone = word-dead (absorbAt s q f x) f (getD-set-same (set (s .weight) q (getD (s .weight) q 0 + getD (s .weight) f 0)) f 0 0 (omega (arith, length-set (s .weight) q (getD (s .weight) q 0 + getD (s .weight) f 0), h .l-weight)))
+    unfolding absorbAt store diff-set
+    absorb-gone = word-dead (absorbAt s q f x) f (getD-set-same (set (s .at weight) q (getD (s .at weight) q 0 + getD (s .at weight) f 0)) f 0 0 (omega (arith, length-set (s .at weight) q (getD (s .at weight) q 0 + getD (s .at weight) f 0), h .lengths weight)))
 
     pub absorb-kept : (j : ℕ) → (j ≡ q → ⊥) → (j ≡ f → ⊥) → edgeOf (absorbAt s q f x) j ≡ edgeOf s j
-    unfolding edgeOf absorbAt weight-set diff-set
-    absorb-kept j a c = rw (getD-set-other (set (s .weight) q (getD (s .weight) q 0 + getD (s .weight) f 0)) f j 0 0 c, getD-set-other (s .weight) q j (getD (s .weight) q 0 + getD (s .weight) f 0) 0 a, getD-set-other (s .diff) q j (add binary32 (getD (s .diff) q nan) x) nan a) refl
+    unfolding edgeOf absorbAt store diff-set
+    absorb-kept j a c = rw (getD-set-other (set (s .at weight) q (getD (s .at weight) q 0 + getD (s .at weight) f 0)) f j 0 0 c, getD-set-other (s .at weight) q j (getD (s .at weight) q 0 + getD (s .at weight) f 0) 0 a, getD-set-other (s .diff) q j (add binary32 (getD (s .diff) q nan) x) nan a) refl
 
     pub absorb-grown : edgeOf (absorbAt s q f x) q ≡ record {
       num = q;
-      live = not (eqb (getD (s .weight) q 0 + getD (s .weight) f 0) 0);
-      first = getD (s .first) q 0;
-      second = getD (s .second) q 0;
-      weight = getD (s .weight) q 0 + getD (s .weight) f 0;
+      live = not (eqb (getD (s .at weight) q 0 + getD (s .at weight) f 0) 0);
+      first = getD (s .at first) q 0;
+      second = getD (s .at second) q 0;
+      weight = getD (s .at weight) q 0 + getD (s .at weight) f 0;
       diff = add binary32 (getD (s .diff) q nan) x;
     }
-    unfolding edgeOf absorbAt weight-set diff-set
-    absorb-grown = rw (getD-set-other (set (s .weight) q (getD (s .weight) q 0 + getD (s .weight) f 0)) f q 0 0 ne, getD-set-same (s .weight) q (getD (s .weight) q 0 + getD (s .weight) f 0) 0 (omega (arith, h .l-weight)), getD-set-same (s .diff) q (add binary32 (getD (s .diff) q nan) x) nan (omega (arith, h .l-diff))) refl
+    unfolding edgeOf absorbAt store diff-set
+    absorb-grown = rw (getD-set-other (set (s .at weight) q (getD (s .at weight) q 0 + getD (s .at weight) f 0)) f q 0 0 ne, getD-set-same (s .at weight) q (getD (s .at weight) q 0 + getD (s .at weight) f 0) 0 (omega (arith, h .lengths weight)), getD-set-same (s .diff) q (add binary32 (getD (s .diff) q nan) x) nan (omega (arith, h .l-diff))) refl
 
   module _ (b f c : ℕ) (x : Float) (hf : f < m) where
     pub attach-kept : (j : ℕ) → (j ≡ f → ⊥) → edgeOf (attachAt b s f c x) j ≡ edgeOf s j
-    unfolding edgeOf attachAt first-set second-set diff-set
-    attach-kept j a = rw (getD-set-other (s .first) f j b 0 a, getD-set-other (s .second) f j c 0 a, getD-set-other (s .diff) f j x nan a) refl
+    unfolding edgeOf attachAt store diff-set
+    attach-kept j a = rw (getD-set-other (s .at first) f j b 0 a, getD-set-other (s .at second) f j c 0 a, getD-set-other (s .diff) f j x nan a) refl
 
-    pub attach-new : edgeOf (attachAt b s f c x) f ≡ record { num = f; live = edgeOf s f .live; first = b; second = c; weight = getD (s .weight) f 0; diff = x }
-    unfolding edgeOf attachAt first-set second-set diff-set
-    attach-new = rw (getD-set-same (s .first) f b 0 (omega (arith, h .l-first)), getD-set-same (s .second) f c 0 (omega (arith, h .l-second)), getD-set-same (s .diff) f x nan (omega (arith, h .l-diff))) refl
+    pub attach-new : edgeOf (attachAt b s f c x) f ≡ record { num = f; live = edgeOf s f .live; first = b; second = c; weight = getD (s .at weight) f 0; diff = x }
+    unfolding edgeOf attachAt store diff-set
+    attach-new = rw (getD-set-same (s .at first) f b 0 (omega (arith, h .lengths first)), getD-set-same (s .at second) f c 0 (omega (arith, h .lengths second)), getD-set-same (s .diff) f x nan (omega (arith, h .l-diff))) refl
 
   -- a turned edge
   module _ (f : ℕ) (hf : f < m) where
     pub turn-kept : (j : ℕ) → (j ≡ f → ⊥) → edgeOf (turnAt s f) j ≡ edgeOf s j
-    unfolding edgeOf turnAt first-set second-set diff-set
-    turn-kept j a = rw (getD-set-other (s .first) f j (getD (s .second) f 0) 0 a, getD-set-other (s .second) f j (getD (s .first) f 0) 0 a, getD-set-other (s .diff) f j (neg (getD (s .diff) f nan)) nan a) refl
+    unfolding edgeOf turnAt store diff-set
+    turn-kept j a = rw (getD-set-other (s .at first) f j (getD (s .at second) f 0) 0 a, getD-set-other (s .at second) f j (getD (s .at first) f 0) 0 a, getD-set-other (s .diff) f j (neg (getD (s .diff) f nan)) nan a) refl
 
-    pub turn-new : edgeOf (turnAt s f) f ≡ record { num = f; live = edgeOf s f .live; first = getD (s .second) f 0; second = getD (s .first) f 0; weight = getD (s .weight) f 0; diff = neg (getD (s .diff) f nan) }
-    unfolding edgeOf turnAt first-set second-set diff-set
-    turn-new = rw (getD-set-same (s .first) f (getD (s .second) f 0) 0 (omega (arith, h .l-first)), getD-set-same (s .second) f (getD (s .first) f 0) 0 (omega (arith, h .l-second)), getD-set-same (s .diff) f (neg (getD (s .diff) f nan)) nan (omega (arith, h .l-diff))) refl
+    pub turn-new : edgeOf (turnAt s f) f ≡ record { num = f; live = edgeOf s f .live; first = getD (s .at second) f 0; second = getD (s .at first) f 0; weight = getD (s .at weight) f 0; diff = neg (getD (s .diff) f nan) }
+    unfolding edgeOf turnAt store diff-set
+    turn-new = rw (getD-set-same (s .at first) f (getD (s .at second) f 0) 0 (omega (arith, h .lengths first)), getD-set-same (s .at second) f (getD (s .at first) f 0) 0 (omega (arith, h .lengths second)), getD-set-same (s .diff) f (neg (getD (s .diff) f nan)) nan (omega (arith, h .l-diff))) refl

@@ -13,6 +13,7 @@ use Rattle.network.specs.Network.{Edge, Region, State, Plan, sizeOf, at,
 use Rattle.network.proofs.Choice.{Best as Heaviest, best-chosen}
 use Rattle.memory.specs.Tree.{Tree, Best}
 use Rattle.merge.specs.Mem.{Mem, view, Room, Sound}
+use Rattle.merge.specs.Table.{count, weight, first, second, enext, rnext, size, rlen}
 use Rattle.merge.specs.Steps.{unbias, turned, merged, numberOf}
 use Rattle.merge.specs.Does.{Does, Raised, Gains, Fit}
 use Rattle.network.specs.Net.{rows, edgeOf, edgeNow, regionOf}
@@ -22,7 +23,7 @@ use Rattle.network.specs.TurnIs.{TurnIs, Chosen, PickIs, gatesIn, firstO
 use Rattle.network.specs.declared.network.Turned.{Turned}
 use Rattle.network.specs.declared.network.Turned.the-variants.{Merged, Ended, Refused}
 use Rattle.network.specs.declared.network.Ran.the-variants.{Settled, Denied}
-use Rattle.merge.proofs.merge.View.{weight-at, first-at, second-at, size-at}
+use Rattle.merge.proofs.merge.View.{weight-at, read}
 use Rattle.merge.proofs.merge.Leaf.{turned-words}
 use Rattle.network.proofs.network.Rows.{length-rows, getD-rows, has-rows}
 use Rattle.network.proofs.network.TableEdges.{word-live}
@@ -125,8 +126,8 @@ module _ (m n : ℕ) (gates : ℕ → ℕ) (past : ℕ) (w : List ℕ) (d : List
             b-in = hb;
             v-in = hv;
             sizes = omega (arith, R .sizes b hb lb, R .sizes v hv lv, size-two b v ne rs, R .light);
-            elens = omega (arith, R .small, R .circled .lengths b hb lb, R .circled .lengths v hv lv, two-circles (s .enext) (2 * m + n) (R .eown) (R .epos) (R .elens) (R .circled .echains) (2 * m + b) (2 * m + v) (omega arith) (omega arith) (R .circled .header b hb lb) (R .circled .header v hv lv) (λ q. ne (omega arith)));
-            rlens = omega (arith, R .small, two-circles (s .rnext) n (R .node) (R .rpos) (λ x. getD (s .rlen) x 0) (R .rchains) b v hb hv lb lv ne);
+            elens = omega (arith, R .small, R .circled .lengths b hb lb, R .circled .lengths v hv lv, two-circles (s .at enext) (2 * m + n) (R .eown) (R .epos) (R .elens) (R .circled .echains) (2 * m + b) (2 * m + v) (omega arith) (omega arith) (R .circled .header b hb lb) (R .circled .header v hv lv) (λ q. ne (omega arith)));
+            rlens = omega (arith, R .small, two-circles (s .at rnext) n (R .node) (R .rpos) (λ x. getD (s .at rlen) x 0) (R .rchains) b v hb hv lb lv ne);
           }
 
       module _ (g : ℕ) (N : Numbered (quot (R .E e .diff) (R .E e .weight)) g) where
@@ -140,10 +141,10 @@ module _ (m n : ℕ) (gates : ℕ → ℕ) (past : ℕ) (w : List ℕ) (d : List
             (R .sound, (record { b-in = ends-words .3; v-in = ends-words .2; apart = λ q. proper (sym q); g-in = omega arith }, (fit-of (R .E e .second) (R .E e .first) (ends-words .3) (ends-words .2) leads-second leads-first (λ q. proper (sym q)), lt)))
 
         size-first : getD w (7 * m + 3 * n + p) 0 ≡ sizeOf rs (R .E e .first)
-        size-first = rw (ends-words .0) (sym (size-at m n w d (R .E e .first) (ends-words .2)) ∙ R .sizes (R .E e .first) (ends-words .2) leads-first)
+        size-first = rw (ends-words .0) (sym (read size m n w d (R .E e .first) (ends-words .2)) ∙ R .sizes (R .E e .first) (ends-words .2) leads-first)
 
         size-second : getD w (7 * m + 3 * n + q) 0 ≡ sizeOf rs (R .E e .second)
-        size-second = rw (ends-words .1) (sym (size-at m n w d (R .E e .second) (ends-words .3)) ∙ R .sizes (R .E e .second) (ends-words .3) leads-second)
+        size-second = rw (ends-words .1) (sym (read size m n w d (R .E e .second) (ends-words .3)) ∙ R .sizes (R .E e .second) (ends-words .3) leads-second)
 
         -- what the merge comes to
         module _ (b v g' : ℕ) (is-b : plan rs (R .E e) .base ≡ b) (is-v : plan rs (R .E e) .moved ≡ v) (is-g : unbias g' ≡ plan rs (R .E e) .gain) (most' : g' ≤ 2000) where
@@ -224,7 +225,7 @@ module _ (m n : ℕ) (gates : ℕ → ℕ) (past : ℕ) (w : List ℕ) (d : List
 
     pub chosen-number : Numbered (quot (R .E e .diff) (R .E e .weight)) g
     chosen-number = number-in (quot (R .E e .diff) (R .E e .weight)) g
-        (c .number ∙ ap (λ (x : Edge). numberOf (quot (x .diff) (getD (s .weight) e 0))) chosen-is ∙ ap (λ (x : ℕ). numberOf (quot (R .E e .diff) x)) (stands s e (R .E e) chosen-is chosen-live .weight-is)) (c .most)
+        (c .number ∙ ap (λ (x : Edge). numberOf (quot (x .diff) (getD (s .at weight) e 0))) chosen-is ∙ ap (λ (x : ℕ). numberOf (quot (R .E e .diff) x)) (stands s e (R .E e) chosen-is chosen-live .weight-is)) (c .most)
 
   -- ---- the answer of choosing
   pub pop-none : (e : ℕ) → Best m w e → getD w e 0 ≡ 0 → Nothing ≡ popped (choose (t .edges))
@@ -288,14 +289,14 @@ module _ (m n : ℕ) (w : List ℕ) (d : List Float) (r : Room m n w d) (h : Sou
   unfolding edgeNow turnIf edgeOf view
   pop-turned lt =
       let yes : turned (view m n w d) e ≡ true = turned-words m n w d r e (B .within) h ∙ lt-ltb (getD w (7 * m + 2 * n + x) 0) (getD w (7 * m + 2 * n + y) 0) lt in
-      answer _ (record { best = B; live = live; first = rw yes (sym (second-at m n w d e (B .within))); second = rw yes (sym (first-at m n w d e (B .within))); diff = rw yes refl })
+      answer _ (record { best = B; live = live; first = rw yes (sym (read second m n w d e (B .within))); second = rw yes (sym (read first m n w d e (B .within))); diff = rw yes refl })
 
   pub pop-straight : getD w (7 * m + 2 * n + y) 0 ≤ getD w (7 * m + 2 * n + x) 0
       → Answer (record { node1 = x; node2 = y; diff = div binary64 (getD d e nan) (real (pos (getD w e 0))); «edge_number» = e })
   unfolding edgeNow turnIf edgeOf view
   pop-straight le =
       let no : turned (view m n w d) e ≡ false = turned-words m n w d r e (B .within) h ∙ le-ltb (getD w (7 * m + 2 * n + x) 0) (getD w (7 * m + 2 * n + y) 0) le in
-      answer _ (record { best = B; live = live; first = rw no (sym (first-at m n w d e (B .within))); second = rw no (sym (second-at m n w d e (B .within))); diff = rw no refl })
+      answer _ (record { best = B; live = live; first = rw no (sym (read first m n w d e (B .within))); second = rw no (sym (read second m n w d e (B .within))); diff = rw no refl })
 
 -- what is known of the answer of choosing, by its case
 pub pops-none : (m n : ℕ) (w : List ℕ) (d : List Float) (r : Popped) → r ≡ Nothing → Pops m n w d r → (e : ℕ) × Best m w e × (getD w e 0 ≡ 0)
@@ -341,7 +342,7 @@ run-start m n w d r R = let z : m - 0 ≡ m = omega arith in
 module _ (m n : ℕ) (w₀ : List ℕ) (d₀ : List Float) (w : List ℕ) (d : List Float) (k : ℕ) (I : Running m n w₀ d₀ w d k) where
   finished : settle m (firstOf m n (view m n w₀ d₀)) 0 ≡ some (record { last = I .net; merges = k }) → (w' : List ℕ) (d' : List Float) → Rep m n (gatesIn (view m n w₀ d₀)) k (view m n w' d') (I .net) → RanIs m n (gatesIn (view m n w₀ d₀)) (settle m (firstOf m n (view m n w₀ d₀)) 0) w' d' (Settled k)
   unfolding RanIs
-  finished e w' d' R = subst (λ (o : Option Done). RanIs m n (gatesIn (view m n w₀ d₀)) o w' d' (Settled k)) (sym e) (refl, R .node, R .regions, R .sound .counts)
+  finished e w' d' R = subst (λ (o : Option Done). RanIs m n (gatesIn (view m n w₀ d₀)) o w' d' (Settled k)) (sym e) (refl, R .node, R .regions, λ j h. omega (arith, R .sound .within count j h))
 
   pub run-out : m ≤ k → RanIs m n (gatesIn (view m n w₀ d₀)) (settle m (firstOf m n (view m n w₀ d₀)) 0) w d (Settled k)
   unfolding settle

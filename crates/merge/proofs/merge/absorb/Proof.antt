@@ -4,6 +4,7 @@ use Rattle.merge.specs.Does.{Does}
 use Rattle.merge.specs.Steps.{absorbAt}
 use Rattle.merge.proofs.merge.View.{weight-at}
 use Rattle.merge.specs.Mem.{view}
+use Rattle.merge.specs.Table.{weight}
 use Rattle.merge.proofs.merge.Leaf.{absorb-does, total-two}
 use native.Mathlib.Omega.{arith}
 use mathlib.Core.Path.{sym}
@@ -49,8 +50,8 @@ add-t c =
     let a = s .args in
     let p = s .pre .1 .1 .0 in
     let h = s .pre .1 .0 in
-    let l : List ℕ = view (a .m) (a .n) (a .w .now) (a .d .now) .weight in
-    omega (arith, total-two l (a .q) (a .f) (omega (arith, h .l-weight, p .q-in)) (omega (arith, h .l-weight, p .f-in)) (p .apart), weight-at (a .m) (a .n) (a .w .now) (a .d .now) (a .q) (p .q-in), weight-at (a .m) (a .n) (a .w .now) (a .d .now) (a .f) (p .f-in), h .light)
+    let l : List ℕ = view (a .m) (a .n) (a .w .now) (a .d .now) .at weight in
+    omega (arith, total-two l (a .q) (a .f) (omega (arith, h .lengths weight, p .q-in)) (omega (arith, h .lengths weight, p .f-in)) (p .apart), weight-at (a .m) (a .n) (a .w .now) (a .d .now) (a .q) (p .q-in), weight-at (a .m) (a .n) (a .w .now) (a .d .now) (a .f) (p .f-in), h .light)
 
 weigh-requires : tie.Need-weigh-requires
 weigh-requires c κs = search needs

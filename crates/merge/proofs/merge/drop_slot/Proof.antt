@@ -1,6 +1,7 @@
 -- `merge::merge::drop_slot` meets its contract. Assumes nothing.
 use Rattle.merge.proofs.merge.Passing.{drop-does}
-use Rattle.merge.proofs.merge.View.{elen-at}
+use Rattle.merge.specs.Table.{elen}
+use Rattle.merge.proofs.merge.View.{read}
 use native.Mathlib.Omega.{arith}
 use Prim.Native.Nat.{_-_}
 use lib.ListN.{length-set}
@@ -63,7 +64,7 @@ slice-write-w-2 : tie.Need-slice-write-w-2
 slice-write-w-2 c = simp length-set (omega arith)
 
 sub-w : tie.Need-sub-w
-sub-w c = let a = c .before .before .args in omega (arith, c .before .before .pre .1 .some, elen-at (a .m) (a .n) (a .w .now) (a .d .now) (a .b) (c .before .before .pre .1 .b-in))
+sub-w c = let a = c .before .before .args in omega (arith, c .before .before .pre .1 .some, read elen (a .m) (a .n) (a .w .now) (a .d .now) (a .b) (c .before .before .pre .1 .b-in))
 
 mul-w-5 : tie.Need-mul-w-5
 mul-w-5 c = search needs

@@ -1,5 +1,6 @@
 -- `merge::merge::grow` meets its contract. Assumes nothing.
-use Rattle.merge.proofs.merge.View.{size-at, elen-at, rlen-at}
+use Rattle.merge.specs.Table.{size, elen, rlen}
+use Rattle.merge.proofs.merge.View.{read}
 use Rattle.merge.proofs.merge.SpliceDoes.{grow-does}
 use native.Mathlib.Omega.{arith}
 use Prim.Native.Nat.{_-_}
@@ -45,7 +46,7 @@ slice-read-s-2 : tie.Need-slice-read-s-2
 slice-read-s-2 c = search needs
 
 add-s-5 : tie.Need-add-s-5
-add-s-5 c = let a = c .before .before .args in let f = c .before .before .pre .1 in omega (arith, f .sizes, size-at (a .m) (a .n) (a .w .now) (a .d .now) (a .b) (f .b-in), size-at (a .m) (a .n) (a .w .now) (a .d .now) (a .v) (f .v-in))
+add-s-5 c = let a = c .before .before .args in let f = c .before .before .pre .1 in omega (arith, f .sizes, read size (a .m) (a .n) (a .w .now) (a .d .now) (a .b) (f .b-in), read size (a .m) (a .n) (a .w .now) (a .d .now) (a .v) (f .v-in))
 
 mul-e : tie.Need-mul-e
 mul-e c = search needs
@@ -84,7 +85,7 @@ slice-read-e-2 : tie.Need-slice-read-e-2
 slice-read-e-2 c = search needs
 
 add-e-5 : tie.Need-add-e-5
-add-e-5 c = let a = c .before .before .before .before .args in let f = c .before .before .before .before .pre .1 in omega (arith, f .elens, elen-at (a .m) (a .n) (a .w .now) (a .d .now) (a .b) (f .b-in), elen-at (a .m) (a .n) (a .w .now) (a .d .now) (a .v) (f .v-in))
+add-e-5 c = let a = c .before .before .before .before .args in let f = c .before .before .before .before .pre .1 in omega (arith, f .elens, read elen (a .m) (a .n) (a .w .now) (a .d .now) (a .b) (f .b-in), read elen (a .m) (a .n) (a .w .now) (a .d .now) (a .v) (f .v-in))
 
 mul-r : tie.Need-mul-r
 mul-r c = search needs
@@ -123,7 +124,7 @@ slice-read-r-2 : tie.Need-slice-read-r-2
 slice-read-r-2 c = search needs
 
 add-r-5 : tie.Need-add-r-5
-add-r-5 c = let a = c .before .before .before .before .before .before .args in let f = c .before .before .before .before .before .before .pre .1 in omega (arith, f .rlens, rlen-at (a .m) (a .n) (a .w .now) (a .d .now) (a .b) (f .b-in), rlen-at (a .m) (a .n) (a .w .now) (a .d .now) (a .v) (f .v-in))
+add-r-5 c = let a = c .before .before .before .before .before .before .args in let f = c .before .before .before .before .before .before .pre .1 in omega (arith, f .rlens, read rlen (a .m) (a .n) (a .w .now) (a .d .now) (a .b) (f .b-in), read rlen (a .m) (a .n) (a .w .now) (a .d .now) (a .v) (f .v-in))
 
 mul-w : tie.Need-mul-w
 mul-w c = search needs

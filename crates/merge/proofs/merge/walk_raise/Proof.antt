@@ -2,6 +2,7 @@
 use Rattle.merge.proofs.merge.Walks.{Raise, raise-start, raise-bounds, raise-low, raise-high, raise-turn, raise-end}
 use Rattle.merge.specs.Steps.{walkRaise}
 use Rattle.merge.specs.Mem.{view}
+use Rattle.merge.specs.Table.{rlen}
 use native.Mathlib.Omega.{arith}
 use Prim.Native.Nat.{_+_, _-_, _*_, _≤_, _<_}
 use lib.ListN.{length, getD, length-set}
@@ -9,7 +10,7 @@ use Rattle.merge.proofs.merge.walk_raise.Statement.{statement}
 use Rattle.merge.proofs.merge.walk_raise.Tie as tie
 
 abbrev Inv-loop : tie.InvT-loop
-Inv-loop w₀ d m n v g l x₀ i₀ w x i = Raise m n g w₀ w d l x i (walkRaise (getD (view m n w₀ d .rlen) v 0) g (view m n w₀ d) v)
+Inv-loop w₀ d m n v g l x₀ i₀ w x i = Raise m n g w₀ w d l x i (walkRaise (getD (view m n w₀ d .at rlen) v 0) g (view m n w₀ d) v)
 
 abbrev μ-loop : tie.MeasureT-loop
 μ-loop w₀ d m n v g l x₀ i₀ w x i = l - i

@@ -1,5 +1,6 @@
 -- `network::network::link` meets its contract. Assumes nothing.
-use Rattle.merge.proofs.merge.View.{elen-at}
+use Rattle.merge.specs.Table.{elen}
+use Rattle.merge.proofs.merge.View.{read}
 use Rattle.network.proofs.network.BeginDoes.{link-does}
 use native.Mathlib.Omega.{arith}
 use Prim.Native.Nat.{_-_}
@@ -87,7 +88,7 @@ slice-write-w-2 : tie.Need-slice-write-w-2
 slice-write-w-2 c = simp length-set (omega arith)
 
 add-w-4 : tie.Need-add-w-4
-add-w-4 c = let a = c .before .before .before .args in omega (arith, c .before .before .before .pre .1 .1, elen-at (a .m) (a .n) (a .w .now) (a .d .now) (a .a) (c .before .before .before .pre .1 .0 .0))
+add-w-4 c = let a = c .before .before .before .args in omega (arith, c .before .before .before .pre .1 .1, read elen (a .m) (a .n) (a .w .now) (a .d .now) (a .a) (c .before .before .before .pre .1 .0 .0))
 
 mul-w-6 : tie.Need-mul-w-6
 mul-w-6 c = search needs
