@@ -12,7 +12,7 @@ use Rattle.network.proofs.Restrict.{prepare-num, combine-num}
 use Rattle.network.proofs.Ends.{prepare-live, combine-live}
 
 unfoldable pub blank : ℕ → Edge
-blank n = record { num = n; live = false; first = 0; second = 0; weight = 0; diff = nan }
+blank n = record { num = n; live = false; first = 0; second = 0; link = record { weight = 0; diff = nan } }
 
 -- An edge with its fields blanked where it is dead
 unfoldable pub norm : Edge → Edge

@@ -108,7 +108,7 @@ none-live (e ∷ es) h = go (choose es) refl h (none-live es)
 
     go : (o : Option Edge) → choose es ≡ o → better e o ≡ none → (choose es ≡ none → keep (λ e. e .live) es ≡ []) → keep (λ e. e .live) (e ∷ es) ≡ []
     go none w h ih = one (e .live) refl h (ih w)
-    go (some f) w h ih = absurd (more f (e .live && leb (f .weight) (e .weight)) h)
+    go (some f) w h ih = absurd (more f (e .live && leb (f .link .weight) (e .link .weight)) h)
 
 -- ---- every merge list
 

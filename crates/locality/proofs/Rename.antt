@@ -9,7 +9,7 @@ use lib.Dec.{ltb, leb, eqb}
 use lib.ListN.{length, length-map}
 use lib.IntN.{ℤ}
 use Rattle.arithmetic.proofs.SeqLaws.{eqb-renamed}
-use Rattle.network.specs.Network.{Edge, Region, State, Plan, Link, Event, sizeOf, gather, members, raised, at, planFor, plan, kill, adjust, turnIf, turn, link, find, absorb, hand, combine, prepare, joinAll, mergeEdges, move, merge, stepTo, step, better, choose, follow, run, merges, eventOf, event, trace, replay}
+use Rattle.network.specs.Network.{Edge, Region, State, Plan, Link, Event, sizeOf, gather, members, raised, at, planFor, plan, kill, adjust, turnIf, turn, find, absorb, hand, combine, prepare, joinAll, mergeEdges, move, merge, stepTo, step, better, choose, follow, run, merges, eventOf, event, trace, replay}
 
 map-swap : {A B : Type 0} (f : A → B) (g : A → A) (h : B → B) → ((a : A) → h (f a) ≡ f (g a)) → (l : List A) → map h (map f l) ≡ map f (map g l)
 map-swap f g h e [] = refl
@@ -21,7 +21,7 @@ cond-map f false x y = refl
 
 module _ (ρ σ : ℕ → ℕ) where
   unfoldable pub renE : Edge → Edge
-  renE e = record { num = σ (e .num); live = e .live; first = ρ (e .first); second = ρ (e .second); weight = e .weight; diff = e .diff }
+  renE e = record { num = σ (e .num); live = e .live; first = ρ (e .first); second = ρ (e .second); link = e .link }
 
   unfoldable pub renR : Region → Region
   renR r = record { label = ρ (r .label); size = r .size; node = ρ (r .node); count = r .count }
@@ -42,7 +42,7 @@ module _ (ρ σ : ℕ → ℕ) where
     where
       go : (o : Option Edge) → better (renE e) (Option·map renE o) ≡ Option·map renE (better e o)
       go none = sym (cond-map (Option·map renE) (e .live) (some e) none)
-      go (some f) = sym (cond-map (Option·map renE) (e .live && leb (f .weight) (e .weight)) (some e) (some f))
+      go (some f) = sym (cond-map (Option·map renE) (e .live && leb (f .link .weight) (e .link .weight)) (some e) (some f))
 
   module _ (ρ-inj : (a b : ℕ) → ρ a ≡ ρ b → a ≡ b) (σ-inj : (a b : ℕ) → σ a ≡ σ b → a ≡ b) where
     size-ren : (rs : List Region) (a : ℕ) → sizeOf (map renR rs) (ρ a) ≡ sizeOf rs a
@@ -66,7 +66,7 @@ module _ (ρ σ : ℕ → ℕ) where
     at-ren (e ∷ es) i = rw (eqb-renamed σ σ-inj i (e .num), at-ren es i) (sym (cond-map (Option·map renE) (e .live && eqb i (e .num)) (some e) (at es i)))
 
     find-ren : (es : List Edge) (x c : ℕ) → find (map renE es) (ρ x) (ρ c) ≡ find es x c
-    unfolding find renE link
+    unfolding find renE
     find-ren [] x c = refl
     find-ren (e ∷ es) x c = rw (eqb-renamed ρ ρ-inj x (e .first), eqb-renamed ρ ρ-inj c (e .second), find-ren es x c) refl
 

@@ -38,8 +38,8 @@ at-place d k (e ∷ es) t (suc i) h l =
 pub record Best (d : Edge) (es : List Edge) (i : ℕ) : Type 0 where
   pub within : i < length es
   pub live : getD es i d .live ≡ true
-  pub heaviest : (j : ℕ) → j < length es → getD es j d .live ≡ true → getD es j d .weight ≤ getD es i d .weight
-  pub earliest : (j : ℕ) → j < i → getD es j d .live ≡ true → getD es j d .weight < getD es i d .weight
+  pub heaviest : (j : ℕ) → j < length es → getD es j d .live ≡ true → getD es j d .link .weight ≤ getD es i d .link .weight
+  pub earliest : (j : ℕ) → j < i → getD es j d .live ≡ true → getD es j d .link .weight < getD es i d .link .weight
 
 choose-place : (d : Edge) (es : List Edge) (g : Edge) → choose es ≡ some g → (j : ℕ) × (j < length es) × (getD es j d ≡ g) × (g .live ≡ true)
 unfolding choose better
@@ -53,7 +53,7 @@ choose-place d (e ∷ es) g h = go (choose es) refl h (choose-place d es)
     go₀ true l r = here l (Option·some-injective e g r)
     go₀ false l r = absurd (Option·none-ne-some g r)
 
-    go₁ : (f : Edge) (b : Bool) → (e .live && leb (f .weight) (e .weight)) ≡ b → cond b (some e) (some f) ≡ some g
+    go₁ : (f : Edge) (b : Bool) → (e .live && leb (f .link .weight) (e .link .weight)) ≡ b → cond b (some e) (some f) ≡ some g
         → (f ≡ g → (j : ℕ) × (j < length es) × (getD es j d ≡ g) × (g .live ≡ true)) → (j : ℕ) × (j < suc (length es)) × (getD (e ∷ es) j d ≡ g) × (g .live ≡ true)
     go₁ f true l r ih = here (and-left (e .live) _ l) (Option·some-injective e g r)
     go₁ f false l r ih = let w : (j : ℕ) × (j < length es) × (getD es j d ≡ g) × (g .live ≡ true) = ih (Option·some-injective f g r) in (suc (w .0), omega (arith, w .1), w .2, w .3)
@@ -61,7 +61,7 @@ choose-place d (e ∷ es) g h = go (choose es) refl h (choose-place d es)
     go : (o : Option Edge) → choose es ≡ o → better e o ≡ some g → ((f : Edge) → choose es ≡ some f → (j : ℕ) × (j < length es) × (getD es j d ≡ f) × (f .live ≡ true))
         → (j : ℕ) × (j < suc (length es)) × (getD (e ∷ es) j d ≡ g) × (g .live ≡ true)
     go none c r ih = go₀ (e .live) refl r
-    go (some f) c r ih = go₁ f (e .live && leb (f .weight) (e .weight)) refl r (λ w. ih g (c ∙ ap some w))
+    go (some f) c r ih = go₁ f (e .live && leb (f .link .weight) (e .link .weight)) refl r (λ w. ih g (c ∙ ap some w))
 
 pub best-chosen : (d : Edge) (es : List Edge) (i : ℕ) → Best d es i → choose es ≡ some (getD es i d)
 unfolding choose better
@@ -72,9 +72,9 @@ best-chosen d (e ∷ es) zero h = go (choose es) refl
     go none c = rw (h .live) refl
     go (some g) c =
         let w : (j : ℕ) × (j < length es) × (getD es j d ≡ g) × (g .live ≡ true) = choose-place d es g c in
-        let le : getD es (w .0) d .weight ≤ e .weight = h .heaviest (suc (w .0)) (omega (arith, w .1)) (ap (λ (x : Edge). x .live) (w .2) ∙ w .3) in
-        let le′ : g .weight ≤ e .weight = rw (w .2) at le in
-        rw (h .live, le-leb (g .weight) (e .weight) le′) refl
+        let le : getD es (w .0) d .link .weight ≤ e .link .weight = h .heaviest (suc (w .0)) (omega (arith, w .1)) (ap (λ (x : Edge). x .live) (w .2) ∙ w .3) in
+        let le′ : g .link .weight ≤ e .link .weight = rw (w .2) at le in
+        rw (h .live, le-leb (g .link .weight) (e .link .weight) le′) refl
 best-chosen d (e ∷ es) (suc i) h = rw (best-chosen d es i (record {
   within = omega (arith, h .within);
   live = h .live;
@@ -82,8 +82,8 @@ best-chosen d (e ∷ es) (suc i) h = rw (best-chosen d es i (record {
   earliest = λ j w l. h .earliest (suc j) (omega arith) l;
 })) (go (e .live) refl)
   where
-    go : (b : Bool) → e .live ≡ b → cond (b && leb (getD es i d .weight) (e .weight)) (some e) (some (getD es i d)) ≡ some (getD es i d)
-    go true l = rw (lt-leb (getD es i d .weight) (e .weight) (h .earliest 0 (omega arith) l)) refl
+    go : (b : Bool) → e .live ≡ b → cond (b && leb (getD es i d .link .weight) (e .link .weight)) (some e) (some (getD es i d)) ≡ some (getD es i d)
+    go true l = rw (lt-leb (getD es i d .link .weight) (e .link .weight) (h .earliest 0 (omega arith) l)) refl
     go false l = refl
 
 -- The base's size after a merge

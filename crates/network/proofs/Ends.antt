@@ -93,7 +93,7 @@ choose-at (f ∷ es) e h = go (choose es) refl h (choose-at es)
     later true w = (f, refl)
     later false w = w
 
-    some-case : (g : Edge) (b : Bool) → (f .live && leb (g .weight) (f .weight)) ≡ b → cond b (some f) (some g) ≡ some e → (g ≡ e → (x : Edge) × (at es (e .num) ≡ some x))
+    some-case : (g : Edge) (b : Bool) → (f .live && leb (g .link .weight) (f .link .weight)) ≡ b → cond b (some f) (some g) ≡ some e → (g ≡ e → (x : Edge) × (at es (e .num) ≡ some x))
         → (x : Edge) × (cond (f .live && eqb (e .num) (f .num)) (some f) (at es (e .num)) ≡ some x)
     some-case g true l r ih = here e (and-left (f .live) _ l) (Option·some-injective f e r)
     some-case g false l r ih = later (f .live && eqb (e .num) (f .num)) (ih (Option·some-injective g e r))
@@ -101,7 +101,7 @@ choose-at (f ∷ es) e h = go (choose es) refl h (choose-at es)
     go : (o : Option Edge) → choose es ≡ o → better f o ≡ some e → ((g : Edge) → choose es ≡ some g → (x : Edge) × (at es (g .num) ≡ some x))
         → (x : Edge) × (cond (f .live && eqb (e .num) (f .num)) (some f) (at es (e .num)) ≡ some x)
     go none c r ih = none-case (f .live) refl r
-    go (some g) c r ih = some-case g (f .live && leb (g .weight) (f .weight)) refl r (λ w. ih e (c ∙ ap some w))
+    go (some g) c r ih = some-case g (f .live && leb (g .link .weight) (f .link .weight)) refl r (λ w. ih e (c ∙ ap some w))
 
 pub choose-less : (s : State) (e : Edge) → choose (s .edges) ≡ some e → alive (step s (e .num) .edges) < alive (s .edges)
 choose-less s e h = let w : (f : Edge) × (at (s .edges) (e .num) ≡ some f) = choose-at (s .edges) e h in step-less s (e .num) (w .0) (w .1)

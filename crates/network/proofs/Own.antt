@@ -25,7 +25,7 @@ module _ (p q : ℕ → Bool) where
     both-none : Chosen none none
     inside : {e : Edge} → edgeIn p q e ≡ true → Chosen (some e) (some e)
     alone : {f : Edge} → edgeIn p q f ≡ false → Chosen none (some f)
-    beaten : (e f : Edge) → edgeIn p q f ≡ false → e .weight ≤ f .weight → Chosen (some e) (some f)
+    beaten : (e f : Edge) → edgeIn p q f ≡ false → e .link .weight ≤ f .link .weight → Chosen (some e) (some f)
 
   better-in : (e : Edge) → edgeIn p q e ≡ true → {x y : Option Edge} → Chosen x y → Chosen (better e x) (better e y)
   unfolding better
@@ -34,23 +34,23 @@ module _ (p q : ℕ → Bool) where
       go : (b : Bool) → Chosen (cond b (some e) none) (cond b (some e) none)
       go true = inside h
       go false = both-none
-  better-in e h (inside {e = f} k) = go (e .live && leb (f .weight) (e .weight))
+  better-in e h (inside {e = f} k) = go (e .live && leb (f .link .weight) (e .link .weight))
     where
       go : (b : Bool) → Chosen (cond b (some e) (some f)) (cond b (some e) (some f))
       go true = inside h
       go false = inside k
-  better-in e h (alone {f} k) = go (e .live) (leb (f .weight) (e .weight)) refl
+  better-in e h (alone {f} k) = go (e .live) (leb (f .link .weight) (e .link .weight)) refl
     where
-      go : (b c : Bool) → leb (f .weight) (e .weight) ≡ c → Chosen (cond b (some e) none) (cond (b && c) (some e) (some f))
+      go : (b c : Bool) → leb (f .link .weight) (e .link .weight) ≡ c → Chosen (cond b (some e) none) (cond (b && c) (some e) (some f))
       go true true r = inside h
-      go true false r = beaten e f k (omega (arith, leb-false (f .weight) (e .weight) r))
+      go true false r = beaten e f k (omega (arith, leb-false (f .link .weight) (e .link .weight) r))
       go false c r = alone k
-  better-in e h (beaten g f k w) = go (e .live) (leb (g .weight) (e .weight)) (leb (f .weight) (e .weight)) refl refl
+  better-in e h (beaten g f k w) = go (e .live) (leb (g .link .weight) (e .link .weight)) (leb (f .link .weight) (e .link .weight)) refl refl
     where
-      go : (b c d : Bool) → leb (g .weight) (e .weight) ≡ c → leb (f .weight) (e .weight) ≡ d → Chosen (cond (b && c) (some e) (some g)) (cond (b && d) (some e) (some f))
+      go : (b c d : Bool) → leb (g .link .weight) (e .link .weight) ≡ c → leb (f .link .weight) (e .link .weight) ≡ d → Chosen (cond (b && c) (some e) (some g)) (cond (b && d) (some e) (some f))
       go true true true r t = inside h
-      go true true false r t = beaten e f k (omega (arith, leb-false (f .weight) (e .weight) t))
-      go true false true r t = absurd (omega (arith, leb-false (g .weight) (e .weight) r, leb-true (f .weight) (e .weight) t))
+      go true true false r t = beaten e f k (omega (arith, leb-false (f .link .weight) (e .link .weight) t))
+      go true false true r t = absurd (omega (arith, leb-false (g .link .weight) (e .link .weight) r, leb-true (f .link .weight) (e .link .weight) t))
       go true false false r t = beaten g f k w
       go false c d r t = beaten g f k w
 
@@ -61,21 +61,21 @@ module _ (p q : ℕ → Bool) where
       go : (b : Bool) → Chosen none (cond b (some e) none)
       go true = alone h
       go false = both-none
-  better-out e h (inside {e = f} k) = go (e .live) (leb (f .weight) (e .weight)) refl
+  better-out e h (inside {e = f} k) = go (e .live) (leb (f .link .weight) (e .link .weight)) refl
     where
-      go : (b c : Bool) → leb (f .weight) (e .weight) ≡ c → Chosen (some f) (cond (b && c) (some e) (some f))
-      go true true r = beaten f e h (leb-true (f .weight) (e .weight) r)
+      go : (b c : Bool) → leb (f .link .weight) (e .link .weight) ≡ c → Chosen (some f) (cond (b && c) (some e) (some f))
+      go true true r = beaten f e h (leb-true (f .link .weight) (e .link .weight) r)
       go true false r = inside k
       go false c r = inside k
-  better-out e h (alone {f} k) = go (e .live && leb (f .weight) (e .weight))
+  better-out e h (alone {f} k) = go (e .live && leb (f .link .weight) (e .link .weight))
     where
       go : (b : Bool) → Chosen none (cond b (some e) (some f))
       go true = alone h
       go false = alone k
-  better-out e h (beaten g f k w) = go (e .live) (leb (f .weight) (e .weight)) refl
+  better-out e h (beaten g f k w) = go (e .live) (leb (f .link .weight) (e .link .weight)) refl
     where
-      go : (b c : Bool) → leb (f .weight) (e .weight) ≡ c → Chosen (some g) (cond (b && c) (some e) (some f))
-      go true true r = beaten g e h (omega (arith, leb-true (f .weight) (e .weight) r))
+      go : (b c : Bool) → leb (f .link .weight) (e .link .weight) ≡ c → Chosen (some g) (cond (b && c) (some e) (some f))
+      go true true r = beaten g e h (omega (arith, leb-true (f .link .weight) (e .link .weight) r))
       go true false r = beaten g f k w
       go false c r = beaten g f k w
 

@@ -11,7 +11,7 @@ use lib.IntN.{ℤ, _+ℤ_}
 use borrow.Author.Tests.{eqb-true}
 use Rattle.arithmetic.specs.Seq.{keep, All}
 use Rattle.arithmetic.proofs.AllLaws.{all-map}
-use Rattle.network.specs.Network.{isZero, Edge, Region, State, Plan, Link, Event, sizeOf, gather, members, raised, at, planFor, plan, kill, shifted, adjust, turnIf, turn, link, find, absorb, hand, combine, prepare, joinAll, mergeEdges, move, merge, stepTo, step, eventOf, event, trace, replay}
+use Rattle.network.specs.Network.{isZero, Edge, Region, State, Plan, Link, Event, sizeOf, gather, members, raised, at, planFor, plan, kill, shifted, adjust, turnIf, turn, find, absorb, hand, combine, prepare, joinAll, mergeEdges, move, merge, stepTo, step, eventOf, event, trace, replay}
 use Rattle.network.proofs.Lists.{keep-map, keep-fixed, apart, apart′, at-all}
 
 -- Every phase keeps an edge's number
@@ -105,9 +105,9 @@ module _ (p q : ℕ → Bool) where
       nothing false d x y = refl
 
       go : (b : Bool) → q (e .num) ≡ b → find (keep edgeIn es) x c ≡ find es x c
-          → find (cond b (e ∷ keep edgeIn es) (keep edgeIn es)) x c ≡ cond (e .live && eqb x (e .first) && eqb c (e .second)) (some (link e)) (find es x c)
+          → find (cond b (e ∷ keep edgeIn es) (keep edgeIn es)) x c ≡ cond (e .live && eqb x (e .first) && eqb c (e .second)) (some (e .link)) (find es x c)
       go true h ih = rw ih refl
-      go false h ih = rw (apart p x (e .first) px (t .0 .0 ∙ h)) (ih ∙ sym (nothing (e .live) (eqb c (e .second)) (some (link e)) (find es x c)))
+      go false h ih = rw (apart p x (e .first) px (t .0 .0 ∙ h)) (ih ∙ sym (nothing (e .live) (eqb c (e .second)) (some (e .link)) (find es x c)))
 
   -- Every phase keeps an edge's side
   ok-turn : (x : ℕ) (e : Edge) → OkE e → OkE (turn x e)
@@ -191,13 +191,13 @@ module _ (p q : ℕ → Bool) where
   kill-out i e a b = ap alive (ap (λ (x : Bool). e .live && not x) (apart′ q i (e .num) a b) ∙ and-true (e .live))
     where
       alive : Bool → Edge
-      alive x = record { num = e .num; live = x; first = e .first; second = e .second; weight = e .weight; diff = e .diff }
+      alive x = record { num = e .num; live = x; first = e .first; second = e .second; link = e .link }
 
   adjust-out : (m : ℕ) (k : ℤ) (e : Edge) → eqb m (e .first) ≡ false → eqb m (e .second) ≡ false → adjust m k e ≡ e
   unfolding adjust shifted
   adjust-out m k e a b = rw (a, b) (go (isZero k))
     where
-      go : (z : Bool) → _≡_ {A = Edge} (record { num = e .num; live = e .live; first = e .first; second = e .second; weight = e .weight; diff = shifted z false false k (e .weight) (e .diff) }) e
+      go : (z : Bool) → _≡_ {A = Edge} (record { num = e .num; live = e .live; first = e .first; second = e .second; link = record { weight = e .link .weight; diff = shifted z false false k (e .link .weight) (e .link .diff) } }) e
       go true = refl
       go false = refl
 

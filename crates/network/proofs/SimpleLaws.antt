@@ -9,7 +9,7 @@ use Prim.Native.Nat.{ℕ}
 use lib.Dec.{ltb, eqb}
 use lib.IntN.{ℤ}
 use borrow.Author.Tests.{eqb-false, eqb-true}
-use Rattle.network.specs.Network.{Edge, State, Plan, Link, Region, sizeOf, at, plan, planFor, kill, adjust, turnIf, turn, link, find, absorb, absent, hand, combine, prepare, joinAll, mergeEdges, merge, stepTo, step}
+use Rattle.network.specs.Network.{Edge, State, Plan, Link, Region, sizeOf, at, plan, planFor, kill, adjust, turnIf, turn, find, absorb, absent, hand, combine, prepare, joinAll, mergeEdges, merge, stepTo, step}
 use Rattle.network.specs.Simple.{Joined, Simple}
 use Rattle.network.proofs.Restrict.{prepare-num, combine-num}
 use Rattle.network.proofs.Ends.{prepare-live, combine-live}
@@ -82,14 +82,14 @@ Turned b m e = (e .second ≡ b → ⊥) × (e .second ≡ m → ⊥) × (e .fir
 find-none : (es : List Edge) (x : ℕ) (e f : Edge) → find es x (f .second) ≡ none → Mem e es → e .live ≡ true → e .first ≡ x → e .second ≡ f .second → ⊥
 unfolding find
 find-none [] x e f h m l s t = m
-find-none (g ∷ es) x e f h (inl w) l s t = Option·none-ne-some (link g) (sym h ∙ hit)
+find-none (g ∷ es) x e f h (inl w) l s t = Option·none-ne-some (g .link) (sym h ∙ hit)
   where
-    hit : cond (g .live && eqb x (g .first) && eqb (f .second) (g .second)) (some (link g)) (find es x (f .second)) ≡ some (link g)
+    hit : cond (g .live && eqb x (g .first) && eqb (f .second) (g .second)) (some (g .link)) (find es x (f .second)) ≡ some (g .link)
     hit = rw (ap (λ (a : Edge). a .live) w ∙ l, ap (λ (a : Edge). a .first) w ∙ s, ap (λ (a : Edge). a .second) w ∙ t, eqb-refl x, eqb-refl (f .second)) refl
 find-none (g ∷ es) x e f h (inr m) l s t = go (g .live && eqb x (g .first) && eqb (f .second) (g .second)) h (λ h. find-none es x e f h m l s t)
   where
-    go : (b : Bool) → cond b (some (link g)) (find es x (f .second)) ≡ none → (find es x (f .second) ≡ none → ⊥) → ⊥
-    go true h ih = Option·none-ne-some (link g) (sym h)
+    go : (b : Bool) → cond b (some (g .link)) (find es x (f .second)) ≡ none → (find es x (f .second) ≡ none → ⊥) → ⊥
+    go true h ih = Option·none-ne-some (g .link) (sym h)
     go false h ih = ih h
 
 -- What an edge becomes

@@ -23,8 +23,7 @@ edgeOf s j = record {
   live = not (eqb (getD (s .at weight) j 0) 0);
   first = getD (s .at first) j 0;
   second = getD (s .at second) j 0;
-  weight = getD (s .at weight) j 0;
-  diff = getD (s .diff) j nan;
+  link = record { weight = getD (s .at weight) j 0; diff = getD (s .diff) j nan };
 }
 
 -- edge j as it stands: turned where its second end was a base later than its first

@@ -13,14 +13,18 @@ use Rattle.arithmetic.specs.declared.rounding.Rounded.{Rounded}
 use Rattle.arithmetic.specs.declared.rounding.Rounded.the-variants.{Whole, Outside}
 use Rattle.edges.specs.declared.edges.EdgeRecord.{EdgeRecord}
 
+-- An edge's weight and difference: what follows its node when it moves.
+pub record Link : Type 0 where
+  pub weight : ℕ
+  pub diff : Float
+
 -- An edge: its number, whether it is live, the nodes at its ends, its weight and its difference.
 pub record Edge : Type 0 where
   pub num : ℕ
   pub live : Bool
   pub first : ℕ
   pub second : ℕ
-  pub weight : ℕ
-  pub diff : Float
+  pub link : Link
 
 -- A region: its label, its number of gates, the node it belongs to and its count.
 pub record Region : Type 0 where
@@ -94,7 +98,7 @@ planFor first e = record {
   edge = e .num;
   base = cond first (e .first) (e .second);
   moved = cond first (e .second) (e .first);
-  gain = cond first (quot (e .diff) (e .weight)) (negℤ (quot (e .diff) (e .weight)));
+  gain = cond first (quot (e .link .diff) (e .link .weight)) (negℤ (quot (e .link .diff) (e .link .weight)));
 }
 
 -- What the merge of an edge does: the larger node is the base.
@@ -108,8 +112,7 @@ kill i e = record {
   live = e .live && not (eqb i (e .num));
   first = e .first;
   second = e .second;
-  weight = e .weight;
-  diff = e .diff;
+  link = e .link;
 }
 
 -- The new difference of an edge, whose first or second end is the moved node or not.
@@ -126,8 +129,7 @@ adjust m k e = record {
   live = e .live;
   first = e .first;
   second = e .second;
-  weight = e .weight;
-  diff = shifted (isZero k) (eqb m (e .first)) (eqb m (e .second)) k (e .weight) (e .diff);
+  link = record { weight = e .link .weight; diff = shifted (isZero k) (eqb m (e .first)) (eqb m (e .second)) k (e .link .weight) (e .link .diff) };
 }
 
 -- An edge turned, if asked.
@@ -137,27 +139,17 @@ turnIf b e = record {
   live = e .live;
   first = cond b (e .second) (e .first);
   second = cond b (e .first) (e .second);
-  weight = e .weight;
-  diff = cond b (neg (e .diff)) (e .diff);
+  link = record { weight = e .link .weight; diff = cond b (neg (e .link .diff)) (e .link .diff) };
 }
 
 -- An edge whose second end is node x is turned.
 unfoldable pub turn : ℕ → Edge → Edge
 turn x e = turnIf (eqb x (e .second)) e
 
--- An edge's weight and difference.
-pub record Link : Type 0 where
-  pub weight : ℕ
-  pub diff : Float
-
--- The same of an edge.
-unfoldable pub link : Edge → Link
-link e = record { weight = e .weight; diff = e .diff }
-
 -- The live edge from node x to node c.
 unfoldable pub find : List Edge → ℕ → ℕ → Option Link
 find [] x c = none
-find (e ∷ es) x c = cond (e .live && eqb x (e .first) && eqb c (e .second)) (some (link e)) (find es x c)
+find (e ∷ es) x c = cond (e .live && eqb x (e .first) && eqb c (e .second)) (some (e .link)) (find es x c)
 
 -- The base's edge, with the moved node's edge to the same neighbour, if there is one.
 unfoldable pub absorb : Option Link → Edge → Edge
@@ -167,8 +159,7 @@ absorb (some g) e = record {
   live = e .live;
   first = e .first;
   second = e .second;
-  weight = e .weight + g .weight;
-  diff = add binary32 (e .diff) (g .diff);
+  link = record { weight = e .link .weight + g .weight; diff = add binary32 (e .link .diff) (g .diff) };
 }
 
 -- Whether there is no such edge.
@@ -183,8 +174,7 @@ hand b g e = record {
   live = e .live && absent g;
   first = b;
   second = e .second;
-  weight = e .weight;
-  diff = e .diff;
+  link = e .link;
 }
 
 -- An edge after the nodes are joined, es being all edges before.
@@ -230,7 +220,7 @@ step s i = stepTo (at (s .edges) i) s
 -- The heavier of an edge and the choice among those after it; the first at equal weights.
 unfoldable pub better : Edge → Option Edge → Option Edge
 better e none = cond (e .live) (some e) none
-better e (some f) = cond (e .live && leb (f .weight) (e .weight)) (some e) (some f)
+better e (some f) = cond (e .live && leb (f .link .weight) (e .link .weight)) (some e) (some f)
 
 -- The heaviest live edge, the first among equals.
 unfoldable pub choose : List Edge → Option Edge
@@ -272,7 +262,7 @@ eventOf rs i none = record { edge = i; live = false; number = pos 0; gain = pos 
 eventOf rs i (some e) = record {
   edge = i;
   live = true;
-  number = quot (e .diff) (e .weight);
+  number = quot (e .link .diff) (e .link .weight);
   gain = plan rs e .gain;
   base = members rs (plan rs e .base);
   moved = members rs (plan rs e .moved);
@@ -299,7 +289,13 @@ inRange v = bounded 1000 (v .number) && all (bounded 1000) (v .counts)
 
 -- An edge of number k from its record, w being 2 × Nyquist.
 unfoldable pub edgeOf : Float → ℕ → EdgeRecord → Edge
-edgeOf w k r = record { num = k; live = true; first = r .one; second = r .two; weight = r .count; diff = narrowed (div binary64 (sub binary64 (r .sum1) (r .sum2)) w) }
+edgeOf w k r = record {
+  num = k;
+  live = true;
+  first = r .one;
+  second = r .two;
+  link = record { weight = r .count; diff = narrowed (div binary64 (sub binary64 (r .sum1) (r .sum2)) w) };
+}
 
 -- The edges of records, numbered from k.
 unfoldable pub numbered : Float → ℕ → List EdgeRecord → List Edge

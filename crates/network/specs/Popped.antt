@@ -19,7 +19,7 @@ use Rattle.network.specs.declared.network.Popped.the-variants.{Edge as T
 -- the scope document's choice: the ends, the difference divided by the weight in f64, and the number of the edge chosen, or none live
 unfoldable pub popped : Option Edge → Popped
 popped none = Nothing
-popped (some e) = Taken (record { node1 = e .first; node2 = e .second; diff = div binary64 (e .diff) (real (pos (e .weight))); «edge_number» = e .num })
+popped (some e) = Taken (record { node1 = e .first; node2 = e .second; diff = div binary64 (e .link .diff) (real (pos (e .link .weight))); «edge_number» = e .num })
 
 -- the answer is the choice of whatever network the tables stand for
 abbrev pub AnyPop : ℕ → ℕ → Mem → Popped → Type 0
@@ -31,7 +31,7 @@ pub record Takes (m n : ℕ) (w : List ℕ) (d : List Float) (p : PoppedEdge) : 
   pub live : getD w (p .«edge_number») 0 ≡ 0 → ⊥
   pub first : p .node1 ≡ edgeNow (view m n w d) (p .«edge_number») .first
   pub second : p .node2 ≡ edgeNow (view m n w d) (p .«edge_number») .second
-  pub diff : p .diff ≡ div binary64 (edgeNow (view m n w d) (p .«edge_number») .diff) (real (pos (getD w (p .«edge_number») 0)))
+  pub diff : p .diff ≡ div binary64 (edgeNow (view m n w d) (p .«edge_number») .link .diff) (real (pos (getD w (p .«edge_number») 0)))
 
 unfoldable pub Pops : ℕ → ℕ → List ℕ → List Float → Popped → Type 0
 Pops m n w d (Taken p) = Takes m n w d p

@@ -35,7 +35,7 @@ pub record Chosen (m : ℕ) (s : Mem) (e p q g : ℕ) : Type 0 where
   pub live : getD (s .at weight) e 0 ≡ 0 → ⊥
   pub first : p ≡ edgeNow s e .first
   pub second : q ≡ edgeNow s e .second
-  pub number : g ≡ numberOf (quot (edgeNow s e .diff) (getD (s .at weight) e 0))
+  pub number : g ≡ numberOf (quot (edgeNow s e .link .diff) (getD (s .at weight) e 0))
   pub most : g ≤ 2000
 
 -- the merge of edge e from the network t

@@ -35,7 +35,7 @@ if-false e = refl
 
 if-twice : (e : Edge) → turnIf true (turnIf true e) ≡ e
 unfolding turnIf
-if-twice e = λ i. record { num = e .num; live = e .live; first = e .first; second = e .second; weight = e .weight; diff = neg-twice (e .diff) i }
+if-twice e = λ i. record { num = e .num; live = e .live; first = e .first; second = e .second; link = record { weight = e .link .weight; diff = neg-twice (e .link .diff) i } }
 
 turn-yes : (b : ℕ) (e : Edge) → e .second ≡ b → turn b e ≡ turnIf true e
 unfolding turn
@@ -66,14 +66,14 @@ module _ (s : Mem) (j : ℕ) where
 -- what the words say of an edge that stands as e
 pub record Stands (s : Mem) (j : ℕ) (e : Edge) : Type 0 where
   pub some : getD (s .at weight) j 0 ≡ 0 → ⊥
-  pub weight-is : getD (s .at weight) j 0 ≡ e .weight
+  pub weight-is : getD (s .at weight) j 0 ≡ e .link .weight
   pub ends : ((getD (s .at first) j 0 ≡ e .first) × (getD (s .at second) j 0 ≡ e .second)) ⊎ ((getD (s .at first) j 0 ≡ e .second) × (getD (s .at second) j 0 ≡ e .first))
 
 pub stands : (s : Mem) (j : ℕ) (e : Edge) → edgeNow s j ≡ e → e .live ≡ true → Stands s j e
 unfolding edgeNow turnIf edgeOf
 stands s j e h l = record {
   some = live-word s j (unfold edgeOf in ap (λ (x : Edge). x .live) h ∙ l);
-  weight-is = ap (λ (x : Edge). x .weight) h;
+  weight-is = ap (λ (x : Edge). x .link .weight) h;
   ends = go (turned s j) (ap (λ (x : Edge). x .first) h) (ap (λ (x : Edge). x .second) h);
 }
   where

@@ -135,7 +135,7 @@ module _ (wide : Float) (k m : ℕ) (L : List ℕ) (ps : List Pair) (s : Mem) (F
   unfolding edgeOf Network.edgeOf diffOf
   edge-of j h =
       let live : not (eqb (getD (s .at weight) j 0) 0) ≡ true = ap (λ (b : Bool). not b) (ne-eqb (getD (s .at weight) j 0) 0 (λ e. omega (arith, weight-of j h, good j h .some))) in
-      λ i. record { num = j; live = live i; first = first-of j h i; second = second-of j h i; weight = weight-of j h i; diff = diff-of j h i }
+      λ i. record { num = j; live = live i; first = first-of j h i; second = second-of j h i; link = record { weight = weight-of j h i; diff = diff-of j h i } }
 
   pub edges-are : rows (edgeOf s) 0 m ≡ numbered wide 0 (used k ps)
   edges-are =

@@ -11,7 +11,7 @@ use lib.IntN.{pos}
 use lib.Ieee.{Float, neg, binary32, add}
 use lib.ListN.{getD}
 use borrow.Author.Tests.{eqb-true, eq-eqb, ne-eqb}
-use Rattle.network.specs.Network.{Edge, Link, link, find, absorb, hand, turn, turnIf, adjust, shifted, isZero}
+use Rattle.network.specs.Network.{Edge, Link, find, absorb, hand, turn, turnIf, adjust, shifted, isZero}
 use Rattle.arithmetic.specs.Rounding.{scale}
 use Rattle.network.proofs.SimpleLaws.{Turned}
 use Rattle.merge.specs.Mem.{Mem}
@@ -70,7 +70,7 @@ pub record Setting (m b v g : ℕ) (P Q : ℕ → Edge) : Type 0 where
 
 -- the edges of P that are done
 unfoldable pub only : (ℕ → Edge) → (ℕ → Bool) → ℕ → Edge
-only P done i = record { num = P i .num; live = P i .live && done i; first = P i .first; second = P i .second; weight = P i .weight; diff = P i .diff }
+only P done i = record { num = P i .num; live = P i .live && done i; first = P i .first; second = P i .second; link = P i .link }
 
 -- the edges in the middle of the walk
 unfoldable pub mid : ℕ → ℕ → ℕ → (ℕ → Edge) → (ℕ → Edge) → (ℕ → Bool) → ℕ → Edge
@@ -160,38 +160,38 @@ module _ (m b v g : ℕ) (P Q : ℕ → Edge) (S : Setting m b v g P Q) where
   -- ---- what an edge of the moved node is before
   pub record Before (j : ℕ) : Type 0 where
     pub ends : ((Q j .first ≡ v) × (Q j .second ≡ P j .second)) ⊎ ((Q j .first ≡ P j .second) × (Q j .second ≡ v))
-    pub weigh : Q j .weight ≡ P j .weight
+    pub weigh : Q j .link .weight ≡ P j .link .weight
 
   pub before : (j : ℕ) → j < m → P j .live ≡ true → P j .first ≡ v → Before j
   unfolding turn turnIf adjust
   before j lt l e = go (eqb v (Q j .second)) refl (S .prepared j lt l)
     where
       go : (t : Bool) → eqb v (Q j .second) ≡ t → P j ≡ turnIf t (adjust v (unbias g) (Q j)) → Before j
-      go true r h = record { ends = inr (sym (ap (λ (x : Edge). x .second) h), sym (eqb-true v (Q j .second) r)); weigh = sym (ap (λ (x : Edge). x .weight) h) }
-      go false r h = record { ends = inl (sym (ap (λ (x : Edge). x .first) h) ∙ e, sym (ap (λ (x : Edge). x .second) h)); weigh = sym (ap (λ (x : Edge). x .weight) h) }
+      go true r h = record { ends = inr (sym (ap (λ (x : Edge). x .second) h), sym (eqb-true v (Q j .second) r)); weigh = sym (ap (λ (x : Edge). x .link .weight) h) }
+      go false r h = record { ends = inl (sym (ap (λ (x : Edge). x .first) h) ∙ e, sym (ap (λ (x : Edge). x .second) h)); weigh = sym (ap (λ (x : Edge). x .link .weight) h) }
 
   -- the step that the code takes at an edge of the moved node
-  pub moved-is : (s : Mem) (f : ℕ) → f < m → edgeOf s f ≡ Q f → P f .live ≡ true → P f .first ≡ v → movedEdge m b v g s f ≡ joinEdge m b s f (P f .second) (P f .diff)
+  pub moved-is : (s : Mem) (f : ℕ) → f < m → edgeOf s f ≡ Q f → P f .live ≡ true → P f .first ≡ v → movedEdge m b v g s f ≡ joinEdge m b s f (P f .second) (P f .link .diff)
   unfolding turn turnIf adjust
   moved-is s f lt q l e = go (eqb v (Q f .second)) refl (S .prepared f lt l)
     where
       ws : Words s f (Q f)
       ws = words s f (Q f) q (S .alike f ∙ l)
 
-      go : (t : Bool) → eqb v (Q f .second) ≡ t → P f ≡ turnIf t (adjust v (unbias g) (Q f)) → movedEdge m b v g s f ≡ joinEdge m b s f (P f .second) (P f .diff)
+      go : (t : Bool) → eqb v (Q f .second) ≡ t → P f ≡ turnIf t (adjust v (unbias g) (Q f)) → movedEdge m b v g s f ≡ joinEdge m b s f (P f .second) (P f .link .diff)
       go true r h =
           let second-v : Q f .second ≡ v = sym (eqb-true v (Q f .second) r) in
           let first-is : Q f .first ≡ P f .second = sym (ap (λ (x : Edge). x .second) h) in
           let first-ne : Q f .first ≡ v → ⊥ = λ w. S .turned f lt l .1 (sym first-is ∙ w) in
-          let dif : P f .diff ≡ neg (shift true g (Q f .weight) (Q f .diff)) =
-          ap (λ (x : Edge). x .diff) h ∙ (rw (same-no v (Q f .first) (λ w. first-ne (sym w)), r) (ap (λ (x : Float). neg x) (sym (shift-two g (Q f .weight) (Q f .diff))))) in
+          let dif : P f .link .diff ≡ neg (shift true g (Q f .link .weight) (Q f .link .diff)) =
+          ap (λ (x : Edge). x .link .diff) h ∙ (rw (same-no v (Q f .first) (λ w. first-ne (sym w)), r) (ap (λ (x : Float). neg x) (sym (shift-two g (Q f .link .weight) (Q f .link .diff))))) in
           moved-two m b v g s f (ws .some) (λ w. first-ne (sym (ws .first-is) ∙ w)) (ws .second-is ∙ second-v)
           ∙ (rw (ws .first-is, ws .weight-is, ws .diff-is, first-is, dif) refl)
       go false r h =
           let first-v : Q f .first ≡ v = sym (ap (λ (x : Edge). x .first) h) ∙ e in
           let second-is : Q f .second ≡ P f .second = sym (ap (λ (x : Edge). x .second) h) in
-          let dif : P f .diff ≡ shift false g (Q f .weight) (Q f .diff) =
-          ap (λ (x : Edge). x .diff) h ∙ (rw (same-yes v (Q f .first) (sym first-v), r) (sym (shift-one g (Q f .weight) (Q f .diff) false))) in
+          let dif : P f .link .diff ≡ shift false g (Q f .link .weight) (Q f .link .diff) =
+          ap (λ (x : Edge). x .link .diff) h ∙ (rw (same-yes v (Q f .first) (sym first-v), r) (sym (shift-one g (Q f .link .weight) (Q f .link .diff) false))) in
           moved-one m b v g s f (ws .some) (ws .first-is ∙ first-v)
           ∙ (rw (ws .second-is, ws .weight-is, ws .diff-is, second-is, dif) refl)
 
@@ -219,8 +219,8 @@ module _ (m b v g : ℕ) (P Q : ℕ → Edge) (S : Setting m b v g P Q) where
       let same-j : j ≡ f = alone v (P f .second) j f (omega arith) lt (w .0) (record { live = l; first = e; second = refl }) in
       true≢false (sym (w .1) ∙ ap done same-j ∙ d))
 
-  pub found-now : (done : ℕ → Bool) (f : ℕ) → f < m → P f .live ≡ true → P f .first ≡ v → done f ≡ true → find (rows (only P done) 0 m) v (P f .second) ≡ some (link (P f))
-  unfolding only link
+  pub found-now : (done : ℕ → Bool) (f : ℕ) → f < m → P f .live ≡ true → P f .first ≡ v → done f ≡ true → find (rows (only P done) 0 m) v (P f .second) ≡ some (P f .link)
+  unfolding only
   found-now done f lt l e d =
       find-one (only P done) v (P f .second) 0 m f (omega arith) (omega arith) (hit v (P f .second) (only P done f) (rw (l, d) refl) e refl)
       (λ j a c h. let w : Hit v (P f .second) (P j) × (done j ≡ true) = hit-only done v (P f .second) j h in
@@ -228,7 +228,7 @@ module _ (m b v g : ℕ) (P Q : ℕ → Edge) (S : Setting m b v g P Q) where
 
   -- another neighbour's is as it was
   pub found-else : (done : ℕ → Bool) (f c : ℕ) → (P f .second ≡ c → ⊥) → find (rows (only P (also done f)) 0 m) v c ≡ find (rows (only P done) 0 m) v c
-  unfolding only link
+  unfolding only
   found-else done f c ne = find-like (only P (also done f)) (only P done) v c 0 m (λ j p q. ⊎-elim (here j) (there j) (eq-or-ne j f))
     where
       none-and : (x y : Bool) → (x && y && false) ≡ false
@@ -236,10 +236,10 @@ module _ (m b v g : ℕ) (P Q : ℕ → Edge) (S : Setting m b v g P Q) where
       none-and true false = refl
       none-and false y = refl
 
-      here : (j : ℕ) → j ≡ f → (hits v c (only P (also done f) j) ≡ hits v c (only P done j)) × (hits v c (only P done j) ≡ true → link (only P (also done f) j) ≡ link (only P done j))
+      here : (j : ℕ) → j ≡ f → (hits v c (only P (also done f) j) ≡ hits v c (only P done j)) × (hits v c (only P done j) ≡ true → only P (also done f) j .link ≡ only P done j .link)
       here j e =
           let no : eqb c (P j .second) ≡ false = same-no c (P j .second) (λ w. ne (ap (λ (i : ℕ). P i .second) (sym e) ∙ sym w)) in
           (rw no (none-and (P j .live && also done f j) (eqb v (P j .first)) ∙ sym (none-and (P j .live && done j) (eqb v (P j .first)))), λ t. refl)
 
-      there : (j : ℕ) → (j ≡ f → ⊥) → (hits v c (only P (also done f) j) ≡ hits v c (only P done j)) × (hits v c (only P done j) ≡ true → link (only P (also done f) j) ≡ link (only P done j))
+      there : (j : ℕ) → (j ≡ f → ⊥) → (hits v c (only P (also done f) j) ≡ hits v c (only P done j)) × (hits v c (only P done j) ≡ true → only P (also done f) j .link ≡ only P done j .link)
       there j e = (rw (also-else done f j e) refl, λ t. refl)

@@ -10,7 +10,7 @@ use lib.Dec.{eqb, ltb}
 use lib.Ieee.{Float, binary32, add}
 use lib.ListN.{getD}
 use borrow.Author.Tests.{eqb-true, eqb-false, ne-eqb, lt-ltb, ltb-true, ltb-false}
-use Rattle.network.specs.Network.{Edge, Link, link, find, absorb, absent, hand}
+use Rattle.network.specs.Network.{Edge, Link, find, absorb, absent, hand}
 use Rattle.merge.specs.Mem.{Mem, Sound}
 use Rattle.merge.specs.Table.{weight, enext, stamp, elen}
 use Rattle.merge.specs.Steps.{turned, faceAt, mate, absorbAt, attachAt, joinEdge, movedEdge, takeEdge}
@@ -51,7 +51,7 @@ module _ (m b v g : ℕ) (P Q : ℕ → Edge) (S : Setting m b v g P Q) (N L T :
     now : edgeNow s f ≡ Q f
     now = I .like f lt .whole (ap (λ (x : Edge). x .live) (mid-moved m b v g P Q S done f false e todo) ∙ S .alike f ∙ l) ∙ mid-moved m b v g P Q S done f false e todo
 
-    weighs : getD (s .at weight) f 0 ≡ P f .weight
+    weighs : getD (s .at weight) f 0 ≡ P f .link .weight
     weighs = stands s f (Q f) now (S .alike f ∙ l) .weight-is ∙ before m b v g P Q S f lt l e .weigh
 
     me : Hit v c₀ (P f)
@@ -129,27 +129,29 @@ module _ (m b v g : ℕ) (P Q : ℕ → Edge) (S : Setting m b v g P Q) (N L T :
       qf : q ≡ f → ⊥
       qf w = S .apart (sym (pq .q-first) ∙ ap (λ (i : ℕ). P i .first) w ∙ e)
 
-      taken : find (rows P 0 m) b c₀ ≡ some (link (P q))
+      taken : find (rows P 0 m) b c₀ ≡ some (P q .link)
       taken = find-one P b c₀ 0 m q (omega arith) (omega arith) (hit b c₀ (P q) (pq .q-live) (pq .q-first) (pq .q-second))
           (λ j a c h. alone m b v g P Q S b c₀ j q (omega arith) hq (hit-is b c₀ (P j) h) (record { live = pq .q-live; first = pq .q-first; second = pq .q-second }))
 
       abbrev s' : Mem
-      s' = absorbAt s q f (P f .diff)
+      s' = absorbAt s q f (P f .link .diff)
 
       grown : edgeNow s' q ≡ mid m b v P Q (also done f) q
-      unfolding absorb link
+      unfolding absorb
       grown =
           let w : Words s q (P q) = words s q (P q) (sym (now-straight s q straight) ∙ pq .q-now) (pq .q-live) in
           let sum-live : not (eqb (getD (s .at weight) q 0 + getD (s .at weight) f 0) 0) ≡ true = rw (ne-eqb (getD (s .at weight) q 0 + getD (s .at weight) f 0) 0 (λ z. w .some (omega arith))) refl in
-          now-straight s' q (absorb-turned s q f (P f .diff) q ∙ straight)
-          ∙ absorb-grown m n s sound q f (P f .diff) hq lt qf
+          now-straight s' q (absorb-turned s q f (P f .link .diff) q ∙ straight)
+          ∙ absorb-grown m n s sound q f (P f .link .diff) hq lt qf
           ∙ (λ i. record {
             num = sym (S .number q) i;
             live = (sum-live ∙ sym (pq .q-live)) i;
             first = w .first-is i;
             second = w .second-is i;
-            weight = (ap (λ (x : ℕ). x + getD (s .at weight) f 0) (w .weight-is) ∙ ap (λ (x : ℕ). P q .weight + x) weighs) i;
-            diff = ap (λ (x : Float). add binary32 x (P f .diff)) (w .diff-is) i;
+            link = record {
+              weight = (ap (λ (x : ℕ). x + getD (s .at weight) f 0) (w .weight-is) ∙ ap (λ (x : ℕ). P q .link .weight + x) weighs) i;
+              diff = ap (λ (x : Float). add binary32 x (P f .link .diff)) (w .diff-is) i;
+            };
           })
           ∙ sym (mid-base m b v g P Q S (also done f) q (pq .q-first) ∙ ap (λ (o : Option Link). absorb o (P q)) (ap (find (rows (only P (also done f)) 0 m) v) (pq .q-second) ∙ found-now m b v g P Q S (also done f) f lt l e (also-new done f)))
 
@@ -164,16 +166,16 @@ module _ (m b v g : ℕ) (P Q : ℕ → Edge) (S : Setting m b v g P Q) (N L T :
       absorbed : Middle m b v P Q N L T (also done f) s'
       absorbed = record {
         like = λ j hj. ⊎-elim
-            (λ w. subst (λ (i : ℕ). Like (edgeNow s' i) (mid m b v P Q (also done f) i)) (sym w) (like-dead _ _ (now-live s' f ∙ absorb-gone m n s sound q f (P f .diff) hq lt qf) gone))
+            (λ w. subst (λ (i : ℕ). Like (edgeNow s' i) (mid m b v P Q (also done f) i)) (sym w) (like-dead _ _ (now-live s' f ∙ absorb-gone m n s sound q f (P f .link .diff) hq lt qf) gone))
             (λ nf. ⊎-elim
             (λ w. subst (λ (i : ℕ). Like (edgeNow s' i) (mid m b v P Q (also done f) i)) (sym w) (like-of _ _ grown))
-            (λ nq. like-at _ _ _ (now-by s j s' (absorb-turned s q f (P f .diff) j) (absorb-kept m n s sound q f (P f .diff) hq lt qf j nq nf))
+            (λ nq. like-at _ _ _ (now-by s j s' (absorb-turned s q f (P f .link .diff) j) (absorb-kept m n s sound q f (P f .link .diff) hq lt qf j nq nf))
             (mid-kept j hj nf (λ a c d. nq (alone m b v g P Q S b c₀ j q hj hq (record { live = a; first = c; second = d }) (record { live = pq .q-live; first = pq .q-first; second = pq .q-second })))))
             (eq-or-ne j q))
             (eq-or-ne j f);
-        links = frame-absorb s q f (P f .diff) .at enext ∙ I .links;
-        lens = frame-absorb s q f (P f .diff) .at elen ∙ I .lens;
-        stamps = frame-absorb s q f (P f .diff) .at stamp ∙ I .stamps;
+        links = frame-absorb s q f (P f .link .diff) .at enext ∙ I .links;
+        lens = frame-absorb s q f (P f .link .diff) .at elen ∙ I .lens;
+        stamps = frame-absorb s q f (P f .link .diff) .at stamp ∙ I .stamps;
       }
 
     -- the base has none
@@ -198,35 +200,35 @@ module _ (m b v g : ℕ) (P Q : ℕ → Edge) (S : Setting m b v g P Q) (N L T :
       free = find-no P b c₀ 0 m (λ j a c h. nobody j (omega arith) (hit-is b c₀ (P j) h))
 
       abbrev s'' : Mem
-      s'' = attachAt b s f c₀ (P f .diff)
+      s'' = attachAt b s f c₀ (P f .link .diff)
 
       handed : edgeNow s'' f ≡ mid m b v P Q (also done f) f
       unfolding hand absent
       handed =
           let fl : edgeOf s f .live ≡ true = sym (now-live s f) ∙ ap (λ (x : Edge). x .live) now ∙ S .alike f ∙ l in
           let pl : (P f .live && true) ≡ true = rw l refl in
-          now-straight s'' f (attach-straight m n b s sound f c₀ (P f .diff) lt older)
-          ∙ attach-new m n s sound b f c₀ (P f .diff) lt
-          ∙ (λ i. record { num = sym (S .number f) i; live = (fl ∙ sym pl) i; first = b; second = c₀; weight = weighs i; diff = P f .diff })
+          now-straight s'' f (attach-straight m n b s sound f c₀ (P f .link .diff) lt older)
+          ∙ attach-new m n s sound b f c₀ (P f .link .diff) lt
+          ∙ (λ i. record { num = sym (S .number f) i; live = (fl ∙ sym pl) i; first = b; second = c₀; link = record { weight = weighs i; diff = P f .link .diff } })
           ∙ sym (mid-moved m b v g P Q S (also done f) f true e (also-new done f) ∙ (rw free refl))
 
       attached : Middle m b v P Q N L T (also done f) s''
       attached = record {
         like = λ j hj. ⊎-elim
             (λ w. subst (λ (i : ℕ). Like (edgeNow s'' i) (mid m b v P Q (also done f) i)) (sym w) (like-of _ _ handed))
-            (λ nf. like-at _ _ _ (now-by s j s'' (attach-turned m n b s sound f c₀ (P f .diff) lt j nf) (attach-kept m n s sound b f c₀ (P f .diff) lt j nf))
+            (λ nf. like-at _ _ _ (now-by s j s'' (attach-turned m n b s sound f c₀ (P f .link .diff) lt j nf) (attach-kept m n s sound b f c₀ (P f .link .diff) lt j nf))
             (mid-kept j hj nf (λ a c d. nobody j hj (record { live = a; first = c; second = d }))))
             (eq-or-ne j f);
-        links = frame-attach b s f c₀ (P f .diff) .at enext ∙ I .links;
-        lens = frame-attach b s f c₀ (P f .diff) .at elen ∙ I .lens;
-        stamps = frame-attach b s f c₀ (P f .diff) .at stamp ∙ I .stamps;
+        links = frame-attach b s f c₀ (P f .link .diff) .at enext ∙ I .links;
+        lens = frame-attach b s f c₀ (P f .link .diff) .at elen ∙ I .lens;
+        stamps = frame-attach b s f c₀ (P f .link .diff) .at stamp ∙ I .stamps;
       }
 
   -- ---- the step
   module _ (n : ℕ) (s : Mem) (sound : Sound m n s) (done : ℕ → Bool) (I : Middle m b v P Q N L T done s)
       (f : ℕ) (lt : f < m) (l : P f .live ≡ true) (e : P f .first ≡ v) (todo : done f ≡ false) where
     -- the mate is faced before it takes the edge up
-    faced : (q : ℕ) → Mate m b s (P f .second) q → Middle m b v P Q N L T (also done f) (absorbAt (faceAt s q) q f (P f .diff))
+    faced : (q : ℕ) → Mate m b s (P f .second) q → Middle m b v P Q N L T (also done f) (absorbAt (faceAt s q) q f (P f .link .diff))
     faced q t =
         let hq : q < m = t .q-in in
         let p : Partner s (P f .second) q = partner n s sound done I f lt l e todo q t in
@@ -237,7 +239,7 @@ module _ (m b v g : ℕ) (P Q : ℕ → Edge) (S : Setting m b v g P Q) (N L T :
     unfolding joinEdge
     moved-step straight = subst (Middle m b v P Q N L T (also done f)) (sym (moved-is m b v g P Q S s f lt (sym (now-straight s f straight) ∙ now n s sound done I f lt l e todo) l e)) (go (ltb (mate m b s (P f .second)) m) refl)
       where
-        go : (x : Bool) → ltb (mate m b s (P f .second)) m ≡ x → Middle m b v P Q N L T (also done f) (cond x (absorbAt (faceAt s (mate m b s (P f .second))) (mate m b s (P f .second)) f (P f .diff)) (attachAt b s f (P f .second) (P f .diff)))
+        go : (x : Bool) → ltb (mate m b s (P f .second)) m ≡ x → Middle m b v P Q N L T (also done f) (cond x (absorbAt (faceAt s (mate m b s (P f .second))) (mate m b s (P f .second)) f (P f .link .diff)) (attachAt b s f (P f .second) (P f .link .diff)))
         go true r = faced (mate m b s (P f .second)) (mate-is m b (P f .second) s (ltb-true (mate m b s (P f .second)) m r))
         go false r = attached n s sound done I f lt l e todo (ltb-false (mate m b s (P f .second)) m r)
 

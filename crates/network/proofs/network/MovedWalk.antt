@@ -9,7 +9,7 @@ use native.Mathlib.Omega.{arith}
 use borrow.Author.Tests.{le-ltb, eqb-true, eqb-false}
 use Rattle.merge.proofs.merge.Bias.{lt-or-le}
 use lib.ListN.{getD}
-use Rattle.network.specs.Network.{Edge, Link, link, find, absorb, hand, combine, turn, turnIf, adjust, shifted, isZero}
+use Rattle.network.specs.Network.{Edge, Link, find, absorb, hand, combine, turn, turnIf, adjust, shifted, isZero}
 use Rattle.merge.specs.Mem.{Mem, Sound}
 use Rattle.merge.specs.Table.{enext, stamp, elen}
 use Rattle.merge.specs.Steps.{unbias, takeEdge, walkMoved}
@@ -38,8 +38,8 @@ module _ (m b v g : ℕ) (P Q : ℕ → Edge) (S : Setting m b v g P Q) where
       go true r u p h = absurd (ne (ap (λ (x : Edge). x .first) h ∙ sym (eqb-true v (Q j .second) r)))
       go false r true p h = absurd (ne (ap (λ (x : Edge). x .first) h ∙ sym (eqb-true v (Q j .first) p)))
       go false r false p h =
-          let d : shifted (isZero (unbias g)) (eqb v (Q j .first)) (eqb v (Q j .second)) (unbias g) (Q j .weight) (Q j .diff) ≡ Q j .diff = rw (r, p) (fixed (isZero (unbias g)) (Q j .weight) (Q j .diff)) in
-          h ∙ (λ i. record { num = Q j .num; live = Q j .live; first = Q j .first; second = Q j .second; weight = Q j .weight; diff = d i })
+          let d : shifted (isZero (unbias g)) (eqb v (Q j .first)) (eqb v (Q j .second)) (unbias g) (Q j .link .weight) (Q j .link .diff) ≡ Q j .link .diff = rw (r, p) (fixed (isZero (unbias g)) (Q j .link .weight) (Q j .link .diff)) in
+          h ∙ (λ i. record { num = Q j .num; live = Q j .live; first = Q j .first; second = Q j .second; link = record { weight = Q j .link .weight; diff = d i } })
 
   abbrev nothing : ℕ → Bool
   nothing j = false
@@ -105,7 +105,7 @@ module _ (m b v g : ℕ) (P Q : ℕ → Edge) (S : Setting m b v g P Q) where
 
   -- ---- the end
   pub finish : (N L T : List ℕ) (s : Mem) (done : ℕ → Bool) → Middle m b v P Q N L T done s → ((j : ℕ) → j < m → P j .live ≡ true → P j .first ≡ v → done j ≡ true) → (j : ℕ) → j < m → Like (edgeNow s j) (combine (rows P 0 m) b v (P j))
-  unfolding combine only link
+  unfolding combine only
   finish N L T s done I all j hj = go (P j .live) refl (eqb b (P j .first)) refl (eqb v (P j .first)) refl
     where
       every : (c : ℕ) → find (rows (only P done) 0 m) v c ≡ find (rows P 0 m) v c

@@ -55,9 +55,9 @@ commute b v k e n h = go (eqb b (e .second)) refl (eqb v (e .first)) refl (eqb v
     go true te true xe y ye = absurd (h (sym (eqb-true v (e .first) xe), sym (eqb-true b (e .second) te)))
     go true te false xe true ye = absurd (n (eqb-true b (e .second) te ∙ sym (eqb-true v (e .second) ye)))
     go true te false xe false ye =
-        let d₁ : shifted (isZero k) (eqb v (e .first)) (eqb v (e .second)) k (e .weight) (e .diff) ≡ e .diff = rw (xe, ye) (fixed (isZero k) (e .weight) (e .diff)) in
-        let d₂ : shifted (isZero k) (eqb v (e .second)) (eqb v (e .first)) k (e .weight) (lib.Ieee.neg (e .diff)) ≡ lib.Ieee.neg (e .diff) = rw (xe, ye) (fixed (isZero k) (e .weight) (lib.Ieee.neg (e .diff))) in
-        λ i. record { num = e .num; live = e .live; first = e .second; second = e .first; weight = e .weight; diff = (ap (λ (z : Float). lib.Ieee.neg z) d₁ ∙ sym d₂) i }
+        let d₁ : shifted (isZero k) (eqb v (e .first)) (eqb v (e .second)) k (e .link .weight) (e .link .diff) ≡ e .link .diff = rw (xe, ye) (fixed (isZero k) (e .link .weight) (e .link .diff)) in
+        let d₂ : shifted (isZero k) (eqb v (e .second)) (eqb v (e .first)) k (e .link .weight) (lib.Ieee.neg (e .link .diff)) ≡ lib.Ieee.neg (e .link .diff) = rw (xe, ye) (fixed (isZero k) (e .link .weight) (lib.Ieee.neg (e .link .diff))) in
+        λ i. record { num = e .num; live = e .live; first = e .second; second = e .first; link = record { weight = e .link .weight; diff = (ap (λ (z : Float). lib.Ieee.neg z) d₁ ∙ sym d₂) i } }
 
 module _ (m : ℕ) (E : ℕ → Edge) (num : (j : ℕ) → E j .num ≡ j) (simple : Simple (rows E 0 m)) (e : ℕ) (lt : e < m) (l : E e .live ≡ true) (rs : List Region) where
   abbrev pl : Plan

@@ -7,7 +7,7 @@ use mathlib.Core.Option.{none, some}
 use Prim.Native.Nat.{ℕ, zero, suc, _+_, _-_, _≤_, _<_}
 use native.Mathlib.Omega.{arith}
 use lib.ListN.{length, getD}
-use Rattle.network.specs.Network.{Edge, link, find}
+use Rattle.network.specs.Network.{Edge, find}
 use Rattle.network.specs.Net.{rows}
 use Rattle.merge.proofs.merge.SoundSet.{eq-or-ne}
 use lib.Dec.{eqb}
@@ -70,14 +70,14 @@ hit-is x c e h = go (e .live) refl (eqb x (e .first)) refl (eqb c (e .second)) r
     go false pe q qe r re t = absurd (true≢false (sym t))
 
 -- the first that hits is the one, where there is only one
-pub find-one : (f : ℕ → Edge) (x c k n i : ℕ) → k ≤ i → i < k + n → hits x c (f i) ≡ true → ((j : ℕ) → k ≤ j → j < k + n → hits x c (f j) ≡ true → j ≡ i) → find (rows f k n) x c ≡ some (link (f i))
+pub find-one : (f : ℕ → Edge) (x c k n i : ℕ) → k ≤ i → i < k + n → hits x c (f i) ≡ true → ((j : ℕ) → k ≤ j → j < k + n → hits x c (f j) ≡ true → j ≡ i) → find (rows f k n) x c ≡ some (f i .link)
 unfolding find rows
 find-one f x c k zero i p q h u = absurd (omega arith)
 find-one f x c k (suc n) i p q h u = go (hits x c (f k)) refl (find-one f x c (suc k) n i)
   where
-    go : (t : Bool) → hits x c (f k) ≡ t → (suc k ≤ i → i < suc k + n → hits x c (f i) ≡ true → ((j : ℕ) → suc k ≤ j → j < suc k + n → hits x c (f j) ≡ true → j ≡ i) → find (rows f (suc k) n) x c ≡ some (link (f i)))
-        → cond t (some (link (f k))) (find (rows f (suc k) n) x c) ≡ some (link (f i))
-    go true e ih = ap (λ (y : ℕ). some (link (f y))) (u k (omega arith) (omega arith) e)
+    go : (t : Bool) → hits x c (f k) ≡ t → (suc k ≤ i → i < suc k + n → hits x c (f i) ≡ true → ((j : ℕ) → suc k ≤ j → j < suc k + n → hits x c (f j) ≡ true → j ≡ i) → find (rows f (suc k) n) x c ≡ some (f i .link))
+        → cond t (some (f k .link)) (find (rows f (suc k) n) x c) ≡ some (f i .link)
+    go true e ih = ap (λ (y : ℕ). some (f y .link)) (u k (omega arith) (omega arith) e)
     go false e ih = ⊎-elim (λ r. absurd (true≢false (sym h ∙ ap (λ (y : ℕ). hits x c (f y)) r ∙ e))) (λ r. ih (omega arith) (omega arith) h (λ j a b t. u j (omega arith) (omega arith) t)) (eq-or-ne i k)
 
 pub find-no : (f : ℕ → Edge) (x c k n : ℕ) → ((j : ℕ) → k ≤ j → j < k + n → hits x c (f j) ≡ true → ⊥) → find (rows f k n) x c ≡ none
@@ -85,17 +85,17 @@ unfolding find rows
 find-no f x c k zero h = refl
 find-no f x c k (suc n) h = go (hits x c (f k)) refl (find-no f x c (suc k) n (λ j a b. h j (omega arith) (omega arith)))
   where
-    go : (t : Bool) → hits x c (f k) ≡ t → find (rows f (suc k) n) x c ≡ none → cond t (some (link (f k))) (find (rows f (suc k) n) x c) ≡ none
+    go : (t : Bool) → hits x c (f k) ≡ t → find (rows f (suc k) n) x c ≡ none → cond t (some (f k .link)) (find (rows f (suc k) n) x c) ≡ none
     go true e ih = absurd (h k (omega arith) (omega arith) e)
     go false e ih = ih
 
 -- rows that hit alike
-pub find-like : (f g : ℕ → Edge) (x c k n : ℕ) → ((j : ℕ) → k ≤ j → j < k + n → (hits x c (f j) ≡ hits x c (g j)) × (hits x c (g j) ≡ true → link (f j) ≡ link (g j))) → find (rows f k n) x c ≡ find (rows g k n) x c
+pub find-like : (f g : ℕ → Edge) (x c k n : ℕ) → ((j : ℕ) → k ≤ j → j < k + n → (hits x c (f j) ≡ hits x c (g j)) × (hits x c (g j) ≡ true → f j .link ≡ g j .link)) → find (rows f k n) x c ≡ find (rows g k n) x c
 unfolding find rows
 find-like f g x c k zero h = refl
 find-like f g x c k (suc n) h = let w = h k (omega arith) (omega arith) in go (hits x c (g k)) refl (w .0) (w .1) (find-like f g x c (suc k) n (λ j a b. h j (omega arith) (omega arith)))
   where
-    go : (t : Bool) → hits x c (g k) ≡ t → hits x c (f k) ≡ hits x c (g k) → (hits x c (g k) ≡ true → link (f k) ≡ link (g k)) → find (rows f (suc k) n) x c ≡ find (rows g (suc k) n) x c
-        → cond (hits x c (f k)) (some (link (f k))) (find (rows f (suc k) n) x c) ≡ cond t (some (link (g k))) (find (rows g (suc k) n) x c)
+    go : (t : Bool) → hits x c (g k) ≡ t → hits x c (f k) ≡ hits x c (g k) → (hits x c (g k) ≡ true → f k .link ≡ g k .link) → find (rows f (suc k) n) x c ≡ find (rows g (suc k) n) x c
+        → cond (hits x c (f k)) (some (f k .link)) (find (rows f (suc k) n) x c) ≡ cond t (some (g k .link)) (find (rows g (suc k) n) x c)
     go true e p q ih = rw (p ∙ e) (ap some (q e))
     go false e p q ih = rw (p ∙ e) ih

@@ -129,7 +129,7 @@ module _ (m n : ℕ) (gates : ℕ → ℕ) (past : ℕ) (s : Mem) (t : State) (R
     unfolding kill
     killed-else j ne =
         let no : eqb (pl .edge) (R .E j .num) ≡ false = ap (λ (x : ℕ). eqb x (R .E j .num)) edge-is ∙ ap (eqb e) (R .number j) ∙ same-no e j (λ w. ne (sym w)) in
-        λ i. record { num = R .E j .num; live = (ap (λ (x : Bool). R .E j .live && not x) no ∙ and-true (R .E j .live)) i; first = R .E j .first; second = R .E j .second; weight = R .E j .weight; diff = R .E j .diff }
+        λ i. record { num = R .E j .num; live = (ap (λ (x : Bool). R .E j .live && not x) no ∙ and-true (R .E j .live)) i; first = R .E j .first; second = R .E j .second; link = R .E j .link }
       where
         and-true : (x : Bool) → (x && true) ≡ x
         and-true true = refl

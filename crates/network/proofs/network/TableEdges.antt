@@ -52,16 +52,16 @@ pub record Words (s : Mem) (j : ℕ) (e : Edge) : Type 0 where
   pub some : getD (s .at weight) j 0 ≡ 0 → ⊥
   pub first-is : getD (s .at first) j 0 ≡ e .first
   pub second-is : getD (s .at second) j 0 ≡ e .second
-  pub weight-is : getD (s .at weight) j 0 ≡ e .weight
-  pub diff-is : getD (s .diff) j nan ≡ e .diff
+  pub weight-is : getD (s .at weight) j 0 ≡ e .link .weight
+  pub diff-is : getD (s .diff) j nan ≡ e .link .diff
 
 pub words : (s : Mem) (j : ℕ) (e : Edge) → edgeOf s j ≡ e → e .live ≡ true → Words s j e
 words s j e h l = record {
   some = live-word s j (ap (λ (x : Edge). x .live) h ∙ l);
   first-is = unfold edgeOf in ap (λ (x : Edge). x .first) h;
   second-is = unfold edgeOf in ap (λ (x : Edge). x .second) h;
-  weight-is = unfold edgeOf in ap (λ (x : Edge). x .weight) h;
-  diff-is = unfold edgeOf in ap (λ (x : Edge). x .diff) h;
+  weight-is = unfold edgeOf in ap (λ (x : Edge). x .link .weight) h;
+  diff-is = unfold edgeOf in ap (λ (x : Edge). x .link .diff) h;
 }
 
 -- ---- which step movedEdge is
@@ -99,8 +99,7 @@ module _ (m n : ℕ) (s : Mem) (h : Sound m n s) where
       live = not (eqb (getD (s .at weight) q 0 + getD (s .at weight) f 0) 0);
       first = getD (s .at first) q 0;
       second = getD (s .at second) q 0;
-      weight = getD (s .at weight) q 0 + getD (s .at weight) f 0;
-      diff = add binary32 (getD (s .diff) q nan) x;
+      link = record { weight = getD (s .at weight) q 0 + getD (s .at weight) f 0; diff = add binary32 (getD (s .diff) q nan) x };
     }
     unfolding edgeOf absorbAt store diff-set
     absorb-grown = rw (getD-set-other (set (s .at weight) q (getD (s .at weight) q 0 + getD (s .at weight) f 0)) f q 0 0 ne, getD-set-same (s .at weight) q (getD (s .at weight) q 0 + getD (s .at weight) f 0) 0 (omega (arith, h .lengths weight)), getD-set-same (s .diff) q (add binary32 (getD (s .diff) q nan) x) nan (omega (arith, h .l-diff))) refl
@@ -110,7 +109,7 @@ module _ (m n : ℕ) (s : Mem) (h : Sound m n s) where
     unfolding edgeOf attachAt store diff-set
     attach-kept j a = rw (getD-set-other (s .at first) f j b 0 a, getD-set-other (s .at second) f j c 0 a, getD-set-other (s .diff) f j x nan a) refl
 
-    pub attach-new : edgeOf (attachAt b s f c x) f ≡ record { num = f; live = edgeOf s f .live; first = b; second = c; weight = getD (s .at weight) f 0; diff = x }
+    pub attach-new : edgeOf (attachAt b s f c x) f ≡ record { num = f; live = edgeOf s f .live; first = b; second = c; link = record { weight = getD (s .at weight) f 0; diff = x } }
     unfolding edgeOf attachAt store diff-set
     attach-new = rw (getD-set-same (s .at first) f b 0 (omega (arith, h .lengths first)), getD-set-same (s .at second) f c 0 (omega (arith, h .lengths second)), getD-set-same (s .diff) f x nan (omega (arith, h .l-diff))) refl
 
@@ -120,6 +119,6 @@ module _ (m n : ℕ) (s : Mem) (h : Sound m n s) where
     unfolding edgeOf turnAt store diff-set
     turn-kept j a = rw (getD-set-other (s .at first) f j (getD (s .at second) f 0) 0 a, getD-set-other (s .at second) f j (getD (s .at first) f 0) 0 a, getD-set-other (s .diff) f j (neg (getD (s .diff) f nan)) nan a) refl
 
-    pub turn-new : edgeOf (turnAt s f) f ≡ record { num = f; live = edgeOf s f .live; first = getD (s .at second) f 0; second = getD (s .at first) f 0; weight = getD (s .at weight) f 0; diff = neg (getD (s .diff) f nan) }
+    pub turn-new : edgeOf (turnAt s f) f ≡ record { num = f; live = edgeOf s f .live; first = getD (s .at second) f 0; second = getD (s .at first) f 0; link = record { weight = getD (s .at weight) f 0; diff = neg (getD (s .diff) f nan) } }
     unfolding edgeOf turnAt store diff-set
     turn-new = rw (getD-set-same (s .at first) f (getD (s .at second) f 0) 0 (omega (arith, h .lengths first)), getD-set-same (s .at second) f (getD (s .at first) f 0) 0 (omega (arith, h .lengths second)), getD-set-same (s .diff) f (neg (getD (s .diff) f nan)) nan (omega (arith, h .l-diff))) refl

@@ -67,7 +67,7 @@ module _ (m n : ℕ) (gates : ℕ → ℕ) (past : ℕ) (w : List ℕ) (d : List
       pub best-live : R .E e .live ≡ true
       best-live = sym (R .like e (B .within) .live) ∙ now-live s e ∙ word-live s e (λ z. live (sym (weight-at m n w d e (B .within)) ∙ z))
 
-      weighs : (j : ℕ) → j < m → R .E j .live ≡ true → getD w j 0 ≡ R .E j .weight
+      weighs : (j : ℕ) → j < m → R .E j .live ≡ true → getD w j 0 ≡ R .E j .link .weight
       weighs j h l = sym (weight-at m n w d j h) ∙ stands s j (R .E j) (R .like j h .whole l) l .weight-is
 
       pub choose-some : choose (t .edges) ≡ some (R .E e)
@@ -79,8 +79,8 @@ module _ (m n : ℕ) (gates : ℕ → ℕ) (past : ℕ) (w : List ℕ) (d : List
           lives : (j : ℕ) → j < m → getD (rows (R .E) 0 m) j (R .E 0) .live ≡ true → R .E j .live ≡ true
           lives j h l = sym (ap (λ (x : Edge). x .live) (row j h)) ∙ l
 
-          heavy : (j : ℕ) → j < m → R .E j .live ≡ true → getD (rows (R .E) 0 m) j (R .E 0) .weight ≡ getD w j 0
-          heavy j h l = ap (λ (x : Edge). x .weight) (row j h) ∙ sym (weighs j h l)
+          heavy : (j : ℕ) → j < m → R .E j .live ≡ true → getD (rows (R .E) 0 m) j (R .E 0) .link .weight ≡ getD w j 0
+          heavy j h l = ap (λ (x : Edge). x .link .weight) (row j h) ∙ sym (weighs j h l)
 
           heaviest : Heaviest (R .E 0) (rows (R .E) 0 m) e
           heaviest = record {
@@ -98,12 +98,12 @@ module _ (m n : ℕ) (gates : ℕ → ℕ) (past : ℕ) (w : List ℕ) (d : List
     found : at (t .edges) e ≡ some (R .E e)
     found = ap (λ (x : List Edge). at x e) (R .edges) ∙ at-rows (R .E) (R .number) 0 m e (omega arith) (omega arith) l
 
-    range-is : inRange (event t e) ≡ (bounded 1000 (quot (R .E e .diff) (R .E e .weight)) && all (bounded 1000) (raised (plan rs (R .E e) .gain) rs (plan rs (R .E e) .moved)))
+    range-is : inRange (event t e) ≡ (bounded 1000 (quot (R .E e .link .diff) (R .E e .link .weight)) && all (bounded 1000) (raised (plan rs (R .E e) .gain) rs (plan rs (R .E e) .moved)))
     unfolding event eventOf inRange
     range-is = ap (λ (o : Option Edge). inRange (eventOf (t .regions) e o)) found ∙ ap (λ (x : List Region). inRange (eventOf x e (some (R .E e)))) (R .regions)
 
     -- question 9 says no to the number
-    pub number-refused : bounded 1000 (quot (R .E e .diff) (R .E e .weight)) ≡ false → inRange (event t e) ≡ false
+    pub number-refused : bounded 1000 (quot (R .E e .link .diff) (R .E e .link .weight)) ≡ false → inRange (event t e) ≡ false
     number-refused h = range-is ∙ (rw h refl)
 
     -- the ends as the code has them
@@ -130,7 +130,7 @@ module _ (m n : ℕ) (gates : ℕ → ℕ) (past : ℕ) (w : List ℕ) (d : List
             rlens = omega (arith, R .small, two-circles (s .at rnext) n (R .node) (R .rpos) (λ x. getD (s .at rlen) x 0) (R .rchains) b v hb hv lb lv ne);
           }
 
-      module _ (g : ℕ) (N : Numbered (quot (R .E e .diff) (R .E e .weight)) g) where
+      module _ (g : ℕ) (N : Numbered (quot (R .E e .link .diff) (R .E e .link .weight)) g) where
         -- what `merge` asks, one way round and the other
         pub asks-first : Sound m n s × (Gains n p q g × (Fit n p q s × (e < m)))
         asks-first = rw (ends-words .0, ends-words .1)
@@ -223,9 +223,9 @@ module _ (m n : ℕ) (gates : ℕ → ℕ) (past : ℕ) (w : List ℕ) (d : List
     pub chosen-ends : (p ≡ R .E e .first) × (q ≡ R .E e .second)
     chosen-ends = (c .first ∙ ap (λ (x : Edge). x .first) chosen-is, c .second ∙ ap (λ (x : Edge). x .second) chosen-is)
 
-    pub chosen-number : Numbered (quot (R .E e .diff) (R .E e .weight)) g
-    chosen-number = number-in (quot (R .E e .diff) (R .E e .weight)) g
-        (c .number ∙ ap (λ (x : Edge). numberOf (quot (x .diff) (getD (s .at weight) e 0))) chosen-is ∙ ap (λ (x : ℕ). numberOf (quot (R .E e .diff) x)) (stands s e (R .E e) chosen-is chosen-live .weight-is)) (c .most)
+    pub chosen-number : Numbered (quot (R .E e .link .diff) (R .E e .link .weight)) g
+    chosen-number = number-in (quot (R .E e .link .diff) (R .E e .link .weight)) g
+        (c .number ∙ ap (λ (x : Edge). numberOf (quot (x .link .diff) (getD (s .at weight) e 0))) chosen-is ∙ ap (λ (x : ℕ). numberOf (quot (R .E e .link .diff) x)) (stands s e (R .E e) chosen-is chosen-live .weight-is)) (c .most)
 
   -- ---- the answer of choosing
   pub pop-none : (e : ℕ) → Best m w e → getD w e 0 ≡ 0 → Nothing ≡ popped (choose (t .edges))
@@ -240,7 +240,7 @@ module _ (m n : ℕ) (gates : ℕ → ℕ) (past : ℕ) (w : List ℕ) (d : List
       let is : edgeNow s e ≡ R .E e = R .like e (k .best .within) .whole l in
       let a : p .node1 ≡ R .E e .first = k .first ∙ ap (λ (x : Edge). x .first) is in
       let b : p .node2 ≡ R .E e .second = k .second ∙ ap (λ (x : Edge). x .second) is in
-      let x : p .diff ≡ div binary64 (R .E e .diff) (real (pos (R .E e .weight))) = k .diff ∙ ap (λ (z : Edge). div binary64 (z .diff) (real (pos (getD w e 0)))) is ∙ ap (λ (z : ℕ). div binary64 (R .E e .diff) (real (pos z))) (weighs e (k .best) (k .live) e (k .best .within) l) in
+      let x : p .diff ≡ div binary64 (R .E e .link .diff) (real (pos (R .E e .link .weight))) = k .diff ∙ ap (λ (z : Edge). div binary64 (z .link .diff) (real (pos (getD w e 0)))) is ∙ ap (λ (z : ℕ). div binary64 (R .E e .link .diff) (real (pos z))) (weighs e (k .best) (k .live) e (k .best .within) l) in
       (λ i. Taken (record { node1 = a i; node2 = b i; diff = x i; «edge_number» = sym (R .number e) i }))
       ∙ sym (ap popped (choose-some e (k .best) (k .live)))
 
@@ -250,19 +250,19 @@ module _ (m n : ℕ) (gates : ℕ → ℕ) (past : ℕ) (w : List ℕ) (d : List
     unfolding TurnIs
     turn-ended z = (choose-none e B z, R)
 
-    module _ (live : getD w e 0 ≡ 0 → ⊥) (is : g ≡ numberOf (quot (edgeNow s e .diff) (getD w e 0))) where
+    module _ (live : getD w e 0 ≡ 0 → ⊥) (is : g ≡ numberOf (quot (edgeNow s e .link .diff) (getD w e 0))) where
       l : R .E e .live ≡ true
       l = best-live e B live
 
-      in-words : g ≡ numberOf (quot (R .E e .diff) (R .E e .weight))
-      in-words = is ∙ ap (λ (x : Edge). numberOf (quot (x .diff) (getD w e 0))) (R .like e (B .within) .whole l) ∙ ap (λ (x : ℕ). numberOf (quot (R .E e .diff) x)) (weighs e B live e (B .within) l)
+      in-words : g ≡ numberOf (quot (R .E e .link .diff) (R .E e .link .weight))
+      in-words = is ∙ ap (λ (x : Edge). numberOf (quot (x .link .diff) (getD w e 0))) (R .like e (B .within) .whole l) ∙ ap (λ (x : ℕ). numberOf (quot (R .E e .link .diff) x)) (weighs e B live e (B .within) l)
 
       num : R .E e .num ≡ e
       num = R .number e
 
       pub turn-refused : 2000 < g → (w' : List ℕ) (d' : List Float) → TurnIs m n gates past t w' d' Refused
       unfolding TurnIs
-      turn-refused h w' d' = (R .E e, choose-some e B live, ap (λ (i : ℕ). inRange (event t i)) num ∙ number-refused e (B .within) l (number-out (quot (R .E e .diff) (R .E e .weight)) g in-words h))
+      turn-refused h w' d' = (R .E e, choose-some e B live, ap (λ (i : ℕ). inRange (event t i)) num ∙ number-refused e (B .within) l (number-out (quot (R .E e .link .diff) (R .E e .link .weight)) g in-words h))
 
       pub turn-picked : (w' : List ℕ) (d' : List Float) (r : Turned) → PickIs m n gates past t e w' d' r → TurnIs m n gates past t w' d' r
       unfolding TurnIs PickIs
@@ -311,7 +311,7 @@ module _ (m n : ℕ) (w : List ℕ) (d : List Float) (p : PoppedEdge) (k : Takes
   abbrev e : ℕ
   e = p .«edge_number»
 
-  pub taken-number : g ≡ numberOf (quot (edgeNow (view m n w d) e .diff) (getD w e 0))
+  pub taken-number : g ≡ numberOf (quot (edgeNow (view m n w d) e .link .diff) (getD w e 0))
   unfolding quot
   taken-number = i ∙ ap (λ (x : Float). numberOf (whole (roundEven x))) (k .diff)
 
@@ -321,7 +321,7 @@ module _ (m n : ℕ) (w : List ℕ) (d : List Float) (p : PoppedEdge) (k : Takes
     live = λ z. k .live (sym (weight-at m n w d e (k .best .within)) ∙ z);
     first = k .first;
     second = k .second;
-    number = taken-number ∙ ap (λ (x : ℕ). numberOf (quot (edgeNow (view m n w d) e .diff) x)) (sym (weight-at m n w d e (k .best .within)));
+    number = taken-number ∙ ap (λ (x : ℕ). numberOf (quot (edgeNow (view m n w d) e .link .diff) x)) (sym (weight-at m n w d e (k .best .within)));
     most = most;
   }
 
