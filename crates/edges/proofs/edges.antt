@@ -8,7 +8,7 @@ pub mod Fills
 pub mod Runs
 pub mod Sorting
 pub mod SortSteps
-pub mod Gathering
+pub mod GatherLaws
 pub mod RunCount
 pub mod Assembly
 pub mod Weights

@@ -13,14 +13,12 @@ use Rattle.edges.specs.GatePairs.{both, pairOf}
 use Rattle.memory.specs.Layout.{gateAt, farAt, orderAt, firstAt, secondAt, enextAt}
 use Rattle.edges.specs.Order.{alike, runs}
 use Rattle.edges.specs.declared.edges.Raw.{Raw}
-use Rattle.edges.specs.declared.edges.Sums.{Sums}
+use Rattle.edges.specs.declared.edges.Gathering.{Gathering}
+use Rattle.edges.specs.declared.edges.Labels.{Labels}
 use Rattle.edges.specs.declared.edges.EdgeRecord.{EdgeRecord}
 
 abbrev pub pairIs : Raw → Pair
 pairIs p = record { one = p .one; two = p .two; vel1 = p .vel1; vel2 = p .vel2 }
-
-abbrev pub recordIs : Sums → EdgeRecord
-recordIs s = record { one = s .one; two = s .two; count = s .count; sum1 = s .sum1; sum2 = s .sum2 }
 
 -- the i-th of the sorted pairs
 unfoldable pub pairAt : List ℕ → List Float → ℕ → ℕ → Pair
@@ -41,6 +39,14 @@ pub record Ready (w : List ℕ) (vel : List Float) (n m : ℕ) : Type 0 where
   pub gate : (x : ℕ) → x < m → getD w (gateAt n + x) 0 < n
   pub far : (x : ℕ) → x < m → getD w (farAt n + x) 0 < n
 
+-- the same of their labels, whatever the velocities are
+abbrev pub Legible : List ℕ → ℕ → ℕ → Type 0
+Legible w n m = (vel : List Float) × Ready w vel n m
+
+-- the labels of the i-th of them
+abbrev pub LabelsAt : List ℕ → ℕ → ℕ → Labels → Type 0
+LabelsAt w n i r = (vel : List Float) → (r .one ≡ pairAt w vel n i .one) × (r .two ≡ pairAt w vel n i .two)
+
 unfoldable pub diffOf : Float → EdgeRecord → Float
 diffOf wide r = narrowed (div binary64 (sub binary64 (r .sum1) (r .sum2)) wide)
 
@@ -60,9 +66,9 @@ pub record Slot (w : List ℕ) (d : List Float) (n m t c e : ℕ) : Type 0 where
   pub place : e < c
 
 -- one turn, at pair p: the record goes on, or is written and another begun
-pub record Turned (wide : Float) (t c : ℕ) (p : Pair) (s r : Sums) (w v : List ℕ) (d b : List Float) : Type 0 where
-  pub on : alike (recordIs s) p ≡ true → (v ≡ w) × (b ≡ d) × (recordIs r ≡ plus (recordIs s) p) × (r .edges ≡ s .edges)
-  pub off : alike (recordIs s) p ≡ false → (v ≡ written w t c (s .edges) (recordIs s)) × (b ≡ set d (s .edges) (diffOf wide (recordIs s))) × (recordIs r ≡ begun p) × (r .edges ≡ s .edges + 1)
+pub record Turned (wide : Float) (t c : ℕ) (p : Pair) (s r : Gathering) (w v : List ℕ) (d b : List Float) : Type 0 where
+  pub on : alike (s .«record») p ≡ true → (v ≡ w) × (b ≡ d) × (r .«record» ≡ plus (s .«record») p) × (r .edges ≡ s .edges)
+  pub off : alike (s .«record») p ≡ false → (v ≡ written w t c (s .edges) (s .«record»)) × (b ≡ set d (s .edges) (diffOf wide (s .«record»))) × (r .«record» ≡ begun p) × (r .edges ≡ s .edges + 1)
 
 -- what gathering asks: room for all runs
 pub record Gathers (w : List ℕ) (d vel : List Float) (n m t c : ℕ) : Type 0 where

@@ -1,14 +1,15 @@
 // edges.rs: looks, pairs, and the edge records gathered from them.
 ghost use mathlib.Core.Path.{_≡_};
-ghost use mathlib.Core.Bool.{cond};
+ghost use mathlib.Core.Bool.{cond, _&&_};
 ghost use mathlib.Core.List.{List, [], _∷_};
 ghost use Prim.Native.Nat.{ℕ, suc, _+_, _-_, _*_, _≤_, _<_, _^_};
+ghost use lib.Dec.{eqb};
 ghost use lib.ListN.{length, getD, set};
 ghost use Rattle.arithmetic.specs.Seg.{seg, put};
 ghost use Rattle.arithmetic.specs.Seq.{upto};
 ghost use Rattle.edges.specs.Edges.{next, left, right, top, bottom, look, sees, skip, begun, plus, pairs, used};
 ghost use Rattle.edges.specs.Whole.{Asked, Edged};
-ghost use Rattle.edges.specs.Gather.{pairIs, recordIs, pairAt, later, Ready, diffOf, written, tables, Slot, Turned, Gathers, Gathered};
+ghost use Rattle.edges.specs.Gather.{pairIs, pairAt, later, Ready, Legible, LabelsAt, diffOf, written, tables, Slot, Turned, Gathers, Gathered};
 ghost use Rattle.edges.specs.Order.{alike, runs};
 ghost use Rattle.edges.specs.Sorts.{labelsOf, Reads, Sorts, Sorted};
 ghost use Rattle.edges.specs.GatePairs.{gatePairTo, gatePairsAt, gatePairs, Adds, Sheet, Place};
@@ -235,14 +236,16 @@ pub struct Raw {
     pub vel2: f64,
 }
 
-// A record as it is gathered, and how many there were before it.
-pub struct Sums {
+// The record being gathered, and how many there were before it.
+pub struct Gathering {
+    pub record: EdgeRecord,
+    pub edges: usize,
+}
+
+// Two labels.
+pub struct Labels {
     pub one: u32,
     pub two: u32,
-    pub count: u32,
-    pub sum1: f64,
-    pub sum2: f64,
-    pub edges: usize,
 }
 
 // The i-th of the sorted pairs.
@@ -263,49 +266,54 @@ pub fn pair_at(w: &[u32], vel: &[f32], n: usize, m: usize, i: usize) -> Raw
 }
 
 // A record of one pair.
-pub fn begin(p: Raw, edges: usize) -> Sums
-    ensures { λ r. ⌜ (recordIs r ≡ begun (pairIs p)) × (r .edges ≡ edges) ⌝ }
+pub fn begin(p: Raw) -> EdgeRecord
+    ensures { λ r. ⌜ r ≡ begun (pairIs p) ⌝ }
 {
-    Sums {
+    EdgeRecord {
         one: p.one,
         two: p.two,
         count: 1,
         sum1: p.vel1,
         sum2: p.vel2,
-        edges: edges,
     }
 }
 
 // A record with one more pair.
-pub fn go_on(s: Sums, p: Raw) -> Sums
+pub fn go_on(s: EdgeRecord, p: Raw) -> EdgeRecord
     requires { ⌜ s .count + 1 < 2 ^ 32 ⌝ }
-    ensures { λ r. ⌜ (recordIs r ≡ plus (recordIs s) (pairIs p)) × (r .edges ≡ s .edges) ⌝ }
+    ensures { λ r. ⌜ r ≡ plus s (pairIs p) ⌝ }
 {
-    Sums {
+    EdgeRecord {
         one: s.one,
         two: s.two,
         count: s.count + 1,
         sum1: s.sum1 + p.vel1,
         sum2: s.sum2 + p.vel2,
-        edges: s.edges,
     }
 }
 
 // The difference of a record.
-pub fn difference(s: Sums, wide: f64) -> f64
-    ensures { λ r. ⌜ r ≡ diffOf wide (recordIs s) ⌝ }
+pub fn difference(s: EdgeRecord, wide: f64) -> f64
+    ensures { λ r. ⌜ r ≡ diffOf wide s ⌝ }
 {
     let y = arithmetic::narrow::to_f32((s.sum1 - s.sum2) / wide);
     std::num::f32_to_f64_with_nan(y)
 }
 
-// The record written as an edge.
-pub fn put_edge(w: &mut [u32], d: &mut [f64], t: usize, c: usize, wide: f64, s: Sums)
-    requires { ⌜ (t + 5 * c ≤ length (now w)) × (c ≤ length (now d)) × (s .edges < c) ⌝ }
-    ensures { λ _. ⌜ now (w .exit) ≡ written (now (w .entry)) t c (s .edges) (recordIs s) ⌝ }
-    ensures { λ _. ⌜ now (d .exit) ≡ set (now (d .entry)) (s .edges) (diffOf wide (recordIs s)) ⌝ }
+// The record written as edge e.
+pub fn put_edge(
+    w: &mut [u32],
+    d: &mut [f64],
+    t: usize,
+    c: usize,
+    wide: f64,
+    s: EdgeRecord,
+    e: usize,
+)
+    requires { ⌜ (t + 5 * c ≤ length (now w)) × (c ≤ length (now d)) × (e < c) ⌝ }
+    ensures { λ _. ⌜ now (w .exit) ≡ written (now (w .entry)) t c e s ⌝ }
+    ensures { λ _. ⌜ now (d .exit) ≡ set (now (d .entry)) e (diffOf wide s) ⌝ }
 {
-    let e = s.edges;
     w[t + e] = s.count;
     w[t + 3 * c + e] = s.one;
     w[t + 4 * c + e] = s.two;
@@ -313,8 +321,8 @@ pub fn put_edge(w: &mut [u32], d: &mut [f64], t: usize, c: usize, wide: f64, s: 
 }
 
 // Whether a pair has a record's labels.
-pub fn same_labels(s: Sums, p: Raw) -> bool
-    ensures { λ r. ⌜ r ≡ alike (recordIs s) (pairIs p) ⌝ }
+pub fn same_labels(s: EdgeRecord, p: Raw) -> bool
+    ensures { λ r. ⌜ r ≡ alike s (pairIs p) ⌝ }
 {
     if s.one != p.one {
         return false;
@@ -332,20 +340,26 @@ pub fn gather_one(
     t: usize,
     c: usize,
     wide: f64,
-    s: Sums,
+    s: Gathering,
     i: usize,
-) -> Sums
+) -> Gathering
     requires { ⌜ Ready (now w) (now vel) n m ⌝ }
     requires { ⌜ Slot (now w) (now d) n m t c (s .edges) ⌝ }
-    requires { ⌜ (i < m) × (s .count + 1 < 2 ^ 32) ⌝ }
+    requires { ⌜ (i < m) × (s .«record» .count + 1 < 2 ^ 32) ⌝ }
     ensures { λ r. ⌜ Turned wide t c (pairAt (now (w .entry)) (now (vel .entry)) n i) s r (now (w .entry)) (now (w .exit)) (now (d .entry)) (now (d .exit)) ⌝ }
 {
     let p = pair_at(w, vel, n, m, i);
-    if same_labels(s, p) {
-        return go_on(s, p);
+    if same_labels(s.record, p) {
+        return Gathering {
+            record: go_on(s.record, p),
+            edges: s.edges,
+        };
     }
-    put_edge(w, d, t, c, wide, s);
-    begin(p, s.edges + 1)
+    put_edge(w, d, t, c, wide, s.record, s.edges);
+    Gathering {
+        record: begin(p),
+        edges: s.edges + 1,
+    }
 }
 
 // The sorted pairs gathered into edges. Gives how many.
@@ -366,25 +380,46 @@ pub fn gather(
         return 0;
     }
     let p = pair_at(w, vel, n, m, 0);
-    let mut s = begin(p, 0);
+    let mut s = Gathering {
+        record: begin(p),
+        edges: 0,
+    };
     let mut i = 1;
     while i < m {
         s = gather_one(w, d, vel, n, m, t, c, wide, s, i);
         i += 1;
     }
-    put_edge(w, d, t, c, wide, s);
+    put_edge(w, d, t, c, wide, s.record, s.edges);
     s.edges + 1
 }
 
-// One more than e where pair q begins a run after pair p, else e.
-fn next_run(p: Raw, q: Raw, e: usize) -> usize
-    requires { ⌜ e + 1 < 2 ^ 32 ⌝ }
-    ensures { λ r. ⌜ r ≡ cond (alike (begun (pairIs p)) (pairIs q)) e (e + 1) ⌝ }
+// The labels of the i-th of the sorted pairs.
+fn labels_at(w: &[u32], n: usize, m: usize, i: usize) -> Labels
+    requires { ⌜ Legible (now w) n m ⌝ }
+    requires { ⌜ i < m ⌝ }
+    ensures { λ r. ⌜ LabelsAt (now (w .entry)) n i r ⌝ }
 {
-    if same_labels(begin(p, 0), q) {
-        return e;
+    let x = w[9 * n + i] as usize;
+    let g = w[n + x] as usize;
+    let h = w[5 * n + x] as usize;
+    Labels {
+        one: w[g],
+        two: w[h],
     }
-    e + 1
+}
+
+// One more than e where labels q begin a run after labels p, else e.
+fn next_run(p: Labels, q: Labels, e: usize) -> usize
+    requires { ⌜ e + 1 < 2 ^ 32 ⌝ }
+    ensures { λ r. ⌜ r ≡ cond (eqb (p .one) (q .one) && eqb (p .two) (q .two)) e (e + 1) ⌝ }
+{
+    if p.one != q.one {
+        return e + 1;
+    }
+    if p.two != q.two {
+        return e + 1;
+    }
+    e
 }
 
 // How many runs of equal labels the sorted pairs have.
@@ -395,11 +430,11 @@ pub fn count_runs(w: &[u32], vel: &[f32], n: usize, m: usize) -> usize
     if m == 0 {
         return 0;
     }
-    let mut p = pair_at(w, vel, n, m, 0);
+    let mut p = labels_at(w, n, m, 0);
     let mut e = 1;
     let mut i = 1;
     while i < m {
-        let q = pair_at(w, vel, n, m, i);
+        let q = labels_at(w, n, m, i);
         e = next_run(p, q, e);
         p = q;
         i += 1;

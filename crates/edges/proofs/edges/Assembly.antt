@@ -29,7 +29,7 @@ use Rattle.edges.proofs.edges.PairTurn.{label-at}
 use Rattle.edges.proofs.edges.Sorting.{blank, two-passes, used-runs}
 use Rattle.edges.proofs.edges.RunCount.{runs-few}
 use Rattle.edges.proofs.edges.Weights.{weights}
-use Rattle.edges.proofs.edges.Gathering.{tables-labels}
+use Rattle.edges.proofs.edges.GatherLaws.{tables-labels}
 use Rattle.edges.specs.declared.edges.EdgeRecord.{EdgeRecord}
 
 -- ---- what holds of each

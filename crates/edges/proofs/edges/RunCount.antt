@@ -6,12 +6,12 @@ use mathlib.Core.Bool.{Bool, true, false, cond, _&&_}
 use mathlib.Core.List.{List, [], _∷_}
 use lib.Dec.{eqb}
 use lib.ListN.{length}
-use lib.Ieee.{Float}
+use lib.Ieee.{Float, nan}
 use Rattle.edges.specs.Edges.{Pair, begun, plus}
 use Rattle.edges.specs.Order.{alike, runsFrom, runs}
 use Rattle.edges.specs.declared.edges.EdgeRecord.{EdgeRecord}
 use Rattle.edges.specs.Gather.{pairAt, later}
-use Rattle.edges.proofs.edges.Gathering.{later-cons, later-end}
+use Rattle.edges.proofs.edges.GatherLaws.{later-cons, later-end}
 use borrow.Author.Tests.{eqb-true}
 
 -- records of the same labels begin equally many runs
@@ -54,6 +54,19 @@ run-more p q l e = go (alike (begun p) q) refl
     go true h = omega (arith, same h)
     go false h = omega arith
 
+-- pairs of the same labels go on with equally many runs
+head-labels : (r : EdgeRecord) (p q : Pair) (l : List Pair) → p .one ≡ q .one → p .two ≡ q .two → length (runsFrom r (p ∷ l)) ≡ length (runsFrom r (q ∷ l))
+unfolding runsFrom
+head-labels r p q l a b = rw same (go (alike r q) (runs-labels (plus r p) (plus r q) l (unfold plus in refl) (unfold plus in refl)) (runs-labels (begun p) (begun q) l (unfold begun in a) (unfold begun in b)))
+  where
+    same : alike r p ≡ alike r q
+    same = unfold alike in ap (λ (x : ℕ). eqb (r .one) x && eqb (r .two) (p .two)) a ∙ ap (λ (x : ℕ). eqb (r .one) (q .one) && eqb (r .two) x) b
+
+    go : (t : Bool) → length (runsFrom (plus r p) l) ≡ length (runsFrom (plus r q) l) → length (runsFrom (begun p) l) ≡ length (runsFrom (begun q) l)
+        → length (cond t (runsFrom (plus r p) l) (r ∷ runsFrom (begun p) l)) ≡ length (cond t (runsFrom (plus r q) l) (r ∷ runsFrom (begun q) l))
+    go true x y = x
+    go false x y = ap suc y
+
 -- there are no more runs than pairs
 pub from-few : (r : EdgeRecord) (l : List Pair) → length (runsFrom r l) ≤ suc (length l)
 unfolding runsFrom
@@ -69,19 +82,23 @@ unfolding runs
 runs-few [] = omega arith
 runs-few (p ∷ ps) = from-few (begun p) ps
 
--- ---- the count before pair i, P being the pair before it
+-- ---- the count before pair i, a and b being the labels of the pair before it
 
-pub record Counting (w : List ℕ) (vel : List Float) (n m : ℕ) (P : Pair) (e i : ℕ) : Type 0 where
-  pub left : e + length (runsFrom (begun P) (later w vel n m i)) ≡ length (runs (later w vel n m 0)) + 1
+-- a pair of these labels
+abbrev pub labelled : ℕ → ℕ → Pair
+labelled a b = record { one = a; two = b; vel1 = nan; vel2 = nan }
+
+pub record Counting (w : List ℕ) (vel : List Float) (n m a b e i : ℕ) : Type 0 where
+  pub left : e + length (runsFrom (begun (labelled a b)) (later w vel n m i)) ≡ length (runs (later w vel n m 0)) + 1
   pub few : e ≤ i
   pub most : i ≤ m
 
 module _ (w : List ℕ) (vel : List Float) (n m : ℕ) where
-  pub count-begin : (P : Pair) → 0 < m → P ≡ pairAt w vel n 0 → Counting w vel n m P 1 1
+  pub count-begin : (a b : ℕ) → 0 < m → a ≡ pairAt w vel n 0 .one → b ≡ pairAt w vel n 0 .two → Counting w vel n m a b 1 1
   unfolding runs
-  count-begin P h e = record {
+  count-begin a b h x y = record {
     left =
-        ap (λ (x : Pair). 1 + length (runsFrom (begun x) (later w vel n m 1))) e
+        ap (λ (x : ℕ). 1 + x) (runs-labels (begun (labelled a b)) (begun (pairAt w vel n 0)) (later w vel n m 1) (unfold begun in x) (unfold begun in y))
         ∙ (let t : length (runs (later w vel n m 0)) ≡ length (runsFrom (begun (pairAt w vel n 0)) (later w vel n m 1)) = ap (λ (l : List Pair). length (runs l)) (later-cons w vel n m 0 h) in omega (arith, t));
     few = omega arith;
     most = h;
@@ -91,22 +108,24 @@ module _ (w : List ℕ) (vel : List Float) (n m : ℕ) where
   cond-few true e i h = omega arith
   cond-few false e i h = omega arith
 
-  pub count-on : (P Q : Pair) (e r i : ℕ) → Counting w vel n m P e i → i < m → Q ≡ pairAt w vel n i → r ≡ cond (alike (begun P) Q) e (e + 1) → Counting w vel n m Q r (i + 1)
-  count-on P Q e r i c h q k = record {
-    left =
-        ap (λ (x : ℕ). x + length (runsFrom (begun Q) (later w vel n m (i + 1)))) k
-        ∙ run-more P Q (later w vel n m (i + 1)) e
-        ∙ ap (λ (x : Pair). e + length (runsFrom (begun P) (x ∷ later w vel n m (i + 1)))) q
-        ∙ ap (λ (l : List Pair). e + length (runsFrom (begun P) l)) (sym (later-cons w vel n m i h))
-        ∙ c .left;
-    few = omega (arith, k, cond-few (alike (begun P) Q) e i (c .few));
-    most = omega arith;
-  }
+  pub count-on : (a b c d e r i : ℕ) → Counting w vel n m a b e i → i < m → c ≡ pairAt w vel n i .one → d ≡ pairAt w vel n i .two → r ≡ cond (eqb a c && eqb b d) e (e + 1) → Counting w vel n m c d r (i + 1)
+  count-on a b c d e r i k h x y z =
+      let z′ : r ≡ cond (alike (begun (labelled a b)) (labelled c d)) e (e + 1) = z ∙ (unfold alike begun in refl) in
+      record {
+        left =
+            ap (λ (x : ℕ). x + length (runsFrom (begun (labelled c d)) (later w vel n m (i + 1)))) z′
+            ∙ run-more (labelled a b) (labelled c d) (later w vel n m (i + 1)) e
+            ∙ ap (λ (x : ℕ). e + x) (head-labels (begun (labelled a b)) (labelled c d) (pairAt w vel n i) (later w vel n m (i + 1)) x y)
+            ∙ ap (λ (l : List Pair). e + length (runsFrom (begun (labelled a b)) l)) (sym (later-cons w vel n m i h))
+            ∙ k .left;
+        few = omega (arith, z, cond-few (eqb a c && eqb b d) e i (k .few));
+        most = omega arith;
+      }
 
-  pub count-end : (P : Pair) (e i : ℕ) → Counting w vel n m P e i → m ≤ i → e ≡ length (runs (later w vel n m 0))
+  pub count-end : (a b e i : ℕ) → Counting w vel n m a b e i → m ≤ i → e ≡ length (runs (later w vel n m 0))
   unfolding runsFrom
-  count-end P e i c h =
-      let t : length (runsFrom (begun P) (later w vel n m i)) ≡ 1 = ap (λ (l : List Pair). length (runsFrom (begun P) l)) (later-end w vel n m i h) in
+  count-end a b e i c h =
+      let t : length (runsFrom (begun (labelled a b)) (later w vel n m i)) ≡ 1 = ap (λ (l : List Pair). length (runsFrom (begun (labelled a b)) l)) (later-end w vel n m i h) in
       omega (arith, t, c .left)
 
   pub count-none : m ≡ 0 → 0 ≡ length (runs (later w vel n m 0))

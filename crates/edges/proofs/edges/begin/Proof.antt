@@ -7,7 +7,7 @@ use Rattle.edges.proofs.edges.begin.Tie as tie
 
 returns : tie.Need-returns
 unfolding begun
-returns c = (refl, refl)
+returns c = refl
 
 pub begin-spec : {M : Type 1} → statement M
 begin-spec = tie.close (tie.spec returns)

@@ -1,7 +1,7 @@
 -- `edges::edges::gather` meets its contract. Assumes nothing.
 use borrow.Author.Needs.{needs}
 use native.Mathlib.Omega.{arith}
-use mathlib.Core.Path.{ap, _∙_}
+use mathlib.Core.Path.{refl, ap, _∙_}
 use Prim.Native.Nat.{_-_, _≤_}
 use Rattle.edges.proofs.edges.Going.{lw, ld}
 use Rattle.edges.specs.Edges.{begun}
@@ -27,7 +27,7 @@ begin-requires c κs = search needs
 loop-holds : tie.Need-loop-holds Inv-loop μ-loop
 loop-holds c =
     let i = c .before .before .before .if1 in
-    let a = c .before .before .before .before .before .before .before .args in (omega (arith, i .left), going-begin (a .wide) (a .w .now) (a .d .now) (a .vel .now) (a .n) (a .m) (a .t) (a .c) (c .before .before .before .before .before .before .before .pre) (c .begin .result) (omega (arith, i .left)) (c .begin .ensures .0 ∙ ap begun (c .before .pair-at .ensures)) (c .begin .ensures .1))
+    let a = c .before .before .before .before .before .before .before .args in (omega (arith, i .left), going-begin (a .wide) (a .w .now) (a .d .now) (a .vel .now) (a .n) (a .m) (a .t) (a .c) (c .before .before .before .before .before .before .before .pre) (record { «record» = c .begin .result; edges = 0 }) (omega (arith, i .left)) (c .begin .ensures ∙ ap begun (c .before .pair-at .ensures)) refl)
 
 gather-one-requires : tie.Need-gather-one-requires Inv-loop μ-loop
 gather-one-requires c κs =

@@ -1,5 +1,7 @@
 -- `edges::edges::gather_one` meets its contract. Assumes nothing.
-use Prim.Native.Nat.{_-_}
+use native.Mathlib.Omega.{arith}
+use mathlib.Core.Path.{refl}
+use Prim.Native.Nat.{_+_, _-_}
 use borrow.Author.Needs.{needs}
 use Rattle.edges.proofs.edges.Going.{turned-on, turned-off}
 use Rattle.edges.specs.Gather.{pairAt}
@@ -22,13 +24,13 @@ returns : tie.Need-returns
 returns c =
     let p = c .before .before .before .pair-at in
     let s′ = c .before .before .same-labels in
-    let a = c .before .before .before .before .before .before .before .before .args in turned-on (a .wide) (a .t) (a .c) (pairAt (a .w .now) (a .vel .now) (a .n) (a .i)) (a .s) (c .go-on .result) (p .result) (s′ .result) (p .ensures) (s′ .ensures) (c .before .if1 .taken) (c .go-on .ensures .0) (c .go-on .ensures .1) (a .w .now) (a .d .now)
+    let a = c .before .before .before .before .before .before .before .before .args in turned-on (a .wide) (a .t) (a .c) (pairAt (a .w .now) (a .vel .now) (a .n) (a .i)) (a .s) (record { «record» = c .go-on .result; edges = a .s .edges }) (p .result) (s′ .result) (p .ensures) (s′ .ensures) (c .before .if1 .taken) (c .go-on .ensures) refl (a .w .now) (a .d .now)
 
 put-edge-requires : tie.Need-put-edge-requires
 put-edge-requires c κs = search needs
 
-add-begin : tie.Need-add-begin
-add-begin c = search needs
+add-t22 : tie.Need-add-t22
+add-t22 c = let z = c .before .before .before .before .before .before .before .before .before .before .before .before .before .before .before .before in omega (arith, c .struct-known .given, z .pre .1 .0 .place, z .fits .c)
 
 begin-requires : tie.Need-begin-requires
 begin-requires c κs = search needs
@@ -44,7 +46,7 @@ returns-2 c =
     let p = c .before .before .before .before .before .before .put-edge in
     let p′ = c .before .before .before .before .before .before .before .before .before .before .before .pair-at in
     let s′ = c .before .before .before .before .before .before .before .before .before .before .same-labels in
-    let a = c .before .before .before .before .before .before .before .before .before .before .before .before .before .before .before .before .args in turned-off (a .wide) (a .t) (a .c) (pairAt (a .w .now) (a .vel .now) (a .n) (a .i)) (a .s) (c .begin .result) (p′ .result) (s′ .result) (p′ .ensures) (s′ .ensures) (c .before .before .before .before .before .before .before .before .before .if1 .left) (c .begin .ensures .0) (c .begin .ensures .1) (a .w .now) (p .last .0) (a .d .now) (p .last .1 .0) (p .ensures .0) (p .ensures .1)
+    let a = c .before .before .before .before .before .before .before .before .before .before .before .before .before .before .before .before .args in turned-off (a .wide) (a .t) (a .c) (pairAt (a .w .now) (a .vel .now) (a .n) (a .i)) (a .s) (record { «record» = c .before .begin .result; edges = a .s .edges + 1 }) (p′ .result) (s′ .result) (p′ .ensures) (s′ .ensures) (c .before .before .before .before .before .before .before .before .before .if1 .left) (c .before .begin .ensures) refl (a .w .now) (p .last .0) (a .d .now) (p .last .1 .0) (p .ensures .0) (p .ensures .1)
 
 pub gather-one-spec : {M : Type 1} → statement M
 gather-one-spec =
@@ -56,8 +58,8 @@ gather-one-spec =
     same-length
     returns
     put-edge-requires
-    add-begin
     begin-requires
+    add-t22
     same-length-2
     same-length-3
     returns-2)

@@ -15,7 +15,7 @@ returns : tie.Need-returns
 unfolding plus
 returns c =
     let a = c .before .before .before .before .before .args in
-    let s = a .s in let p = a .p in let e : s .count + 1 ≡ suc (s .count) = omega arith in ((λ j. record { one = s .one; two = s .two; count = e j; sum1 = add binary64 (s .sum1) (p .vel1); sum2 = add binary64 (s .sum2) (p .vel2) }), refl)
+    let s = a .s in let p = a .p in let e : s .count + 1 ≡ suc (s .count) = omega arith in λ j. record { one = s .one; two = s .two; count = e j; sum1 = add binary64 (s .sum1) (p .vel1); sum2 = add binary64 (s .sum2) (p .vel2) }
 
 pub go-on-spec : {M : Type 1} → statement M
 go-on-spec = tie.close (tie.spec add-t3 returns)

@@ -1,33 +1,25 @@
 -- `edges::edges::next_run` meets its contract. Assumes nothing.
-use mathlib.Core.Path.{sym, ap, _∙_}
-use Prim.Native.Nat.{_+_, _-_}
+use mathlib.Core.Path.{refl}
+use Prim.Native.Nat.{_-_}
 use borrow.Author.Needs.{needs}
-use mathlib.Core.Bool.{Bool, cond}
-use Rattle.edges.specs.declared.edges.EdgeRecord.{EdgeRecord}
-use Rattle.edges.specs.Gather.{pairIs}
-use Rattle.edges.specs.Order.{alike}
+use borrow.Author.Tests.{ne-eqb, eq-eqb}
 use Rattle.edges.proofs.edges.next_run.Statement.{statement}
 use Rattle.edges.proofs.edges.next_run.Tie as tie
-
-begin-requires : tie.Need-begin-requires
-begin-requires c κs = search needs
-
-same-labels-requires : tie.Need-same-labels-requires
-same-labels-requires c κs = search needs
-
-returns : tie.Need-returns
-returns c =
-    let a = c .before .before .before .args in
-    sym (ap (λ (b : Bool). cond b (a .e) (a .e + 1)) (ap (λ (r : EdgeRecord). alike r (pairIs (a .q))) (sym (c .before .before .begin .ensures .0)) ∙ sym (c .before .same-labels .ensures) ∙ c .if1 .taken))
 
 add-result : tie.Need-add-result
 add-result c = search needs
 
+returns : tie.Need-returns
+returns c = let a = c .before .before .before .args in rw (ne-eqb (a .p .one) (a .q .one) (c .if1 .taken)) refl
+
+add-result-2 : tie.Need-add-result-2
+add-result-2 c = search needs
+
 returns-2 : tie.Need-returns-2
-returns-2 c =
-    let a = c .before .before .before .args in
-    sym (ap (λ (b : Bool). cond b (a .e) (a .e + 1)) (ap (λ (r : EdgeRecord). alike r (pairIs (a .q))) (sym (c .before .before .begin .ensures .0)) ∙ sym (c .before .same-labels .ensures) ∙ c .if1 .left))
+returns-2 c = let a = c .before .before .before .before .before .before .args in rw (eq-eqb (a .p .one) (a .q .one) (c .before .before .before .if1 .left), ne-eqb (a .p .two) (a .q .two) (c .if2 .taken)) refl
+
+returns-3 : tie.Need-returns-3
+returns-3 c = let a = c .before .before .before .before .before .before .args in rw (eq-eqb (a .p .one) (a .q .one) (c .before .before .before .if1 .left), eq-eqb (a .p .two) (a .q .two) (c .if2 .left)) refl
 
 pub next-run-spec : {M : Type 1} → statement M
-next-run-spec =
-    tie.close (tie.spec begin-requires same-labels-requires returns add-result returns-2)
+next-run-spec = tie.close (tie.spec add-result returns add-result-2 returns-2 returns-3)

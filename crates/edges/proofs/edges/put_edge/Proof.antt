@@ -64,7 +64,7 @@ same-length-2 c = search needs
 
 returns : tie.Need-returns
 unfolding written
-returns c = (refl, ap (set (c .before .before .before .args .d .now) (c .before .before .before .args .s .edges)) (c .difference .ensures))
+returns c = (refl, ap (set (c .before .before .before .args .d .now) (c .before .before .before .args .e)) (c .difference .ensures))
 
 pub put-edge-spec : {M : Type 1} → statement M
 put-edge-spec =

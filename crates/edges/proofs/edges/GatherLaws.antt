@@ -54,6 +54,14 @@ is-pair w vel n m i r h a b v u ea eb ev eu =
     let lb : b ≡ getD (seg w 0 n) (getD w (5 * n + getD w (9 * n + i) 0) 0) 0 = eb ∙ sym (label-at w n (getD w (5 * n + getD w (9 * n + i) 0) 0) (f .h-lt)) in
     λ j. record { one = la j; two = lb j; vel1 = ev j; vel2 = eu j }
 
+-- its labels, whatever the velocities are
+pub are-labels : (w : List ℕ) (vel : List Float) (n m i : ℕ) → Ready w vel n m → i < m → (v : List Float)
+    → (getD w (getD w (n + getD w (9 * n + i) 0) 0) 0 ≡ pairAt w v n i .one) × (getD w (getD w (5 * n + getD w (9 * n + i) 0) 0) 0 ≡ pairAt w v n i .two)
+unfolding pairAt pairOf
+are-labels w vel n m i r h v =
+    let f : Found w vel n m i = found w vel n m i r h in
+    (sym (label-at w n (getD w (n + getD w (9 * n + i) 0) 0) (f .g-lt)), sym (label-at w n (getD w (5 * n + getD w (9 * n + i) 0) 0) (f .h-lt)))
+
 -- ---- tables
 
 module _ {A : Type 0} where
