@@ -5,3 +5,6 @@ pub mod Own
 pub mod SimpleLaws
 pub mod Choice
 pub mod EdgesEcho
+pub mod FewRegions
+pub mod LimitLaws
+pub mod FindLaws

@@ -8,4 +8,5 @@ pub mod TurnIs
 pub mod Popped
 pub mod Begin
 pub mod Reduce
+pub mod Find
 pub mod Evaluating

@@ -34,11 +34,15 @@ pub record Reduces (f : Frame) (w : List ℕ) (d vel : List Float) (n k : ℕ) :
   pub words : 96 * n + 64 ≤ length w
   pub floats : 16 * n + 16 ≤ length d
 
--- what is left, t being the network: a refusal by question 9, or the number of merges, with sizes and counts in their places
+-- labels, sizes and, where question 9 gets a yes, counts in their tables, t being the network of k regions with labels L
+pub record Tables (t : State) (n k : ℕ) (L v : List ℕ) : Type 0 where
+  pub counts : goodBy t ≡ true → (l : ℕ) → l ≤ k → unbias (getD v (countsAt n k + l) 0) ≡ countOf (replay t (merges t) .regions) l
+  pub most : goodBy t ≡ true → (l : ℕ) → l ≤ k → getD v (countsAt n k + l) 0 ≤ 2000
+  pub sizes : seg v (sizesAt n) (k + 1) ≡ tabulate (k + 1) (sizeIn L)
+  pub labels : seg v 0 n ≡ L
+
+-- what is left, t being the network: a refusal by question 9, or the number of merges, and the tables
 pub record Reduced (t : State) (n k : ℕ) (w v : List ℕ) (r : Ran) : Type 0 where
   pub refused : goodBy t ≡ false → r ≡ Denied
   pub settled : goodBy t ≡ true → r ≡ Settled (length (merges t))
-  pub counts : goodBy t ≡ true → (l : ℕ) → l ≤ k → unbias (getD v (countsAt n k + l) 0) ≡ countOf (replay t (merges t) .regions) l
-  pub most : goodBy t ≡ true → (l : ℕ) → l ≤ k → getD v (countsAt n k + l) 0 ≤ 2000
-  pub sizes : seg v (sizesAt n) (k + 1) ≡ tabulate (k + 1) (sizeIn (seg w 0 n))
-  pub labels : seg v 0 n ≡ seg w 0 n
+  pub tables : Tables t n k (seg w 0 n) v

@@ -83,7 +83,7 @@ module _ (f : Frame) (w v : List ℕ) (d vel : List Float) (mask : List ℕ) (n 
 
   size-at : (l : ℕ) → l ≤ k → sizeAt v n l ≡ sizeIn (seg w 0 n) l
   unfolding sizeAt
-  size-at l h = sym (getD-seg v (sizesAt n) (k + 1) l 0 (omega arith)) ∙ ap (λ (x : List ℕ). getD x l 0) (R .sizes) ∙ tab-at (sizeIn (seg w 0 n)) (k + 1) l 0 (omega arith)
+  size-at l h = sym (getD-seg v (sizesAt n) (k + 1) l 0 (omega arith)) ∙ ap (λ (x : List ℕ). getD x l 0) (R .tables .sizes) ∙ tab-at (sizeIn (seg w 0 n)) (k + 1) l 0 (omega arith)
 
   sizes-sum : sumFrom (sizeAt v n) 1 k ≡ sumFrom (sizeIn (seg w 0 n)) 1 k
   sizes-sum = sum-same (sizeAt v n) (sizeIn (seg w 0 n)) 1 k (λ j a b. size-at j (omega arith))
@@ -95,7 +95,7 @@ module _ (f : Frame) (w v : List ℕ) (d vel : List Float) (mask : List ℕ) (n 
   label-at : (g : ℕ) → g < n → getD v g 0 ≡ getD (seg w 0 n) g 0
   label-at g h =
       let z : g ≡ 0 + g = omega arith in
-      ap (λ (i : ℕ). getD v i 0) z ∙ sym (getD-seg v 0 n g 0 h) ∙ ap (λ (x : List ℕ). getD x g 0) (R .labels)
+      ap (λ (i : ℕ). getD v i 0) z ∙ sym (getD-seg v 0 n g 0 h) ∙ ap (λ (x : List ℕ). getD x g 0) (R .tables .labels)
 
   label-most : (g : ℕ) → g < n → getD v g 0 ≤ k
   label-most g h =
@@ -107,7 +107,7 @@ module _ (f : Frame) (w v : List ℕ) (d vel : List Float) (mask : List ℕ) (n 
     tabled = record {
       room = omega (arith, q .reduces .few, q .reduces .words, same);
       few = omega (arith, sizes-sum, sizes-few (seg w 0 n) 1 k, length-seg w 0 n (omega (arith, q .reduces .words)), q .reduces .small);
-      most = R .most g;
+      most = R .tables .most g;
     };
     masks = q .masks;
     counts = q .counts;
@@ -124,7 +124,7 @@ module _ (f : Frame) (w v : List ℕ) (d vel : List Float) (mask : List ℕ) (n 
         let C : ℕ → ℕ = λ l. getD v (countsAt n k + l) 0 in
         let es = used k (pairs (shape f) (seg w 0 n) vel) in
         weighed-is (replay t (merges t) .regions) k 1 S C (unfold networkBy in last-labels (folded nyq) es k S (merges t)) (unfold networkBy in last-sizes (folded nyq) es k S (merges t))
-        (λ l a b. sym (R .counts good l (omega arith)))
+        (λ l a b. sym (R .tables .counts good l (omega arith)))
         ∙ ap (λ (x : ℕ). subℕ x (1000 * sumFrom S 1 k)) (sym held-sum) ∙ ap (λ (x : ℕ). subℕ (sumFrom (heldAt v n k) 1 k) (1000 * x)) (sym sizes-sum)
 
     last-gates : gatesOf (replay t (merges t) .regions) ≡ sumFrom (sizeAt v n) 1 k
@@ -146,7 +146,7 @@ module _ (f : Frame) (w v : List ℕ) (d vel : List Float) (mask : List ℕ) (n 
         let off : ℤ = offsetOf (framed f nyq centred vel mask) (final t) in
         ap (λ (z : ℤ). tabulate n (λ g. gateCount z (getD mask g 0) (unbias (getD v (countsAt n k + getD v g 0) 0)))) offset-is
         ∙ tab-same (λ g. gateCount off (getD mask g 0) (unbias (getD v (countsAt n k + getD v g 0) 0))) (λ g. gateCount off (getD mask g 0) (countOf (replay t (merges t) .regions) (getD (seg w 0 n) g 0))) n
-        (λ g h. ap (gateCount off (getD mask g 0)) (R .counts good (getD v g 0) (label-most g h) ∙ ap (countOf (replay t (merges t) .regions)) (label-at g h)))
+        (λ g h. ap (gateCount off (getD mask g 0)) (R .tables .counts good (getD v g 0) (label-most g h) ∙ ap (countOf (replay t (merges t) .regions)) (label-at g h)))
         ∙ ap (λ (m : ℕ). tabulate m (λ g. gateCount off (getD mask g 0) (countOf (replay t (merges t) .regions) (getD (seg w 0 n) g 0)))) (sym (q .masks))
 
     pub merged-good : (cs : List ℤ) (p : List ℕ) → record { number = 0; memory = lent (countsBy v n k mask centred) (k ∷ length (merges (networkBy (folded nyq) (shape f) k (seg w 0 n) vel)) ∷ []) } ≡ merged f w vel mask n k nyq centred cs p

@@ -183,16 +183,18 @@ module _ (f : Frame) (u : List ℕ) (d vel : List Float) (n k : ℕ) (wide : Flo
               reduced = rw net (record {
                 refused = λ g. unfold goodBy in refused wide k e (seg u 0 n) ps (view e (k + 1) (seg v3 (13 * n) c) d1) filled y d2 r A g;
                 settled = λ g. leaves g .settled;
-                counts = λ g l h. ⊎-elim
-                    (λ z. ap (λ (i : ℕ). unbias (getD v6 (countsAt n k + i) 0)) z ∙ ap unbias count-0′ ∙ zero-count ∙ ap (countOf _) (sym z))
-                    (λ z. ap unbias (count-of′ l (omega arith) h) ∙ leaves g .counts l (omega arith) h)
-                    (eq-or-ne l 0);
-                most = λ g l h. ⊎-elim
-                    (λ z. omega (arith, ap (λ (i : ℕ). getD v6 (countsAt n k + i) 0) z, count-0′))
-                    (λ z. omega (arith, count-of′ l (omega arith) h, leaves g .most l h))
-                    (eq-or-ne l 0);
-                sizes = unfold sizesAt in low n (k + 1) (omega arith) ∙ sizes-3;
-                labels = low 0 n (omega arith) ∙ labels-3;
+                tables = record {
+                  counts = λ g l h. ⊎-elim
+                      (λ z. ap (λ (i : ℕ). unbias (getD v6 (countsAt n k + i) 0)) z ∙ ap unbias count-0′ ∙ zero-count ∙ ap (countOf _) (sym z))
+                      (λ z. ap unbias (count-of′ l (omega arith) h) ∙ leaves g .counts l (omega arith) h)
+                      (eq-or-ne l 0);
+                  most = λ g l h. ⊎-elim
+                      (λ z. omega (arith, ap (λ (i : ℕ). getD v6 (countsAt n k + i) 0) z, count-0′))
+                      (λ z. omega (arith, count-of′ l (omega arith) h, leaves g .most l h))
+                      (eq-or-ne l 0);
+                  sizes = unfold sizesAt in low n (k + 1) (omega arith) ∙ sizes-3;
+                  labels = low 0 n (omega arith) ∙ labels-3;
+                };
               })
                 where
                   leaves : goodBy (network wide k e (seg u 0 n) ps (view e (k + 1) (seg v3 (13 * n) c) d1) filled) ≡ true → Left wide k e (seg u 0 n) ps (view e (k + 1) (seg v3 (13 * n) c) d1) filled y d2 r

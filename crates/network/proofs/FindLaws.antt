@@ -1,0 +1,150 @@
+-- From labels to merged regions, over plain values: what each call of finding asks, and what finding leaves. Assumes nothing.
+use Prim.Native.Nat.{ℕ, zero, suc, _+_, _≤_, _<_}
+use native.Mathlib.Omega.{arith}
+use mathlib.Core.Path.{_≡_, refl, sym, ap, _∙_, subst}
+use mathlib.Core.Bool.{true≢false}
+use mathlib.Core.List.{List, []}
+use lib.IntN.{pos}
+use lib.ListN.{length, getD, replicate, length-replicate}
+use lib.Ieee.{Float, binary64, mul, ofBits, ofInt}
+use Rattle.arithmetic.specs.Intervals.{folded}
+use Rattle.arithmetic.specs.Rounding.{real}
+use Rattle.arithmetic.specs.Seg.{seg, put}
+use Rattle.arithmetic.specs.Seq.{tabulate}
+use Rattle.arithmetic.specs.declared.intervals.Plan.{Plan}
+use Rattle.arithmetic.proofs.SeqLaws.{tab-length}
+use Rattle.arithmetic.proofs.SegLaws.{getD-seg, getD-put-in, seg-put-below, seg-put-same, length-put}
+use Rattle.labels.specs.Label.{Found}
+use Rattle.labels.proofs.RegionLaws.{label-at-most, number-at-most}
+use Rattle.memory.specs.Layout.{sizesAt, countsAt}
+use Rattle.merge.specs.Steps.{unbias}
+use Rattle.edges.specs.Edges.{pairs, used}
+use Rattle.edges.specs.Sees.{shape}
+use Rattle.edges.specs.declared.edges.Frame.{Frame}
+use Rattle.network.specs.Network.{sizeIn, merges}
+use Rattle.network.specs.Reduce.{networkBy, Reduces, Reduced, Tables}
+use Rattle.network.specs.Find.{frameOf, limitsBy, regionsBy, networkFor, Labelled, Few, Finds, Leaves}
+use Rattle.network.specs.declared.options.Options.{Options}
+use Rattle.network.specs.declared.network.Ran.{Ran}
+use Rattle.network.specs.declared.network.Ran.the-variants.{Settled, Denied}
+use Rattle.network.specs.declared.find.Finding.{Finding}
+use Rattle.network.specs.declared.find.Finding.the-variants.{Regions, Refused}
+use Rattle.network.proofs.FewRegions.{used-few, no-merges, no-refusal, no-counts}
+
+-- the same value at each place of a part
+replicate-at : (k x i : ℕ) → i < k → getD (replicate k x) i 0 ≡ x
+replicate-at zero x i h = absurd (omega arith)
+replicate-at (suc k) x zero h = refl
+replicate-at (suc k) x (suc i) h = replicate-at k x i (omega arith)
+
+-- 2 × Nyquist as the code has it
+pub width-is : (x : Float) → mul binary64 (ofBits binary64 4611686018427387904) x ≡ folded x
+unfolding folded
+width-is x = ap (λ (y : Float). mul binary64 y x) two-is
+  where
+    two-is : ofBits binary64 4611686018427387904 ≡ real (pos 2)
+    two-is = unfold ofBits real ofInt in refl
+
+-- the answer of finding k regions by the answer of the run
+abbrev pub answered : ℕ → Ran → Finding
+answered k (Settled j) = Regions (record { regions = k; merges = j })
+answered k Denied = Refused
+
+module _ (o : Options) (p : Plan) (vel : List Float) (mask w : List ℕ) (d : List Float) (q : Finds o p vel mask w d) (k : ℕ) (v : List ℕ) (same : length v ≡ length w) (L : Labelled (regionsBy o p vel mask) (length vel) k v) where
+  abbrev F : Found
+  F = regionsBy o p vel mask
+
+  abbrev n : ℕ
+  n = length vel
+
+  -- the regions as the words have them
+  abbrev G : Found
+  G = record { labels = seg v 0 n; number = k }
+
+  found : G ≡ F
+  found = λ i. record { labels = L .labels i; number = L .number i }
+
+  by-found : (u : List ℕ) (r : Finding) → Leaves G (networkFor o G vel) n u r → Leaves F (networkFor o F vel) n u r
+  by-found u r = subst (λ (x : Found). Leaves x (networkFor o x vel) n u r) found
+
+  label-few : (j : ℕ) → j < n → getD v j 0 ≤ k
+  label-few j h =
+      let z : 0 + j ≡ j = omega arith in
+      let e : getD v j 0 ≡ getD (F .labels) j 0 = sym (ap (λ (i : ℕ). getD v i 0) z) ∙ sym (getD-seg v 0 n j 0 h) ∙ ap (λ (l : List ℕ). getD l j 0) (L .labels) in
+      omega (arith, e, L .number, label-at-most (o .gates) vel mask (limitsBy o p) (q .limited .rising) j)
+
+  region-few : k ≤ n
+  region-few = omega (arith, L .number, number-at-most (o .gates) vel mask (limitsBy o p) (q .limited .rising), q .limited .masks)
+
+  -- ---- below two regions
+
+  pub few-ask : k < 2 → Few v n k
+  few-ask h = record { few = h; room = omega (arith, same, q .words); small = q .limited .small; label = label-few }
+
+  module _ (h : k < 2) (u : List ℕ) (e : u ≡ put (put v n (tabulate (k + 1) (sizeIn (seg v 0 n)))) (n + (k + 1)) (replicate (k + 1) 1000)) where
+    ls : length (tabulate (k + 1) (sizeIn (seg v 0 n))) ≡ k + 1
+    ls = tab-length (sizeIn (seg v 0 n)) (k + 1)
+
+    lv : length (put v n (tabulate (k + 1) (sizeIn (seg v 0 n)))) ≡ length w
+    lv = length-put v n (tabulate (k + 1) (sizeIn (seg v 0 n))) ∙ same
+
+    lr : length {A = ℕ} (replicate (k + 1) 1000) ≡ k + 1
+    lr = length-replicate (k + 1) 1000
+
+    no-edges : used k (pairs (shape (frameOf o)) (seg v 0 n) vel) ≡ []
+    no-edges = used-few k (pairs (shape (frameOf o)) (seg v 0 n) vel) h
+
+    count-at : (l : ℕ) → l ≤ k → getD u (countsAt n k + l) 0 ≡ 1000
+    unfolding countsAt
+    count-at l g =
+        ap (λ (x : List ℕ). getD x (n + (k + 1) + l) 0) e
+        ∙ getD-put-in (put v n (tabulate (k + 1) (sizeIn (seg v 0 n)))) (n + (k + 1)) (replicate (k + 1) 1000) l 0 (omega (arith, lr)) (omega (arith, lv, q .words))
+        ∙ replicate-at (k + 1) 1000 l (omega arith)
+
+    no-turn : unbias 1000 ≡ pos 0
+    unfolding unbias
+    no-turn = refl
+
+    low : (a b : ℕ) → a + b ≤ n + (k + 1) → seg u a b ≡ seg (put v n (tabulate (k + 1) (sizeIn (seg v 0 n)))) a b
+    low a b g = ap (λ (x : List ℕ). seg x a b) e ∙ seg-put-below (put v n (tabulate (k + 1) (sizeIn (seg v 0 n)))) (n + (k + 1)) (replicate (k + 1) 1000) a b g
+
+    tables : Tables (networkBy (folded (o .nyquist)) (shape (frameOf o)) k (seg v 0 n) vel) n k (seg v 0 n) u
+    tables = record {
+      counts = λ g l a. ap unbias (count-at l a) ∙ no-turn ∙ sym (no-counts (folded (o .nyquist)) (shape (frameOf o)) k (seg v 0 n) vel no-edges l);
+      most = λ g l a. omega (arith, count-at l a);
+      sizes = unfold sizesAt in low n (k + 1) (omega arith)
+          ∙ ap (seg (put v n (tabulate (k + 1) (sizeIn (seg v 0 n)))) n) (sym ls)
+          ∙ seg-put-same v n (tabulate (k + 1) (sizeIn (seg v 0 n))) (omega (arith, ls, same, q .words));
+      labels = low 0 n (omega arith) ∙ seg-put-below v n (tabulate (k + 1) (sizeIn (seg v 0 n))) 0 n (omega arith);
+    }
+
+    pub few-left : Leaves (regionsBy o p vel mask) (networkFor o (regionsBy o p vel mask) vel) (length vel) u (Regions (record { regions = k; merges = 0 }))
+    few-left =
+        let t = networkBy (folded (o .nyquist)) (shape (frameOf o)) k (seg v 0 n) vel in
+        by-found u (Regions (record { regions = k; merges = 0 })) (record {
+          refused = λ g. absurd (true≢false (sym (no-refusal (folded (o .nyquist)) (shape (frameOf o)) k (seg v 0 n) vel no-edges) ∙ g));
+          settled = λ g. ap (λ (l : List ℕ). Regions (record { regions = k; merges = length l })) (sym (no-merges (folded (o .nyquist)) (shape (frameOf o)) k (seg v 0 n) vel no-edges));
+          tables = tables;
+        })
+
+  -- ---- from two regions on
+
+  pub reduce-asks : 2 ≤ k → (f : Frame) → f ≡ frameOf o → Reduces f v d vel n k
+  reduce-asks h f e = subst (λ (x : Frame). Reduces x v d vel n k) (sym e) (record {
+    whole = q .whole;
+    some = omega (arith, h, region-few);
+    few = region-few;
+    small = q .limited .small;
+    vels = refl;
+    label = label-few;
+    words = omega (arith, same, q .words);
+    floats = q .floats;
+  })
+
+  pub reduced-left : (u : List ℕ) (x : Ran) (f : Frame) (wide : Float) → f ≡ frameOf o → wide ≡ folded (o .nyquist) → Reduced (networkBy wide (shape f) k (seg v 0 n) vel) n k v u x → (r : Finding) → r ≡ answered k x
+      → Leaves (regionsBy o p vel mask) (networkFor o (regionsBy o p vel mask) vel) (length vel) u r
+  reduced-left u x f wide ef ew R r e =
+      let R′ : Reduced (networkBy (folded (o .nyquist)) (shape (frameOf o)) k (seg v 0 n) vel) n k v u x =
+      subst (λ (y : Frame). Reduced (networkBy (folded (o .nyquist)) (shape y) k (seg v 0 n) vel) n k v u x) ef
+      (subst (λ (y : Float). Reduced (networkBy y (shape f) k (seg v 0 n) vel) n k v u x) ew R) in
+      by-found u r (record { refused = λ g. e ∙ ap (answered k) (R′ .refused g); settled = λ g. e ∙ ap (answered k) (R′ .settled g); tables = R′ .tables })

@@ -1,0 +1,34 @@
+-- `network::find::leave_alone` meets its contract. Assumes nothing.
+use native.Mathlib.Omega.{arith}
+use mathlib.Core.Path.{ap, _∙_}
+use mathlib.Core.List.{List}
+use Prim.Native.Nat.{ℕ, _+_}
+use lib.ListN.{replicate}
+use borrow.Author.Needs.{needs}
+use Rattle.arithmetic.specs.Seg.{put}
+use Rattle.network.proofs.find.leave_alone.Statement.{statement}
+use Rattle.network.proofs.find.leave_alone.Tie as tie
+
+add-nodes : tie.Need-add-nodes
+add-nodes c = search needs
+
+count-sizes-requires : tie.Need-count-sizes-requires
+count-sizes-requires c κs = let p = c .before .before .pre in record { above = omega arith; room = omega (arith, p .room); small = omega (arith, p .small); label = λ g h. omega (arith, p .label g h) }
+
+add-fill : tie.Need-add-fill
+add-fill c = search needs
+
+fill-requires : tie.Need-fill-requires
+fill-requires c κs = search needs
+
+same-length : tie.Need-same-length
+same-length c = search needs
+
+returns : tie.Need-returns
+returns c =
+    let a = c .before .before .before .before .before .before .before .before .before .args in
+    c .before .before .fill .ensures ∙ ap (λ (x : List ℕ). put x (a .n + (a .k + 1)) (replicate (a .k + 1) 1000)) (c .before .before .before .before .before .before .count-sizes .ensures)
+
+pub leave-alone-spec : {M : Type 1} → statement M
+leave-alone-spec =
+    tie.close (tie.spec add-nodes count-sizes-requires add-fill fill-requires same-length returns)

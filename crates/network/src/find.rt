@@ -1,0 +1,117 @@
+// Finding: from a sweep's limits to its merged regions. Labels, sizes and counts are left in the work memory; nothing else is written.
+ghost use mathlib.Core.Path.{_≡_};
+ghost use Prim.Native.Nat.{_+_, _≤_};
+ghost use lib.ListN.{length, replicate};
+ghost use Rattle.arithmetic.specs.Asked.{front};
+ghost use Rattle.arithmetic.specs.Intervals.{atLeast0};
+ghost use Rattle.arithmetic.specs.Seg.{seg, put};
+ghost use Rattle.arithmetic.specs.Seq.{tabulate};
+ghost use Rattle.network.specs.Network.{sizeIn};
+ghost use Rattle.network.specs.Find.{limitsBy, regionsBy, networkFor, Planned, Limited, Labelled, Few, Finds, Leaves};
+
+// How many regions there are, and how many merges there were.
+pub struct Run {
+    pub regions: usize,
+    pub merges: usize,
+}
+
+// The regions found and merged, or the refusal by question 9.
+pub enum Finding {
+    Regions(Run),
+    Refused,
+}
+
+// The number of limits as a length.
+fn how_many(number: i64) -> usize
+    ensures { λ r. ⌜ r ≡ atLeast0 number ⌝ }
+{
+    if number > 0 {
+        return number as usize;
+    }
+    0
+}
+
+// The limits of a plan at the front of `out`, and how many they are.
+fn limits(o: crate::options::Options, p: arithmetic::intervals::Plan, out: &mut [f64]) -> usize
+    requires { ⌜ Planned o p ⌝ }
+    requires { ⌜ 10000 ≤ length (now out) ⌝ }
+    ensures { λ r. ⌜ r ≡ atLeast0 (p .number) ⌝ }
+    ensures { λ _. ⌜ now (out .exit) ≡ front (limitsBy o p) (now (out .entry)) ⌝ }
+{
+    arithmetic::intervals::limits(o.nyquist, o.splits, p.add_start, p.add_end, p.number, out);
+    how_many(p.number)
+}
+
+// The label of each gate, at the front of `work`, by the limits of a plan, which are written into `out`. The number of regions.
+fn label_in(
+    out: &mut [f64],
+    o: crate::options::Options,
+    p: arithmetic::intervals::Plan,
+    velocity: &[f32],
+    valid: &[u8],
+    work: &mut [u32],
+) -> u32
+    requires { ⌜ Limited o p (now velocity) (now valid) (length (now work)) ⌝ }
+    requires { ⌜ 10000 ≤ length (now out) ⌝ }
+    ensures { λ r. ⌜ Labelled (regionsBy o p (now (velocity .entry)) (now (valid .entry))) (length (now (velocity .entry))) r (now (work .exit)) ⌝ }
+{
+    let m = limits(o, p, out);
+    let end = 3 * velocity.len() + 64;
+    labels::regions::find_regions(o.gates, velocity, valid, &out[0..m], &mut work[0..end])
+}
+
+// The same, with limits of its own: a sweep of few gates may have more limits than words lent.
+pub fn label(
+    o: crate::options::Options,
+    p: arithmetic::intervals::Plan,
+    velocity: &[f32],
+    valid: &[u8],
+    work: &mut [u32],
+) -> u32
+    requires { ⌜ Limited o p (now velocity) (now valid) (length (now work)) ⌝ }
+    ensures { λ r. ⌜ Labelled (regionsBy o p (now (velocity .entry)) (now (valid .entry))) (length (now (velocity .entry))) r (now (work .exit)) ⌝ }
+{
+    let mut out = [0.0; 10000];
+    label_in(&mut out, o, p, velocity, valid, work)
+}
+
+// Below two regions there is nothing to merge: the sizes, and every count 0, which is 1,000 in its table.
+fn leave_alone(w: &mut [u32], n: usize, k: usize)
+    requires { ⌜ Few (now w) n k ⌝ }
+    ensures { λ _. ⌜ now (w .exit) ≡ put (put (now (w .entry)) n (tabulate (k + 1) (sizeIn (seg (now (w .entry)) 0 n)))) (n + (k + 1)) (replicate (k + 1) 1000) ⌝ }
+{
+    let nodes = k + 1;
+    crate::sizes::count_sizes(w, n, n, nodes);
+    memory::sort::fill(w, n + nodes, nodes, 1000);
+}
+
+// The regions of a sweep by the limits of a plan, merged: labels, sizes and counts lie in the words afterwards.
+pub fn find(
+    o: crate::options::Options,
+    p: arithmetic::intervals::Plan,
+    velocity: &[f32],
+    valid: &[u8],
+    words: &mut [u32],
+    floats: &mut [f64],
+) -> Finding
+    requires { ⌜ Finds o p (now velocity) (now valid) (now words) (now floats) ⌝ }
+    ensures { λ r. ⌜ Leaves (regionsBy o p (now (velocity .entry)) (now (valid .entry))) (networkFor o (regionsBy o p (now (velocity .entry)) (now (valid .entry))) (now (velocity .entry))) (length (now (velocity .entry))) (now (words .exit)) r ⌝ }
+{
+    let n = velocity.len();
+    let k = label(o, p, velocity, valid, words) as usize;
+    if k < 2 {
+        leave_alone(words, n, k);
+        return Finding::Regions(Run {
+            regions: k,
+            merges: 0,
+        });
+    }
+    let f = crate::options::frame(o);
+    match crate::reduce::reduce(words, floats, velocity, f, n, k, 2.0 * (o.nyquist as f64)) {
+        crate::network::Ran::Settled(j) => Finding::Regions(Run {
+            regions: k,
+            merges: j,
+        }),
+        crate::network::Ran::Denied => Finding::Refused,
+    }
+}
