@@ -1,23 +1,21 @@
 -- Demand 3, proved: `merge-lists` and `two-sweeps` are the two statements of Demand3. Assumes nothing.
-use Prim.Native.Nat.{ℕ, _<_}
+use Prim.Native.Nat.{ℕ}
 use native.Mathlib.Omega.{arith}
 use mathlib.Core.Path.{_≡_, refl, sym, ap, _∙_}
 use mathlib.Core.Bool.{Bool, true, false}
-use mathlib.Core.List.{List, [], _∷_}
-use mathlib.Core.Option.{Option, none, some, Option·none-ne-some, Option·some-injective}
-use lib.Dec.{eqb}
+use mathlib.Core.List.{List}
+use mathlib.Core.Option.{Option, none, some}
 use lib.ListN.{length, getD}
 use lib.IntN.{ℤ, pos, _+ℤ_, _-ℤ_, negℤ, +ℤ-assoc, +ℤ-negℤ-cancel}
 use lib.Ieee.{Float}
-use borrow.Author.Tests.{eqb-true}
-use Rattle.arithmetic.proofs.AllLaws.{and-left, and-right}
 use Rattle.sweep.specs.Sweep.{Sweep, Unfolded, unfolded}
-use Rattle.sweep.specs.Checks.{Question, Lent, refused, accepted, gatesIn, inLength, ownLimits, firstNo, asked, asked9, outcome}
+use Rattle.sweep.specs.Checks.{refused, accepted, gatesIn, ownLimits, seven, asked, asked9, outcome}
+use Rattle.sweep.proofs.QuestionLaws.{all-yes}
+use Rattle.sweep.proofs.CheckLaws.{long-are}
 use Rattle.locality.specs.Demand3.{Accepted, Apart, Alike, offset, MergeListsHold, TwoSweepsHold}
 use Rattle.locality.proofs.Echo.{ApartBy}
 use Rattle.locality.proofs.TwoSweeps.{same-counts, same-but-offset}
 use Rattle.locality.proofs.MergeLists.{every-list}
-use Rattle.arithmetic.specs.Seq.{All}
 
 -- a sweep with its own limits
 abbrev own : Sweep → Unfolded
@@ -50,19 +48,9 @@ module _ (s : Sweep) (c : List ℤ) (a : Accepted s c) where
       go true h = cc
       go false h = absurd (unrefused 9 h)
 
-  passed : (q : Question) (qs : List Question) → firstNo (q ∷ qs) ≡ none → (q .yes ≡ true) × (firstNo qs ≡ none)
-  unfolding firstNo
-  passed q qs h = go (q .yes) h
-    where
-      go : (b : Bool) → _≡_ {A = Option ℕ} (elim b [ true ↦ firstNo qs | false ↦ some (q .number) ]) none → (b ≡ true) × (firstNo qs ≡ none)
-      go true h = (refl, h)
-      go false h = absurd (Option·none-ne-some (q .number) (sym h))
-
   accepted-length : length (s .mask) ≡ gatesIn s
-  unfolding asked inLength
-  accepted-length =
-      let w : inLength s (a .lent) ≡ true = passed _ _ (passed _ _ (both .0) .1) .0 in
-      eqb-true (length (s .mask)) (gatesIn s) (and-right (eqb (length (s .vel)) (gatesIn s)) _ (and-left _ (eqb (a .lent .counts) (gatesIn s)) (and-left _ (eqb (a .lent .pair) 2) w)))
+  unfolding asked seven
+  accepted-length = long-are (gatesIn s) (s .vel) (s .mask) _ (all-yes _ _ (all-yes _ _ (both .0) .1) .0) .1
 
 -- ---- the statements
 
@@ -108,19 +96,3 @@ two-sweeps E s t c d y y′ a p q = record {
   on = on E s t c d y y′ a p q;
   one = (offset t -ℤ offset s, apart-by-one E s t c d y y′ a p q);
 }
-
--- ---- the numbers of questions
-
--- a question's number, where all numbers are above 0
-first-number : (qs : List Question) (k : ℕ) → All (λ q. 0 < q .number) qs → firstNo qs ≡ some k → 0 < k
-unfolding firstNo
-first-number [] k t h = absurd (Option·none-ne-some k h)
-first-number (q ∷ qs) k t h = go (q .yes) h (first-number qs k (t .1))
-  where
-    go : (b : Bool) → _≡_ {A = Option ℕ} (elim b [ true ↦ firstNo qs | false ↦ some (q .number) ]) (some k) → (firstNo qs ≡ some k → 0 < k) → 0 < k
-    go true h ih = ih h
-    go false h ih = rw (← (Option·some-injective (q .number) k h)) (t .0)
-
-pub asked-number : (s : Sweep) (l : Lent) (k : ℕ) → asked s l ≡ some k → 0 < k
-unfolding asked
-asked-number s l k h = first-number _ k (omega arith, (omega arith, (omega arith, (omega arith, (omega arith, (omega arith, (omega arith, (omega arith, tt)))))))) h

@@ -9,13 +9,14 @@ use lib.ListN.{length, getD}
 use lib.IntN.{ℤ, pos, _+ℤ_, +ℤ-idr}
 use Rattle.network.specs.Network.{replay}
 use Rattle.sweep.specs.Sweep.{Sweep, Unfolded, unfolded}
-use Rattle.sweep.specs.Checks.{Lent, Outcome, accepted, refused, gatesIn, asked, asked9, outcome, ownLimits}
+use Rattle.sweep.specs.Checks.{Outcome, accepted, refused, gatesIn, asked, asked9, outcome, ownLimits}
 use Rattle.sweep.specs.Call.{Memory, Answer, lengths, clearedFor, ending, call}
 use Rattle.sweep.specs.Entry.{answerOf}
+use Rattle.sweep.proofs.CheckLaws.{asked-none}
 use Rattle.locality.specs.Demand3.{Accepted, Does, first, countAt, uncentred, offset}
 use Rattle.locality.specs.Theorems.{Called, firstMissed, AnswerIs, Kept, RefusalKeeps, Written, CountsAre, Cleared, WorkCleared, EchoCounts, ListGives, EchoLists}
 use Rattle.locality.proofs.GateCounts.{valid-counts, no-offset, same-region}
-use Rattle.locality.proofs.Demand3Laws.{asked-number, merge-lists, two-sweeps}
+use Rattle.locality.proofs.Demand3Laws.{merge-lists, two-sweeps}
 
 module _ (s : Sweep) (m : Memory) where
   -- the sweep by its own limits
@@ -69,14 +70,6 @@ module _ (s : Sweep) (m : Memory) where
   cleared-ends true = (refl, refl)
   cleared-ends false = (refl, refl)
 
--- no question has the number 0
-zero-asked : (s : Sweep) (l : Lent) → answerOf (asked s l) ≡ 0 → asked s l ≡ none
-zero-asked s l h = go (asked s l) refl h
-  where
-    go : (o : Option ℕ) → asked s l ≡ o → answerOf o ≡ 0 → o ≡ none
-    go none e h = refl
-    go (some k) e h = absurd (omega (arith, asked-number s l k e))
-
 pub answer-is : AnswerIs
 unfolding firstMissed
 answer-is s m a c = ap (λ (x : Answer). x .number) (c ∙ call-ends s m) ∙ number-ends s m (asked s (lengths m)) (own s m .good)
@@ -94,7 +87,7 @@ refusal-keeps s m a c h =
 pub counts-are : CountsAre
 counts-are s m a c h =
     let e = c ∙ call-ends s m in
-    let k = written-ends s m (asked s (lengths m)) (own s m .good) (λ w. zero-asked s (lengths m) w) (sym (ap (λ (x : Answer). x .number) e) ∙ h) in
+    let k = written-ends s m (asked s (lengths m)) (own s m .good) (asked-none s (lengths m)) (sym (ap (λ (x : Answer). x .number) e) ∙ h) in
     record { counts = ap (λ (x : Answer). x .memory .counts) e ∙ k .0; pair = ap (λ (x : Answer). x .memory .pair) e ∙ k .1 }
 
 pub work-cleared : WorkCleared
@@ -113,7 +106,7 @@ call-accepts s m a c h =
       regions = own s m .regions;
       merges = length (own s m .merges);
       yes =
-          accepts-ends s m (asked s (lengths m)) (own s m .good) (λ w. zero-asked s (lengths m) w) (sym (ap (λ (x : Answer). x .number) e) ∙ h)
+          accepts-ends s m (asked s (lengths m)) (own s m .good) (asked-none s (lengths m)) (sym (ap (λ (x : Answer). x .number) e) ∙ h)
           ∙ ap (λ (x : Answer). accepted (x .memory .counts) (own s m .regions) (length (own s m .merges))) (sym e);
     }
 

@@ -29,22 +29,19 @@ pub extern "C" fn stage_questions(
     words: usize,
     floats: usize,
 ) -> u32 {
-    sweep::checks::first_missed(
-        rays,
-        gates,
-        nyquist,
-        splits,
-        skip_rays,
-        skip_gates,
-        centred,
-        wrap,
-        velocity,
-        valid,
-        velocity.len(),
-        2,
-        words,
-        floats,
-    )
+    let o = network::options::Options {
+        rays: rays,
+        gates: gates,
+        nyquist: nyquist,
+        splits: splits,
+        skip_between_rays: skip_rays,
+        skip_along_ray: skip_gates,
+        centred: centred,
+        wrap: wrap,
+    };
+    let n = sweep::questions::gates_in(rays, gates);
+    let lent = sweep::questions::room_of(n, velocity.len(), 2, words, floats);
+    sweep::questions::first_missed(o, velocity, valid, lent)
 }
 
 // The least and the greatest valid velocity: 1 where there is one.
@@ -179,8 +176,5 @@ pub extern "C" fn stage_output(
 // All of both work memories zero.
 #[no_mangle]
 pub extern "C" fn stage_clear(work: &mut [u32], floats: &mut [f64]) {
-    let words = work.len();
-    sweep::sweep::clear_words(work, words);
-    let m = floats.len();
-    sweep::sweep::clear_floats(floats, m);
+    sweep::sweep::clear(work, floats);
 }

@@ -1,11 +1,11 @@
--- Questions 1 to 7: the answer at each first no, what a yes to all seven gives, and question 8 after them. Assumes nothing.
+-- Questions 1 to 7: what each yes gives, what a yes to all seven gives, and question 8 after them. Assumes nothing.
 use Prim.Native.Nat.{ℕ, zero, suc, _+_, _*_, _≤_}
 use native.Mathlib.Omega.{arith}
 use native.Mathlib.Nat.{mul-le-mul}
 use mathlib.Core.Path.{_≡_, refl, sym, ap, _∙_}
 use mathlib.Core.Bool.{Bool, true, false, not, _&&_}
 use mathlib.Core.List.{List, [], _∷_}
-use mathlib.Core.Option.{Option, none, some}
+use mathlib.Core.Option.{none, some}
 use lib.Dec.{T, eqb, leb}
 use lib.ListN.{length, getD}
 use lib.IntN.{pos, negsuc}
@@ -17,8 +17,10 @@ use Rattle.arithmetic.specs.Asked.{Asked}
 use Rattle.arithmetic.proofs.Plans.{T-of}
 use Rattle.arithmetic.proofs.AllLaws.{and-left, and-right}
 use Rattle.sweep.specs.Sweep.{Sweep}
-use Rattle.sweep.specs.Checks.{Question, Lent, ask, firstNo, gatesIn, wordsFor, floatsFor, inSize, inLength, inMask, inRoom, inOptions, inSpeed, inLimits, asked}
-use Rattle.sweep.specs.Entry.{askedFirst, answerOf}
+use Rattle.sweep.specs.Checks.{Lent, ask, firstNo, gatesIn, wordsFor, floatsFor, inSize, inLength, inMask, inRoom, inOptions, inSpeed, inLimits, seven, room, sevenOf, asked}
+use Rattle.sweep.specs.declared.questions.Room.{Room}
+use Rattle.sweep.specs.Entry.{answerOf}
+use Rattle.sweep.proofs.QuestionLaws.{orElse, list-after, zero-none, all-yes}
 
 -- what a yes to all seven questions gives
 pub record Passed (s : Sweep) (l : Lent) : Type 0 where
@@ -68,113 +70,46 @@ mask-bytes [] g h = omega arith
 mask-bytes (m ∷ l) zero h = leb-true m 1 (and-left (leb m 1) (all (λ m. leb m 1) l) h)
 mask-bytes (m ∷ l) (suc g) h = mask-bytes l g (and-right (leb m 1) (all (λ m. leb m 1) l) h)
 
--- all four parts of a test that passes
-pub and-four : (a b c d : Bool) → (a && b && c && d) ≡ true → (a ≡ true) × (b ≡ true) × (c ≡ true) × (d ≡ true)
-and-four a b c d h =
-    let abc = and-left (a && b && c) d h in
-    let ab = and-left (a && b) c abc in
-    (and-left a b ab, and-right a b ab, and-right (a && b) c abc, and-right (a && b && c) d h)
+-- all parts of a test that passes
+pub and-three : (a b c : Bool) → (a && b && c) ≡ true → (a ≡ true) × (b ≡ true) × (c ≡ true)
+and-three a b c h = let ab = and-left (a && b) c h in (and-left a b ab, and-right a b ab, and-right (a && b) c h)
 
--- by the code's own question 2, the two slices that a loop reads together are equally long
-pub length-both : {r : Bool} (v m k p n : ℕ) → r ≡ (eqb v n && eqb m n && eqb k n && eqb p 2) → not r ≡ false → m ≡ v
-length-both v m k p n e h =
-    let q = and-four (eqb v n) (eqb m n) (eqb k n) (eqb p 2) (answer-yes e h) in
-    eqb-true m n (q .1) ∙ sym (eqb-true v n (q .0))
+pub and-four : (a b c d : Bool) → (a && b && c && d) ≡ true → (a ≡ true) × (b ≡ true) × (c ≡ true) × (d ≡ true)
+and-four a b c d h = let p = and-three a b c (and-left (a && b && c) d h) in (p .0, p .1, p .2, and-right (a && b && c) d h)
+
+-- question 2's yes
+pub long-are : (n : ℕ) (vs : List Float) (ms : List ℕ) (own : Bool) → inLength n vs ms own ≡ true → (length vs ≡ n) × (length ms ≡ n) × (own ≡ true)
+unfolding inLength
+long-are n vs ms own h = let p = and-three (eqb (length vs) n) (eqb (length ms) n) own h in (eqb-true (length vs) n (p .0), eqb-true (length ms) n (p .1), p .2)
 
 -- the code's own question 6
 pub options-are : (s : Sweep) {r : Bool} → r ≡ (leb 1 (s .splits) && leb (s .splits) 9999 && leb (s .shape .skipRays) 1000 && leb (s .shape .skipGates) 1000 && leb (s .centred) 1 && leb (s .shape .wrap) 1) → r ≡ inOptions s
 unfolding inOptions
 options-are s h = h
 
-module _ (s : Sweep) (l : Lent) where
-  lengths : inLength s l ≡ true
-      → (eqb (length (s .vel)) (s .shape .rays * s .shape .gates) ≡ true) × (eqb (length (s .mask)) (s .shape .rays * s .shape .gates) ≡ true) × (eqb (l .counts) (s .shape .rays * s .shape .gates) ≡ true) × (eqb (l .pair) 2 ≡ true)
-  unfolding inLength gatesIn
-  lengths h =
-      let k = s .shape .rays * s .shape .gates in
-      and-four (eqb (length (s .vel)) k) (eqb (length (s .mask)) k) (eqb (l .counts) k) (eqb (l .pair) 2) h
-
-  pub length-vel : inLength s l ≡ true → length (s .vel) ≡ s .shape .rays * s .shape .gates
-  length-vel h = eqb-true (length (s .vel)) (s .shape .rays * s .shape .gates) (lengths h .0)
-
-  pub length-mask : inLength s l ≡ true → length (s .mask) ≡ s .shape .rays * s .shape .gates
-  length-mask h = eqb-true (length (s .mask)) (s .shape .rays * s .shape .gates) (lengths h .1)
-
-  room-words : inRoom s l ≡ true → 96 * (s .shape .rays * s .shape .gates) + 64 ≤ l .words
+module _ (s : Sweep) (r : Room) where
+  room-words : inRoom (gatesIn s) r ≡ true → 96 * (s .shape .rays * s .shape .gates) + 64 ≤ r .words
   unfolding inRoom gatesIn wordsFor floatsFor
   room-words h =
       let k = s .shape .rays * s .shape .gates in
-      leb-true (96 * k + 64) (l .words) (and-left (leb (96 * k + 64) (l .words)) (leb (16 * k + 16) (l .floats)) h)
+      leb-true (96 * k + 64) (r .words) (and-left (leb (96 * k + 64) (r .words)) (leb (16 * k + 16) (r .floats)) h)
 
-  room-floats : inRoom s l ≡ true → 16 * (s .shape .rays * s .shape .gates) + 16 ≤ l .floats
+  room-floats : inRoom (gatesIn s) r ≡ true → 16 * (s .shape .rays * s .shape .gates) + 16 ≤ r .floats
   unfolding inRoom gatesIn wordsFor floatsFor
   room-floats h =
       let k = s .shape .rays * s .shape .gates in
-      leb-true (16 * k + 16) (l .floats) (and-right (leb (96 * k + 64) (l .words)) (leb (16 * k + 16) (l .floats)) h)
+      leb-true (16 * k + 16) (r .floats) (and-right (leb (96 * k + 64) (r .words)) (leb (16 * k + 16) (r .floats)) h)
 
   -- the code's own questions 2 and 4, n being its product
-  pub length-is : (r : Bool) (n : ℕ) → r ≡ (eqb (length (s .vel)) n && eqb (length (s .mask)) n && eqb (l .counts) n && eqb (l .pair) 2) → n ≡ s .shape .rays * s .shape .gates → r ≡ inLength s l
-  unfolding inLength gatesIn
-  length-is r n h e = h ∙ rw e refl
+  pub length-is : (b : Bool) (n : ℕ) → b ≡ inLength n (s .vel) (s .mask) (r .own) → n ≡ s .shape .rays * s .shape .gates → b ≡ inLength (gatesIn s) (s .vel) (s .mask) (r .own)
+  unfolding gatesIn
+  length-is b n h e = h ∙ ap (λ (k : ℕ). inLength k (s .vel) (s .mask) (r .own)) e
 
-  pub room-is : (r : Bool) (n : ℕ) → r ≡ (leb (wordsFor n) (l .words) && leb (floatsFor n) (l .floats)) → n ≡ s .shape .rays * s .shape .gates → r ≡ inRoom s l
+  pub room-is : (b : Bool) (n : ℕ) → b ≡ (leb (wordsFor n) (r .words) && leb (floatsFor n) (r .floats)) → n ≡ s .shape .rays * s .shape .gates → b ≡ inRoom (gatesIn s) r
   unfolding inRoom gatesIn
-  room-is r n h e = h ∙ rw e refl
-
-  -- ---- the answer at each first no
-
-  pub missed-1 : inSize (s .shape .rays) (s .shape .gates) ≡ false → 1 ≡ answerOf (askedFirst s l)
-  unfolding askedFirst firstNo
-  missed-1 h = rw h refl
-
-  pub missed-2 : inSize (s .shape .rays) (s .shape .gates) ≡ true → inLength s l ≡ false → 2 ≡ answerOf (askedFirst s l)
-  unfolding askedFirst firstNo
-  missed-2 a h = rw (a, h) refl
-
-  module _ (a : inSize (s .shape .rays) (s .shape .gates) ≡ true) (b : inLength s l ≡ true) where
-    pub missed-3 : inMask (s .mask) ≡ false → 3 ≡ answerOf (askedFirst s l)
-    unfolding askedFirst firstNo
-    missed-3 h = rw (a, b, h) refl
-
-    pub missed-4 : inMask (s .mask) ≡ true → inRoom s l ≡ false → 4 ≡ answerOf (askedFirst s l)
-    unfolding askedFirst firstNo
-    missed-4 c h = rw (a, b, c, h) refl
-
-    module _ (c : inMask (s .mask) ≡ true) (d : inRoom s l ≡ true) where
-      pub missed-5 : sized (s .nyquist) ≡ false → 5 ≡ answerOf (askedFirst s l)
-      unfolding askedFirst firstNo
-      missed-5 h = rw (a, b, c, d, h) refl
-
-      pub missed-6 : sized (s .nyquist) ≡ true → inOptions s ≡ false → 6 ≡ answerOf (askedFirst s l)
-      unfolding askedFirst firstNo
-      missed-6 e h = rw (a, b, c, d, e, h) refl
-
-      pub missed-7 : sized (s .nyquist) ≡ true → inOptions s ≡ true → inSpeed (s .vel) (s .mask) ≡ false → 7 ≡ answerOf (askedFirst s l)
-      unfolding askedFirst firstNo
-      missed-7 e f h = rw (a, b, c, d, e, f, h) refl
-
-      pub missed-none : sized (s .nyquist) ≡ true → inOptions s ≡ true → inSpeed (s .vel) (s .mask) ≡ true → 0 ≡ answerOf (askedFirst s l)
-      unfolding askedFirst firstNo
-      missed-none e f h = rw (a, b, c, d, e, f, h) refl
+  room-is b n h e = h ∙ rw e refl
 
 -- ---- a yes to all seven
-
--- where no question gets a no, the first gets a yes, and none of the rest gets a no
-first-yes : (q : Question) (qs : List Question) → firstNo (q ∷ qs) ≡ none → q .yes ≡ true
-unfolding firstNo
-first-yes q qs h = go (q .yes) h
-  where
-    go : (b : Bool) → _≡_ {A = Option ℕ} (elim b [ true ↦ firstNo qs | false ↦ some (q .number) ]) none → b ≡ true
-    go true h = refl
-    go false h = let z : _≡_ {A = ℕ} 0 1 = cc in absurd (omega arith)
-
-rest-yes : (q : Question) (qs : List Question) → firstNo (q ∷ qs) ≡ none → firstNo qs ≡ none
-unfolding firstNo
-rest-yes q qs h = go (q .yes) h
-  where
-    go : (b : Bool) → _≡_ {A = Option ℕ} (elim b [ true ↦ firstNo qs | false ↦ some (q .number) ]) none → firstNo qs ≡ none
-    go true h = h
-    go false h = let z : _≡_ {A = ℕ} 0 1 = cc in absurd (omega arith)
 
 -- question 6's yes
 pub record Options (s : Sweep) : Type 0 where
@@ -218,73 +153,47 @@ unfolding inSpeed
 speeds vs ms h = T-of h
 
 module _ (s : Sweep) (l : Lent) where
-  pub passed : askedFirst s l ≡ none → Passed s l
-  unfolding askedFirst
+  pub passed : firstNo (sevenOf s l) ≡ none → Passed s l
+  unfolding seven room gatesIn
   passed h =
-      let r1 = rest-yes _ _ h in
-      let r2 = rest-yes _ _ r1 in
-      let r3 = rest-yes _ _ r2 in
-      let r4 = rest-yes _ _ r3 in
-      let r5 = rest-yes _ _ r4 in
-      let r6 = rest-yes _ _ r5 in
-      let size = first-yes _ _ h in
-      let long = first-yes _ _ r1 in
-      let room = first-yes _ _ r3 in
-      let o = options s (first-yes _ _ r5) in
+      let q1 = all-yes _ _ h in
+      let q2 = all-yes _ _ (q1 .1) in
+      let q3 = all-yes _ _ (q2 .1) in
+      let q4 = all-yes _ _ (q3 .1) in
+      let q5 = all-yes _ _ (q4 .1) in
+      let q6 = all-yes _ _ (q5 .1) in
+      let q7 = all-yes _ _ (q6 .1) in
+      let n = s .shape .rays * s .shape .gates in
+      let long = long-are n (s .vel) (s .mask) (eqb (l .counts) n && eqb (l .pair) 2) (q2 .0) in
+      let o = options s (q6 .0) in
       record {
-        rays = size-rays (s .shape .rays) (s .shape .gates) size;
-        gates = size-gates (s .shape .rays) (s .shape .gates) size;
-        vel = length-vel s l long;
-        mask = length-mask s l long;
-        counts = eqb-true (l .counts) (s .shape .rays * s .shape .gates) (lengths s l long .2);
-        pair = eqb-true (l .pair) 2 (lengths s l long .3);
-        bytes = λ g. mask-bytes (s .mask) g (first-yes _ _ r2);
-        words = room-words s l room;
-        floats = room-floats s l room;
-        asked = nyquist-asked s (first-yes _ _ r4) o;
+        rays = size-rays (s .shape .rays) (s .shape .gates) (q1 .0);
+        gates = size-gates (s .shape .rays) (s .shape .gates) (q1 .0);
+        vel = long .0;
+        mask = long .1;
+        counts = eqb-true (l .counts) n (and-left (eqb (l .counts) n) (eqb (l .pair) 2) (long .2));
+        pair = eqb-true (l .pair) 2 (and-right (eqb (l .counts) n) (eqb (l .pair) 2) (long .2));
+        bytes = λ g. mask-bytes (s .mask) g (q3 .0);
+        words = room-words s (room n l) (q4 .0);
+        floats = room-floats s (room n l) (q4 .0);
+        asked = nyquist-asked s (q5 .0) o;
         skipRays = o .skipRays;
         skipGates = o .skipGates;
         centred = o .centred;
         wrap = o .wrap;
-        fair = speeds (s .vel) (s .mask) (first-yes _ _ r6);
+        fair = speeds (s .vel) (s .mask) (q7 .0);
       }
 
+  -- no question has the number 0
+  pub seven-none : (r : ℕ) → r ≡ answerOf (firstNo (sevenOf s l)) → r ≡ 0 → firstNo (sevenOf s l) ≡ none
+  unfolding seven
+  seven-none r e h = zero-none _ (omega arith, (omega arith, (omega arith, (omega arith, (omega arith, (omega arith, (omega arith, tt))))))) (sym e ∙ h)
+
   -- questions 1 to 8 are questions 1 to 7 and then question 8
-  pub asked-eight : asked s l ≡ elim (askedFirst s l) [ none ↦ elim (inLimits s) [ true ↦ none | false ↦ some 8 ] | some k ↦ some k ]
-  unfolding asked askedFirst firstNo
-  asked-eight = go (inSize (s .shape .rays) (s .shape .gates)) (inLength s l) (inMask (s .mask)) (inRoom s l) (sized (s .nyquist)) (inOptions s) (inSpeed (s .vel) (s .mask)) (inLimits s)
-    where
-      go : (a b c d e f g h : Bool) → firstNo (ask 1 a ∷ ask 2 b ∷ ask 3 c ∷ ask 4 d ∷ ask 5 e ∷ ask 6 f ∷ ask 7 g ∷ ask 8 h ∷ [])
-          ≡ elim (firstNo (ask 1 a ∷ ask 2 b ∷ ask 3 c ∷ ask 4 d ∷ ask 5 e ∷ ask 6 f ∷ ask 7 g ∷ [])) [ none ↦ elim h [ true ↦ none | false ↦ some 8 ] | some k ↦ some k ]
-      go false b c d e f g h = refl
-      go true false c d e f g h = refl
-      go true true false d e f g h = refl
-      go true true true false e f g h = refl
-      go true true true true false f g h = refl
-      go true true true true true false g h = refl
-      go true true true true true true false h = refl
-      go true true true true true true true h = refl
+  pub asked-eight : asked s l ≡ orElse (firstNo (sevenOf s l)) (firstNo (ask 8 (inLimits s) ∷ []))
+  unfolding asked
+  asked-eight = list-after (sevenOf s l) (ask 8 (inLimits s) ∷ [])
 
-  -- no question has number 0
-  pub answer-none : answerOf (askedFirst s l) ≡ 0 → askedFirst s l ≡ none
-  unfolding askedFirst firstNo
-  answer-none = go (inSize (s .shape .rays) (s .shape .gates)) (inLength s l) (inMask (s .mask)) (inRoom s l) (sized (s .nyquist)) (inOptions s) (inSpeed (s .vel) (s .mask))
-    where
-      go : (a b c d e f g : Bool) → answerOf (firstNo (ask 1 a ∷ ask 2 b ∷ ask 3 c ∷ ask 4 d ∷ ask 5 e ∷ ask 6 f ∷ ask 7 g ∷ [])) ≡ 0
-          → firstNo (ask 1 a ∷ ask 2 b ∷ ask 3 c ∷ ask 4 d ∷ ask 5 e ∷ ask 6 f ∷ ask 7 g ∷ []) ≡ none
-      go false b c d e f g z = absurd (omega arith)
-      go true false c d e f g z = absurd (omega arith)
-      go true true false d e f g z = absurd (omega arith)
-      go true true true false e f g z = absurd (omega arith)
-      go true true true true false f g z = absurd (omega arith)
-      go true true true true true false g z = absurd (omega arith)
-      go true true true true true true false z = absurd (omega arith)
-      go true true true true true true true z = refl
-
-  -- a call that answered a question's number got a no
-  pub answer-some : (k : ℕ) → answerOf (askedFirst s l) ≡ suc k → askedFirst s l ≡ some (suc k)
-  answer-some k = go (askedFirst s l)
-    where
-      go : (o : Option ℕ) → answerOf o ≡ suc k → o ≡ some (suc k)
-      go none e = absurd (omega arith)
-      go (some j) e = ap some e
+  pub asked-none : answerOf (asked s l) ≡ 0 → asked s l ≡ none
+  unfolding asked seven
+  asked-none = zero-none _ (omega arith, (omega arith, (omega arith, (omega arith, (omega arith, (omega arith, (omega arith, (omega arith, tt))))))))

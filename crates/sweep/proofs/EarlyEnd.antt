@@ -1,32 +1,25 @@
 -- An early end is what the run with no merges gives: its offset is 0 too. Assumes nothing.
-use Prim.Native.Nat.{ℕ, zero, suc, _+_, _*_, _<_}
+use Prim.Native.Nat.{ℕ, zero, suc, _*_, _<_}
 use native.Mathlib.Omega.{arith}
 use native.Mathlib.Nat.{zero-mul, mul-pos}
 use mathlib.Core.Path.{_≡_, refl, sym, ap, _∙_}
-use mathlib.Core.Bool.{Bool, true, false, cond, _||_, true≢false}
+use mathlib.Core.Bool.{Bool, true, false, cond}
 use mathlib.Core.List.{List, [], _∷_}
-use lib.Dec.{eqb, ltb}
-use lib.IntN.{ℤ, pos, _+ℤ_, _-ℤ_, _*ℤ_, *ℤ-zero}
+use lib.Dec.{eqb}
+use lib.IntN.{ℤ, pos, _+ℤ_, _-ℤ_, *ℤ-zero}
 use lib.ListN.{length, getD}
 use lib.Ieee.{Float, nan, inf, fin, binary64, div, round, unlike, up, down}
 use lib.Ieee.Fits.{up-pos, down-pos}
 use lib.Ieee.Scale.{round-same}
-use borrow.Author.Tests.{eqb-false, lt-ltb}
+use borrow.Author.Tests.{eqb-false}
 use Rattle.arithmetic.specs.Rounding.{roundEven, real, within}
-use Rattle.arithmetic.specs.Seg.{seg}
 use Rattle.arithmetic.specs.Seq.{tabulate, all}
-use Rattle.arithmetic.specs.Intervals.{folded}
 use Rattle.arithmetic.specs.Evaluating.{evaluating}
 use Rattle.arithmetic.proofs.SeqLaws.{tab-same}
 use Rattle.labels.specs.Label.{Found}
-use Rattle.network.specs.Network.{State, alone, start, merges, replay, trace, countOf, inRange, gatesOf}
-use Rattle.network.specs.Reduce.{networkBy}
-use Rattle.edges.specs.Sees.{shape}
-use Rattle.edges.specs.declared.edges.Frame.{Frame}
-use Rattle.sweep.specs.Sweep.{Sweep, Unfolded, none as no-pairs, orZero, sizes, networkOf, pairsOf, final, early, weighed, meanOf, offsetOf, gateCount, ended, finished, unfoldedBy}
-use Rattle.sweep.specs.Checks.{Outcome, asked9}
-use Rattle.sweep.specs.Call.{ending}
-use Rattle.sweep.specs.Finish.{lent, framed, foundIn, merged, closed}
+use Rattle.network.specs.Network.{alone, start, merges, replay, trace, countOf, inRange, gatesOf}
+use Rattle.sweep.specs.Sweep.{Sweep, orZero, sizes, networkOf, final, early, weighed, meanOf, offsetOf, gateCount, ended, finished, unfoldedBy}
+use Rattle.sweep.specs.Checks.{asked9}
 use Rattle.sweep.proofs.Early.{early-merges, early-counts}
 
 -- ---- a zero divided by anything rounds to 0, or is no number
@@ -126,38 +119,3 @@ ends-same s f = go (early s f) refl
     go : (b : Bool) → early s f ≡ b → asked9 (finished s f (networkOf s f)) ≡ asked9 (elim b [ true ↦ ended s f | false ↦ finished s f (networkOf s f) ])
     go true e = early-same s f e
     go false e = refl
-
-unfolded-early : (s : Sweep) (f : Found) → early s f ≡ true → unfoldedBy s f ≡ ended s f
-unfolding unfoldedBy
-unfolded-early s f e = go (early s f) e
-  where
-    go : (b : Bool) → b ≡ true → elim b [ true ↦ ended s f | false ↦ finished s f (networkOf s f) ] ≡ ended s f
-    go true e = refl
-    go false e = absurd (true≢false (sym e))
-
-few-early : (s : Sweep) (f : Found) → ltb (f .number) 2 ≡ true → early s f ≡ true
-unfolding early
-few-early s f e = ap (λ (b : Bool). b || no-pairs (pairsOf s f)) e
-
-ended-is : (s : Sweep) (f : Found) (cs : List ℤ) (p : List ℕ) → ending (asked9 (ended s f)) (lent cs p) ≡ record { number = 0; memory = lent (tabulate (length (s .mask)) (λ g. pos 0)) (f .number ∷ 0 ∷ []) }
-unfolding ended asked9 ending
-ended-is s f cs p = refl
-
-module _ (f : Frame) (w : List ℕ) (vel : List Float) (mask : List ℕ) (n k : ℕ) (nyq : Float) (centred : ℕ) (cs : List ℤ) (p : List ℕ) where
-  same-network : networkBy (folded nyq) (shape f) k (seg w 0 n) vel ≡ networkOf (framed f nyq centred vel mask) (foundIn w n k)
-  unfolding networkBy networkOf pairsOf sizes
-  same-network = refl
-
-  -- the end after the last merge is the end of the sweep
-  pub closed-late : merged f w vel mask n k nyq centred cs p ≡ closed f w vel mask n k nyq centred cs p
-  closed-late =
-      ap (λ (t : State). ending (asked9 (finished (framed f nyq centred vel mask) (foundIn w n k) t)) (lent cs p)) same-network
-      ∙ ap (λ (o : Outcome). ending o (lent cs p)) (ends-same (framed f nyq centred vel mask) (foundIn w n k))
-
-  -- below two regions all counts are 0
-  pub closed-early : k < 2 → length mask ≡ length cs → record { number = 0; memory = lent (tabulate (length cs) (λ g. pos 0)) (k ∷ 0 ∷ []) } ≡ closed f w vel mask n k nyq centred cs p
-  closed-early h e =
-      let s : Sweep = framed f nyq centred vel mask in
-      let r : Found = foundIn w n k in
-      ap (λ (m : ℕ). record { number = 0; memory = lent (tabulate m (λ g. pos 0)) (k ∷ 0 ∷ []) }) (sym e)
-      ∙ sym (ap (λ (u : Unfolded). ending (asked9 u) (lent cs p)) (unfolded-early s r (few-early s r (lt-ltb k 2 h))) ∙ ended-is s r cs p)

@@ -1,7 +1,7 @@
 -- A slice filled place by place from its front. Assumes nothing.
 use Prim.Native.Nat.{ℕ, _+_, _-_, _≤_}
 use native.Mathlib.Omega.{arith}
-use mathlib.Core.Path.{_≡_, sym, ap, _∙_}
+use mathlib.Core.Path.{_≡_, refl, sym, ap, _∙_}
 use mathlib.Core.Logic.{⊎-elim}
 use mathlib.Core.List.{List, _++_, append-nil}
 use lib.ListN.{length, getD, set, drop, replicate, length-append, length-drop, length-replicate, getD-replicate, List·getD-append}
@@ -10,7 +10,6 @@ use Rattle.arithmetic.specs.Seq.{upto, tabulate}
 use Rattle.arithmetic.proofs.SeqLaws.{tab-at, tab-length, tab-snoc}
 use Rattle.arithmetic.specs.Seg.{put}
 use Rattle.arithmetic.proofs.SegLaws.{lt-or-le, length-put, getD-put-in, getD-put-above, put-snoc, put-nil, ext-any}
-use Rattle.sweep.specs.Call.{cleared}
 
 module _ {A : Type 0} where
   -- what is put at the front
@@ -53,6 +52,9 @@ module _ {A : Type 0} where
   zeros : (z : A) (m : ℕ) → tabulate m (λ _. z) ≡ replicate m z
   zeros z m = ext-any (tabulate m (λ _. z)) (replicate m z) (tab-length (λ _. z) m ∙ sym (length-replicate m z)) (λ j d p. tab-at (λ _. z) m j d (omega (arith, tab-length (λ _. z) m)) ∙ sym (getD-replicate m j z d (omega (arith, tab-length (λ _. z) m))))
 
-  pub clear-end : (z : A) (w₀ w : List A) (i m : ℕ) → w ≡ put w₀ 0 (tabulate i (λ _. z)) → i ≡ m → m ≤ length w₀ → w ≡ cleared z m w₀
-  unfolding cleared
-  clear-end z w₀ w i m e h l = fill-front (λ _. z) w₀ w i m e h l ∙ ap (λ (x : List A). x ++ drop m w₀) (zeros z m)
+  pub zero-end : (z : A) (w₀ w : List A) (i : ℕ) → w ≡ put w₀ 0 (tabulate i (λ _. z)) → i ≡ length w₀ → w ≡ replicate (length w₀) z
+  zero-end z w₀ w i e h = fill-all (λ _. z) w₀ w i (length w₀) e h refl ∙ zeros z (length w₀)
+
+  -- all of a slice in one value
+  pub put-all : (w : List A) (z : A) (n : ℕ) → n ≡ length w → put w 0 (replicate n z) ≡ replicate (length w) z
+  put-all w z n e = ap (λ (k : ℕ). put w 0 (replicate k z)) e ∙ ap (put w 0) (sym (zeros z (length w))) ∙ fill-all (λ _. z) w (put w 0 (tabulate (length w) (λ _. z))) (length w) (length w) refl refl refl ∙ zeros z (length w)

@@ -1,5 +1,4 @@
 pub mod SignedLaws
-pub mod LimitLaws
 pub mod SumLaws
 pub mod MeanLaws
 pub mod FinishLaws

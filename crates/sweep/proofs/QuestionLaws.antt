@@ -1,12 +1,13 @@
--- What the proofs of checks.rs cite: a product that fits, and one turn of the loops over mask bytes and velocities.
--- Assumes nothing.
+-- Every list of questions: a yes goes on, a no decides, a list after a list, zero is none. Then a product that fits, and one turn of the
+-- loops over mask bytes and velocities. Assumes nothing.
 use Prim.Native.Nat.{ℕ, suc, _+_, _*_, _≤_, _<_}
 use native.Mathlib.Omega.{arith}
 use native.Mathlib.Nat.{mul-le-mul}
 use native.Mathlib.Numerals.{add-one}
-use mathlib.Core.Path.{_≡_, refl, ap, _∙_}
+use mathlib.Core.Path.{_≡_, refl, sym, ap, _∙_}
 use mathlib.Core.Bool.{Bool, true, false, cond, _&&_}
-use mathlib.Core.List.{List, _∷_}
+use mathlib.Core.List.{List, [], _∷_, _++_}
+use mathlib.Core.Option.{Option, none, some, Option·none-ne-some}
 use mir.Syntax.{w64}
 use mir.Val.{Fits}
 use lib.Dec.{eqb, leb}
@@ -14,9 +15,57 @@ use lib.ListN.{length, getD, drop, drop-of-length-le}
 use lib.Seq.{drop-cons}
 use lib.Ieee.{Float, nan}
 use borrow.Author.Tests.{le-leb, lt-leb, eq-eqb, ne-eqb}
-use Rattle.arithmetic.specs.Seq.{all}
+use Rattle.arithmetic.specs.Seq.{all, All}
 use Rattle.arithmetic.specs.Intervals.{valid, fair}
-use Rattle.sweep.specs.Checks.{inMask, inSpeed}
+use Rattle.sweep.specs.Checks.{Question, firstNo, inMask, inSpeed}
+use Rattle.sweep.specs.Entry.{answerOf}
+
+-- ---- every list of questions
+
+-- a yes goes on
+pub on : (q : Question) (qs : List Question) → q .yes ≡ true → firstNo (q ∷ qs) ≡ firstNo qs
+unfolding firstNo
+on q qs h = rw h refl
+
+-- a no decides
+pub no : (q : Question) (qs : List Question) → q .yes ≡ false → firstNo (q ∷ qs) ≡ some (q .number)
+unfolding firstNo
+no q qs h = rw h refl
+
+-- the first no of two lists
+abbrev pub orElse : Option ℕ → Option ℕ → Option ℕ
+orElse none r = r
+orElse (some k) r = some k
+
+-- a list after a list
+pub list-after : (qs rs : List Question) → firstNo (qs ++ rs) ≡ orElse (firstNo qs) (firstNo rs)
+unfolding firstNo
+list-after [] rs = refl
+list-after (q ∷ qs) rs = go (q .yes) (list-after qs rs)
+  where
+    go : (b : Bool) → firstNo (qs ++ rs) ≡ orElse (firstNo qs) (firstNo rs)
+        → _≡_ {A = Option ℕ} (elim b [ true ↦ firstNo (qs ++ rs) | false ↦ some (q .number) ]) (orElse (elim b [ true ↦ firstNo qs | false ↦ some (q .number) ]) (firstNo rs))
+    go true ih = ih
+    go false ih = refl
+
+-- zero is none, where no question has the number 0
+pub zero-none : (qs : List Question) → All (λ q. 0 < q .number) qs → answerOf (firstNo qs) ≡ 0 → firstNo qs ≡ none
+unfolding firstNo
+zero-none [] t h = refl
+zero-none (q ∷ qs) t h = go (q .yes) h (zero-none qs (t .1))
+  where
+    go : (b : Bool) → answerOf (elim b [ true ↦ firstNo qs | false ↦ some (q .number) ]) ≡ 0 → (answerOf (firstNo qs) ≡ 0 → firstNo qs ≡ none) → _≡_ {A = Option ℕ} (elim b [ true ↦ firstNo qs | false ↦ some (q .number) ]) none
+    go true h ih = ih h
+    go false h ih = absurd (omega (arith, t .0))
+
+-- where no question gets a no, the first gets a yes, and none of the rest gets a no
+pub all-yes : (q : Question) (qs : List Question) → firstNo (q ∷ qs) ≡ none → (q .yes ≡ true) × (firstNo qs ≡ none)
+unfolding firstNo
+all-yes q qs h = go (q .yes) h
+  where
+    go : (b : Bool) → _≡_ {A = Option ℕ} (elim b [ true ↦ firstNo qs | false ↦ some (q .number) ]) none → (b ≡ true) × (firstNo qs ≡ none)
+    go true h = (refl, h)
+    go false h = absurd (Option·none-ne-some (q .number) (sym h))
 
 -- ---- the gates of a sweep fit
 

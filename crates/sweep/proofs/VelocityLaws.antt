@@ -1,11 +1,11 @@
--- What the proofs of velocity.rs cite: one turn of the loops over counts and gates, and the answer at each first no. Assumes nothing.
+-- The second entry: one turn of the loops over counts and gates, its own questions, and its call. Assumes nothing.
 use Prim.Native.Nat.{ℕ, suc, _+_, _-_, _*_, _≤_, _<_}
 use native.Mathlib.Omega.{arith}
 use native.Mathlib.Numerals.{add-one}
 use mathlib.Core.Path.{_≡_, refl, sym, ap, _∙_}
 use mathlib.Core.Bool.{Bool, true, false, not, _&&_, _||_, true≢false}
 use mathlib.Core.List.{List, _++_, append-nil}
-use mathlib.Core.Option.{none, some}
+use mathlib.Core.Option.{Option, none, some}
 use lib.Dec.{eqb}
 use lib.ListN.{length, getD, set, drop, drop-of-length-le}
 use lib.IntN.{ℤ, pos, negsuc}
@@ -20,10 +20,12 @@ use Rattle.arithmetic.specs.Asked.{front}
 use Rattle.arithmetic.proofs.SeqLaws.{tab-length, tab-snoc}
 use Rattle.arithmetic.proofs.IntervalLaws.{front-more, front-none}
 use Rattle.network.specs.Network.{bounded}
-use Rattle.arithmetic.specs.Intervals.{sized}
-use Rattle.sweep.specs.Checks.{firstNo, inSize, inMask, inSpeed}
-use Rattle.sweep.specs.Velocity.{Counted, unfoldedAt, velocities, fourLong, inCounts, askedVelocity, callVelocity}
-use Rattle.sweep.proofs.CheckLaws.{and-four, answer-yes}
+use Rattle.arithmetic.proofs.AllLaws.{and-left, and-right}
+use Rattle.sweep.specs.Checks.{inLength}
+use Rattle.sweep.specs.Entry.{answerOf}
+use Rattle.sweep.specs.Velocity.{Counted, Written, unfoldedAt, velocities, ownLong, inCounts, askedVelocity, callVelocity}
+use Rattle.sweep.proofs.QuestionLaws.{zero-none, all-yes}
+use Rattle.sweep.proofs.CheckLaws.{long-are}
 
 -- question 10 of one gate
 abbrev pub countTest : List ℕ → List ℤ → ℕ → Bool
@@ -104,78 +106,50 @@ module _ (z : ℤ) (f : SFits w32 z) where
       go (pos n) h = absurd (true≢false h)
       go (negsuc n) h = let k : 1999 < n = leb-false n 1999 h in sym (le-ltb n 2000 (omega arith))
 
--- ---- question 2
+-- ---- the questions and the call
 
--- by the code's own question 2, the four slices are equally long
-pub four-lengths : {r : Bool} (v m k p n : ℕ) → r ≡ (eqb v n && eqb m n && eqb k n && eqb p n) → not r ≡ false → (v ≡ p) × (m ≡ p) × (k ≡ p)
-four-lengths v m k p n e h =
-    let q = and-four (eqb v n) (eqb m n) (eqb k n) (eqb p n) (answer-yes e h) in
-    let back = sym (eqb-true p n (q .3)) in
-    (eqb-true v n (q .0) ∙ back, eqb-true m n (q .1) ∙ back, eqb-true k n (q .2) ∙ back)
+module _ (u : Counted) (k : ℕ) where
+  -- the code's own questions 2 and 10, n being its product
+  pub length-is : (r own : Bool) (n : ℕ) → r ≡ inLength n (u .vel) (u .mask) own → own ≡ (eqb (length (u .counts)) n && eqb k n) → n ≡ u .rays * u .gates → r ≡ inLength (u .rays * u .gates) (u .vel) (u .mask) (ownLong u k)
+  unfolding ownLong
+  length-is r own n h g e = h ∙ ap (inLength n (u .vel) (u .mask)) g ∙ ap (λ (j : ℕ). inLength j (u .vel) (u .mask) (eqb (length (u .counts)) j && eqb k j)) e
 
-module _ (u : Counted) (out : List Float) where
-  lengths : fourLong u (length out) ≡ true
-      → (eqb (length (u .vel)) (u .rays * u .gates) ≡ true) × (eqb (length (u .mask)) (u .rays * u .gates) ≡ true) × (eqb (length (u .counts)) (u .rays * u .gates) ≡ true) × (eqb (length out) (u .rays * u .gates) ≡ true)
-  unfolding fourLong
+  pub record Long : Type 0 where
+    pub vel : length (u .vel) ≡ u .rays * u .gates
+    pub mask : length (u .mask) ≡ u .rays * u .gates
+    pub counts : length (u .counts) ≡ u .rays * u .gates
+    pub written : k ≡ u .rays * u .gates
+
+  pub lengths : inLength (u .rays * u .gates) (u .vel) (u .mask) (ownLong u k) ≡ true → Long
+  unfolding ownLong
   lengths h =
       let n = u .rays * u .gates in
-      and-four (eqb (length (u .vel)) n) (eqb (length (u .mask)) n) (eqb (length (u .counts)) n) (eqb (length out) n) h
+      let a = eqb (length (u .counts)) n in
+      let q = long-are n (u .vel) (u .mask) (a && eqb k n) h in
+      record { vel = q .0; mask = q .1; counts = eqb-true (length (u .counts)) n (and-left a (eqb k n) (q .2)); written = eqb-true k n (and-right a (eqb k n) (q .2)) }
 
-  pub four-is : (r : Bool) (n : ℕ) → r ≡ (eqb (length (u .vel)) n && eqb (length (u .mask)) n && eqb (length (u .counts)) n && eqb (length out) n) → n ≡ u .rays * u .gates → r ≡ fourLong u (length out)
-  unfolding fourLong
-  four-is r n h e = h ∙ rw e refl
+  pub counts-are : {r : Bool} → length (u .mask) ≡ u .rays * u .gates → r ≡ all (countTest (u .mask) (u .counts)) (upto (length (u .mask)) 0) → r ≡ inCounts u
+  unfolding inCounts
+  counts-are b e = e ∙ ap (λ (j : ℕ). all (countTest (u .mask) (u .counts)) (upto j 0)) b
 
-  -- ---- the answer at each first no
+  -- no question has the number 0
+  pub none-missed : (r : ℕ) → r ≡ answerOf (askedVelocity u k) → r ≡ 0 → askedVelocity u k ≡ none
+  unfolding askedVelocity
+  none-missed r e h = zero-none _ (omega arith, (omega arith, (omega arith, (omega arith, (omega arith, (omega arith, tt)))))) (sym e ∙ h)
 
-  pub refused : {k : ℕ} → askedVelocity u (length out) ≡ some k → record { number = k; unfolded = out } ≡ callVelocity u out
+  pub all-long : askedVelocity u k ≡ none → Long
+  unfolding askedVelocity
+  all-long h = lengths (all-yes _ _ (all-yes _ _ h .1) .0)
+
+module _ (u : Counted) (out : List Float) where
+  pub velocity-refused : (r : ℕ) → r ≡ answerOf (askedVelocity u (length out)) → (r ≡ 0 → ⊥) → record { number = r; unfolded = out } ≡ callVelocity u out
   unfolding callVelocity
-  refused h = rw (h, callVelocity) refl
+  velocity-refused r e h = go (askedVelocity u (length out)) e
+    where
+      go : (o : Option ℕ) → r ≡ answerOf o → _≡_ {A = Written} (record { number = r; unfolded = out }) (elim o [ none ↦ record { number = 0; unfolded = velocities u } | some k ↦ record { number = k; unfolded = out } ])
+      go none e = absurd (h e)
+      go (some k) e = ap (λ (j : ℕ). record { number = j; unfolded = out }) e
 
-  granted : (w : List Float) → askedVelocity u (length out) ≡ none → w ≡ velocities u → record { number = 0; unfolded = w } ≡ callVelocity u out
-  unfolding callVelocity
-  granted w h e = rw (h, callVelocity) (λ i. record { number = 0; unfolded = e i })
-
-  pub refused-1 : inSize (u .rays) (u .gates) ≡ false → askedVelocity u (length out) ≡ some 1
-  unfolding askedVelocity firstNo
-  refused-1 h = rw h refl
-
-  module _ (a : inSize (u .rays) (u .gates) ≡ true) where
-    pub refused-2 : fourLong u (length out) ≡ false → askedVelocity u (length out) ≡ some 2
-    unfolding askedVelocity firstNo
-    refused-2 h = rw (a, h) refl
-
-    module _ (b : fourLong u (length out) ≡ true) where
-      pub refused-3 : inMask (u .mask) ≡ false → askedVelocity u (length out) ≡ some 3
-      unfolding askedVelocity firstNo
-      refused-3 h = rw (a, b, h) refl
-
-      -- the code's own question 10
-      pub counts-are : {r : Bool} → r ≡ all (countTest (u .mask) (u .counts)) (upto (length (u .mask)) 0) → r ≡ inCounts u
-      unfolding inCounts
-      counts-are e = e ∙ ap (λ (k : ℕ). all (countTest (u .mask) (u .counts)) (upto k 0)) (eqb-true (length (u .mask)) (u .rays * u .gates) (lengths b .1))
-
-      module _ (c : inMask (u .mask) ≡ true) where
-        pub refused-5 : sized (u .nyquist) ≡ false → askedVelocity u (length out) ≡ some 5
-        unfolding askedVelocity firstNo
-        refused-5 h = rw (a, b, c, h) refl
-
-        module _ (d : sized (u .nyquist) ≡ true) where
-          pub refused-7 : inSpeed (u .vel) (u .mask) ≡ false → askedVelocity u (length out) ≡ some 7
-          unfolding askedVelocity firstNo
-          refused-7 h = rw (a, b, c, d, h) refl
-
-          module _ (e : inSpeed (u .vel) (u .mask) ≡ true) where
-            pub refused-10 : inCounts u ≡ false → askedVelocity u (length out) ≡ some 10
-            unfolding askedVelocity firstNo
-            refused-10 h = rw (a, b, c, d, e, h) refl
-
-            -- every question got a yes
-            asked-none : inCounts u ≡ true → askedVelocity u (length out) ≡ none
-            unfolding askedVelocity firstNo
-            asked-none h = rw (a, b, c, d, e, h) refl
-
-            pub unfolds : (w : List Float) → inCounts u ≡ true → w ≡ tabulate (length out) (gateVelocity (u .nyquist) (u .vel) (u .mask) (u .counts)) → record { number = 0; unfolded = w } ≡ callVelocity u out
-            unfolding velocities
-            unfolds w h k =
-                let n : length out ≡ u .rays * u .gates = eqb-true (length out) (u .rays * u .gates) (lengths b .3) in
-                granted w (asked-none h) (k ∙ ap (λ (m : ℕ). tabulate m (gateVelocity (u .nyquist) (u .vel) (u .mask) (u .counts))) n)
+  pub unfolds : (w : List Float) → askedVelocity u (length out) ≡ none → w ≡ tabulate (length out) (gateVelocity (u .nyquist) (u .vel) (u .mask) (u .counts)) → record { number = 0; unfolded = w } ≡ callVelocity u out
+  unfolding callVelocity velocities
+  unfolds w h e = rw (h, callVelocity) (λ i. record { number = 0; unfolded = (e ∙ ap (λ (m : ℕ). tabulate m (gateVelocity (u .nyquist) (u .vel) (u .mask) (u .counts))) (all-long u (length out) h .written)) i })

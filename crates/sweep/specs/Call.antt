@@ -21,6 +21,13 @@ pub record Answer : Type 0 where
   pub number : ℕ
   pub memory : Memory
 
+-- the same, of what the slices hold
+abbrev pub memoryOf : List ℤ → List ℕ → List ℕ → List Float → Memory
+memoryOf cs p w d = record { counts = cs; pair = p; words = w; floats = d }
+
+abbrev pub answerBy : ℕ → List ℤ → List ℕ → List ℕ → List Float → Answer
+answerBy r cs p w d = record { number = r; memory = memoryOf cs p w d }
+
 -- how long the slices are
 unfoldable pub lengths : Memory → Lent
 lengths m = record { counts = length (m .counts); pair = length (m .pair); words = length (m .words); floats = length (m .floats) }

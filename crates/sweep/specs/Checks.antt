@@ -1,7 +1,7 @@
 -- The questions put to a sweep, and the answer. Definitions only.
 use Prim.Native.Nat.{ℕ, _+_, _*_}
 use mathlib.Core.Bool.{Bool, true, false, _&&_}
-use mathlib.Core.List.{List, [], _∷_}
+use mathlib.Core.List.{List, [], _∷_, _++_}
 use mathlib.Core.Option.{Option, none, some}
 use lib.Dec.{eqb, leb}
 use lib.ListN.{length}
@@ -10,6 +10,7 @@ use lib.Ieee.{Float}
 use Rattle.arithmetic.specs.Seq.{all}
 use Rattle.arithmetic.specs.Intervals.{valid, range, numberFor, limitsFor, sized, fair}
 use Rattle.sweep.specs.Sweep.{Sweep, Unfolded, unfolded}
+use Rattle.sweep.specs.declared.questions.Room.{Room}
 
 -- a question's number and whether its answer is yes
 pub record Question : Type 0 where
@@ -48,17 +49,17 @@ floatsFor n = 16 * n + 16
 unfoldable pub inSize : ℕ → ℕ → Bool
 inSize rays gates = leb rays 720 && leb gates 2000
 
--- question 2: the lengths
-unfoldable pub inLength : Sweep → Lent → Bool
-inLength s l = let n = gatesIn s in eqb (length (s .vel)) n && eqb (length (s .mask)) n && eqb (l .counts) n && eqb (l .pair) 2
+-- question 2: the lengths, own being an entry's own part
+unfoldable pub inLength : ℕ → List Float → List ℕ → Bool → Bool
+inLength n vel mask own = eqb (length vel) n && eqb (length mask) n && own
 
 -- question 3: the mask bytes
 unfoldable pub inMask : List ℕ → Bool
 inMask mask = all (λ m. leb m 1) mask
 
 -- question 4: the work memory
-unfoldable pub inRoom : Sweep → Lent → Bool
-inRoom s l = let n = gatesIn s in leb (wordsFor n) (l .words) && leb (floatsFor n) (l .floats)
+unfoldable pub inRoom : ℕ → Room → Bool
+inRoom n r = leb (wordsFor n) (r .words) && leb (floatsFor n) (r .floats)
 
 -- question 6: the options
 unfoldable pub inOptions : Sweep → Bool
@@ -81,19 +82,29 @@ inLimits s = atMost 10000 (numberFor (s .nyquist) (s .splits) (range (valid (s .
 unfoldable pub ownLimits : Sweep → List Float
 ownLimits s = limitsFor (s .nyquist) (s .splits) (range (valid (s .vel) (s .mask)))
 
--- questions 1 to 8, in their order
-unfoldable pub asked : Sweep → Lent → Option ℕ
-asked s l = firstNo (
+-- questions 1 to 7 of an entry that works on a sweep, in their order
+unfoldable pub seven : Sweep → Room → List Question
+seven s r =
     ask 1 (inSize (s .shape .rays) (s .shape .gates))
-    ∷ ask 2 (inLength s l)
+    ∷ ask 2 (inLength (gatesIn s) (s .vel) (s .mask) (r .own))
     ∷ ask 3 (inMask (s .mask))
-    ∷ ask 4 (inRoom s l)
+    ∷ ask 4 (inRoom (gatesIn s) r)
     ∷ ask 5 (sized (s .nyquist))
     ∷ ask 6 (inOptions s)
     ∷ ask 7 (inSpeed (s .vel) (s .mask))
-    ∷ ask 8 (inLimits s)
     ∷ []
-    )
+
+-- the sweep entry's own part of question 2 is the counts and the pair
+unfoldable pub room : ℕ → Lent → Room
+room n l = record { own = eqb (l .counts) n && eqb (l .pair) 2; words = l .words; floats = l .floats }
+
+-- questions 1 to 7 of the sweep entry
+abbrev pub sevenOf : Sweep → Lent → List Question
+sevenOf s l = seven s (room (gatesIn s) l)
+
+-- questions 1 to 8
+unfoldable pub asked : Sweep → Lent → Option ℕ
+asked s l = firstNo (sevenOf s l ++ (ask 8 (inLimits s) ∷ []))
 
 -- the answer: a refusal by its number, or the counts, regions and number of merges
 pub data Outcome : Type 0 where

@@ -1,11 +1,10 @@
--- A call's parameters as a sweep, and the questions that need no limits. Definitions only.
+-- A call's parameters as a sweep, and an answer as a number. Definitions only.
 use Prim.Native.Nat.{ℕ}
-use mathlib.Core.List.{List, [], _∷_}
+use mathlib.Core.List.{List}
 use mathlib.Core.Option.{Option, none, some}
 use lib.Ieee.{Float}
-use Rattle.arithmetic.specs.Intervals.{sized}
+use Rattle.network.specs.declared.options.Options.{Options}
 use Rattle.sweep.specs.Sweep.{Sweep}
-use Rattle.sweep.specs.Checks.{Lent, ask, firstNo, inSize, inLength, inMask, inRoom, inOptions, inSpeed}
 
 -- the sweep that a call's parameters are
 abbrev pub sweepOf : ℕ → ℕ → Float → ℕ → ℕ → ℕ → ℕ → ℕ → List Float → List ℕ → Sweep
@@ -18,18 +17,9 @@ sweepOf rays gates nyquist splits skipRays skipGates centred wrap vel mask = rec
   mask = mask;
 }
 
--- questions 1 to 7
-unfoldable pub askedFirst : Sweep → Lent → Option ℕ
-askedFirst s l = firstNo (
-    ask 1 (inSize (s .shape .rays) (s .shape .gates))
-    ∷ ask 2 (inLength s l)
-    ∷ ask 3 (inMask (s .mask))
-    ∷ ask 4 (inRoom s l)
-    ∷ ask 5 (sized (s .nyquist))
-    ∷ ask 6 (inOptions s)
-    ∷ ask 7 (inSpeed (s .vel) (s .mask))
-    ∷ []
-    )
+-- the same, of options handed on whole
+abbrev pub sweepBy : Options → List Float → List ℕ → Sweep
+sweepBy o vel mask = sweepOf (o .rays) (o .gates) (o .nyquist) (o .splits) (o .«skip_between_rays») (o .«skip_along_ray») (o .centred) (o .wrap) vel mask
 
 -- an answer as a number: 0 where every question gets a yes
 abbrev pub answerOf : Option ℕ → ℕ

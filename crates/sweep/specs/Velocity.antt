@@ -11,7 +11,7 @@ use Rattle.arithmetic.specs.Seq.{upto, all, tabulate}
 use Rattle.arithmetic.specs.Rounding.{real}
 use Rattle.arithmetic.specs.Intervals.{folded, sized}
 use Rattle.network.specs.Network.{bounded}
-use Rattle.sweep.specs.Checks.{ask, firstNo, inSize, inMask, inSpeed}
+use Rattle.sweep.specs.Checks.{ask, firstNo, inSize, inLength, inMask, inSpeed}
 
 -- the inputs of a call of the second entry
 pub record Counted : Type 0 where
@@ -30,9 +30,9 @@ unfoldedAt nyq v m c = cond (eqb m 1) (add binary64 v (mul binary64 (real c) (fo
 unfoldable pub velocities : Counted → List Float
 velocities u = tabulate (u .rays * u .gates) (λ g. unfoldedAt (u .nyquist) (getD (u .vel) g nan) (getD (u .mask) g 0) (getD (u .counts) g (pos 0)))
 
--- question 2, of four slices, k being the length of the one that is written
-unfoldable pub fourLong : Counted → ℕ → Bool
-fourLong u k = let n = u .rays * u .gates in eqb (length (u .vel)) n && eqb (length (u .mask)) n && eqb (length (u .counts)) n && eqb k n
+-- its own part of question 2: the counts, and the slice that is written, of length k
+unfoldable pub ownLong : Counted → ℕ → Bool
+ownLong u k = let n = u .rays * u .gates in eqb (length (u .counts)) n && eqb k n
 
 -- question 10: the counts at valid gates
 unfoldable pub inCounts : Counted → Bool
@@ -42,7 +42,7 @@ inCounts u = all (λ g. not (eqb (getD (u .mask) g 0) 1) || bounded 2000 (getD (
 unfoldable pub askedVelocity : Counted → ℕ → Option ℕ
 askedVelocity u k = firstNo (
     ask 1 (inSize (u .rays) (u .gates))
-    ∷ ask 2 (fourLong u k)
+    ∷ ask 2 (inLength (u .rays * u .gates) (u .vel) (u .mask) (ownLong u k))
     ∷ ask 3 (inMask (u .mask))
     ∷ ask 5 (sized (u .nyquist))
     ∷ ask 7 (inSpeed (u .vel) (u .mask))

@@ -1,4 +1,4 @@
-// exports.rs: the entries that a C host calls.
+// The entries that a C host calls.
 ghost use mathlib.Core.Path.{_≡_};
 ghost use Rattle.sweep.specs.Call.{call};
 ghost use Rattle.sweep.specs.Entry.{sweepOf};
@@ -24,22 +24,17 @@ pub extern "C" fn jivakkol_dealias_sweep(
 ) -> u32
     ensures { λ r. ⌜ record { number = r; memory = record { counts = now (folds .exit); pair = now (pair .exit); words = now (words .exit); floats = now (floats .exit) } } ≡ call (sweepOf rays gates nyquist splits «skip_rays» «skip_gates» centred wrap (now (velocity .entry)) (now (valid .entry))) (record { counts = now (folds .entry); pair = now (pair .entry); words = now (words .entry); floats = now (floats .entry) }) ⌝ }
 {
-    crate::entry::dealias_sweep(
-        rays,
-        gates,
-        nyquist,
-        splits,
-        skip_rays,
-        skip_gates,
-        centred,
-        wrap,
-        velocity,
-        valid,
-        folds,
-        pair,
-        words,
-        floats,
-    )
+    let o = network::options::Options {
+        rays: rays,
+        gates: gates,
+        nyquist: nyquist,
+        splits: splits,
+        skip_between_rays: skip_rays,
+        skip_along_ray: skip_gates,
+        centred: centred,
+        wrap: wrap,
+    };
+    crate::entry::dealias_sweep(o, velocity, valid, folds, pair, words, floats)
 }
 
 // Unfolded velocities from fold counts.
@@ -55,5 +50,18 @@ pub extern "C" fn jivakkol_unfold_velocity(
 ) -> u32
     ensures { λ r. ⌜ record { number = r; unfolded = now (unfolded .exit) } ≡ callVelocity (record { rays = rays; gates = gates; nyquist = nyquist; vel = now (velocity .entry); mask = now (valid .entry); counts = now (folds .entry) }) (now (unfolded .entry)) ⌝ }
 {
-    crate::velocity::unfold_velocity(rays, gates, nyquist, velocity, valid, folds, unfolded)
+    let missed = crate::questions::first_missed_velocity(
+        rays,
+        gates,
+        nyquist,
+        velocity,
+        valid,
+        folds,
+        unfolded.len(),
+    );
+    if missed != 0 {
+        return missed;
+    }
+    crate::velocity::unfold_gates(nyquist, velocity, valid, folds, unfolded);
+    0
 }

@@ -1,84 +1,21 @@
-// sweep.rs: a sweep from its limits to its counts: labels, merges, the offset of centring, the counts of all gates, and work memory cleared.
+// A sweep by its limits: find, then write the offset, the counts of all gates and the pair, then clear the work memory.
 ghost use mathlib.Core.Path.{_≡_};
 ghost use Prim.Native.Nat.{ℕ, _+_, _*_, _≤_, _<_, _^_};
+ghost use mathlib.Core.List.{List, [], _∷_};
 ghost use lib.IntN.{ℤ, pos, natAbs, subℕ};
-ghost use lib.ListN.{length, getD};
+ghost use lib.ListN.{length, getD, replicate};
 ghost use lib.Ieee.{binary64, div};
 ghost use Rattle.arithmetic.specs.Seq.{tabulate};
 ghost use Rattle.arithmetic.specs.Rounding.{roundEven, real};
 ghost use Rattle.merge.specs.Steps.{unbias};
 ghost use Rattle.memory.specs.Layout.{countsAt};
-ghost use Rattle.sweep.specs.Sweep.{orZero, gateCount};
+ghost use Rattle.network.specs.Find.{limitsBy, Finds};
+ghost use Rattle.sweep.specs.Sweep.{orZero, gateCount, unfolded};
 ghost use Rattle.sweep.specs.Mean.{sumFrom, sizeAt, heldAt, Tabled, Writes};
-ghost use Rattle.sweep.specs.Call.{cleared};
-ghost use Rattle.arithmetic.specs.Intervals.{atLeast0, limitsOf};
-ghost use Rattle.labels.specs.Regions.{regions};
-ghost use Rattle.sweep.specs.Labelled.{Limited, Labelled};
-ghost use Rattle.sweep.specs.Finish.{offsetBy, countsBy, Finishes, Merges, Closes, Solves, lent, merged, closed, solved};
-ghost use mathlib.Core.List.{List, [], _∷_};
-
-// The number of limits as a length.
-fn how_many(number: i64) -> usize
-    ensures { λ r. ⌜ r ≡ atLeast0 number ⌝ }
-{
-    if number > 0 {
-        return number as usize;
-    }
-    0
-}
-
-// The limits of a plan, written into `limits`, and by them the label of each gate, at the front of `work`. The number of regions.
-fn label_in(
-    limits: &mut [f64],
-    nyquist: f32,
-    splits: u32,
-    a: i32,
-    b: i32,
-    number: i64,
-    gates: u32,
-    velocity: &[f32],
-    valid: &[u8],
-    work: &mut [u32],
-) -> u32
-    requires { ⌜ Limited nyquist splits a b number gates (now velocity) (now valid) (length (now work)) ⌝ }
-    requires { ⌜ 10000 ≤ length (now limits) ⌝ }
-    ensures { λ r. ⌜ Labelled (regions gates (now (velocity .entry)) (now (valid .entry)) (limitsOf nyquist splits a b number)) (length (now (velocity .entry))) r (now (work .exit)) ⌝ }
-{
-    arithmetic::intervals::limits(nyquist, splits, a, b, number, limits);
-    let m = how_many(number);
-    let end = 3 * velocity.len() + 64;
-    labels::regions::find_regions(gates, velocity, valid, &limits[0..m], &mut work[0..end])
-}
-
-// The same, with limits of its own: a sweep of few gates may have more limits than words lent.
-fn label_sweep(
-    nyquist: f32,
-    splits: u32,
-    a: i32,
-    b: i32,
-    number: i64,
-    gates: u32,
-    velocity: &[f32],
-    valid: &[u8],
-    work: &mut [u32],
-) -> u32
-    requires { ⌜ Limited nyquist splits a b number gates (now velocity) (now valid) (length (now work)) ⌝ }
-    ensures { λ r. ⌜ Labelled (regions gates (now (velocity .entry)) (now (valid .entry)) (limitsOf nyquist splits a b number)) (length (now (velocity .entry))) r (now (work .exit)) ⌝ }
-{
-    let mut limits = [0.0; 10000];
-    label_in(
-        &mut limits,
-        nyquist,
-        splits,
-        a,
-        b,
-        number,
-        gates,
-        velocity,
-        valid,
-        work,
-    )
-}
+ghost use Rattle.sweep.specs.Checks.{asked9};
+ghost use Rattle.sweep.specs.Call.{ending, memoryOf, answerBy};
+ghost use Rattle.sweep.specs.Entry.{sweepBy};
+ghost use Rattle.sweep.specs.Finish.{offsetBy, countsBy, Finishes, Ready, lent, written, allZero};
 
 // The gates of all regions, and their counts, with 1,000 added to each, summed over them.
 pub struct Totals {
@@ -174,144 +111,67 @@ pub fn settle(w: &[u32], n: usize, k: usize, valid: &[u8], centred: u32, folds: 
     write_folds(w, n, k, valid, offset, folds);
 }
 
-// All counts 0.
-fn no_folds(folds: &mut [i32])
-    ensures { λ _. ⌜ now (folds .exit) ≡ tabulate (length (now (folds .entry))) (λ g. pos 0) ⌝ }
-{
-    let n = folds.len();
-    let mut g = 0;
-    while g < n {
-        folds[g] = 0;
-        g += 1;
-    }
-}
-
-// The regions of n labelled gates are merged, and counts and pair written: 0, or the refusal by question 9.
-fn merge_regions(
-    f: edges::edges::Frame,
-    n: usize,
-    k: usize,
-    nyquist: f32,
+// What was found, written: counts and pair, or nothing where question 9 refused. The answer's number.
+pub fn write(
+    f: network::find::Finding,
     centred: u32,
-    velocity: &[f32],
     valid: &[u8],
+    w: &[u32],
     folds: &mut [i32],
     pair: &mut [u32],
-    work: &mut [u32],
-    floats: &mut [f64],
 ) -> u32
-    requires { ⌜ Merges f (now work) (now floats) (now velocity) (now valid) n k nyquist (length (now folds)) (length (now pair)) ⌝ }
-    ensures { λ r. ⌜ record { number = r; memory = lent (now (folds .exit)) (now (pair .exit)) } ≡ merged f (now (work .entry)) (now (velocity .entry)) (now (valid .entry)) n k nyquist centred (now (folds .entry)) (now (pair .entry)) ⌝ }
+    requires { ⌜ Ready f (now w) (now valid) (length (now folds)) (length (now pair)) ⌝ }
+    ensures { λ r. ⌜ record { number = r; memory = lent (now (folds .exit)) (now (pair .exit)) } ≡ written f (now (w .entry)) (now (valid .entry)) centred (now (folds .entry)) (now (pair .entry)) ⌝ }
 {
-    match network::reduce::reduce(work, floats, velocity, f, n, k, 2.0 * (nyquist as f64)) {
-        network::network::Ran::Settled(j) => {
-            settle(work, n, k, valid, centred, folds);
-            write_pair(pair, k, j);
+    match f {
+        network::find::Finding::Regions(r) => {
+            let n = valid.len();
+            settle(w, n, r.regions, valid, centred, folds);
+            write_pair(pair, r.regions, r.merges);
             0
         }
-        network::network::Ran::Denied => 9,
+        network::find::Finding::Refused => 9,
     }
 }
 
-// The end of a sweep with k regions: below two there is nothing to merge.
-fn finish(
-    f: edges::edges::Frame,
-    n: usize,
-    k: usize,
-    nyquist: f32,
-    centred: u32,
-    velocity: &[f32],
-    valid: &[u8],
-    folds: &mut [i32],
-    pair: &mut [u32],
-    work: &mut [u32],
-    floats: &mut [f64],
-) -> u32
-    requires { ⌜ Closes f (now work) (now floats) (now velocity) (now valid) n k nyquist (length (now folds)) (length (now pair)) ⌝ }
-    ensures { λ r. ⌜ record { number = r; memory = lent (now (folds .exit)) (now (pair .exit)) } ≡ closed f (now (work .entry)) (now (velocity .entry)) (now (valid .entry)) n k nyquist centred (now (folds .entry)) (now (pair .entry)) ⌝ }
-{
-    if k < 2 {
-        no_folds(folds);
-        write_pair(pair, k, 0);
-        return 0;
-    }
-    merge_regions(
-        f,
-        n,
-        k,
-        nyquist,
-        centred,
-        velocity,
-        valid,
-        folds,
-        pair,
-        work,
-        floats,
-    )
-}
-
-// The first m words are zero.
-pub fn clear_words(w: &mut [u32], m: usize)
-    requires { ⌜ m ≤ length (now w) ⌝ }
-    ensures { λ _. ⌜ now (w .exit) ≡ cleared 0 m (now (w .entry)) ⌝ }
+// All floats are zero.
+fn clear_floats(d: &mut [f64])
+    ensures { λ _. ⌜ now (d .exit) ≡ replicate (length (now (d .entry))) (real (pos 0)) ⌝ }
 {
     let mut i = 0;
-    while i < m {
-        w[i] = 0;
-        i += 1;
-    }
-}
-
-// The same of f64.
-pub fn clear_floats(d: &mut [f64], m: usize)
-    requires { ⌜ m ≤ length (now d) ⌝ }
-    ensures { λ _. ⌜ now (d .exit) ≡ cleared (real (pos 0)) m (now (d .entry)) ⌝ }
-{
-    let mut i = 0;
-    while i < m {
+    while i < d.len() {
         d[i] = 0.0;
         i += 1;
     }
 }
 
-// A sweep that passed questions 1 to 8, its limits planned: 0, or the refusal by question 9. All lent words are 0 at the end.
+// All words and all floats are zero.
+pub fn clear(words: &mut [u32], floats: &mut [f64])
+    ensures { λ _. ⌜ now (words .exit) ≡ replicate (length (now (words .entry))) 0 ⌝ }
+    ensures { λ _. ⌜ now (floats .exit) ≡ replicate (length (now (floats .entry))) (real (pos 0)) ⌝ }
+{
+    let n = words.len();
+    memory::sort::fill(words, 0, n, 0);
+    clear_floats(floats);
+}
+
+// A sweep that passed questions 1 to 8, its limits planned: find, write, clear. 0, or the refusal by question 9.
 pub fn solve(
-    f: edges::edges::Frame,
-    gates: u32,
-    nyquist: f32,
-    splits: u32,
-    a: i32,
-    b: i32,
-    number: i64,
-    centred: u32,
+    o: network::options::Options,
+    p: arithmetic::intervals::Plan,
     velocity: &[f32],
     valid: &[u8],
     folds: &mut [i32],
     pair: &mut [u32],
-    work: &mut [u32],
+    words: &mut [u32],
     floats: &mut [f64],
 ) -> u32
-    requires { ⌜ Solves f gates nyquist splits a b number (now velocity) (now valid) (length (now folds)) (length (now pair)) (length (now work)) (length (now floats)) ⌝ }
-    ensures { λ r. ⌜ record { number = r; memory = record { counts = now (folds .exit); pair = now (pair .exit); words = now (work .exit); floats = now (floats .exit) } } ≡ solved f gates nyquist splits a b number centred (now (velocity .entry)) (now (valid .entry)) (now (folds .entry)) (now (pair .entry)) (length (now (work .entry))) (length (now (floats .entry))) ⌝ }
+    requires { ⌜ Finds o p (now velocity) (now valid) (now words) (now floats) ⌝ }
+    requires { ⌜ (length (now folds) ≡ length (now velocity)) × (length (now pair) ≡ 2) ⌝ }
+    ensures { λ r. ⌜ answerBy r (now (folds .exit)) (now (pair .exit)) (now (words .exit)) (now (floats .exit)) ≡ ending (asked9 (unfolded (sweepBy o (now (velocity .entry)) (now (valid .entry))) (limitsBy o p))) (allZero (memoryOf (now (folds .entry)) (now (pair .entry)) (now (words .entry)) (now (floats .entry)))) ⌝ }
 {
-    let n = velocity.len();
-    let k = label_sweep(nyquist, splits, a, b, number, gates, velocity, valid, work);
-    let r = finish(
-        f,
-        n,
-        k as usize,
-        nyquist,
-        centred,
-        velocity,
-        valid,
-        folds,
-        pair,
-        work,
-        floats,
-    );
-    let words = work.len();
-    clear_words(work, words);
-    let m = floats.len();
-    clear_floats(floats, m);
+    let f = network::find::find(o, p, velocity, valid, words, floats);
+    let r = write(f, o.centred, valid, words, folds, pair);
+    clear(words, floats);
     r
 }

@@ -1,10 +1,10 @@
 -- `sweep::entry::plan_of` meets its contract. Assumes nothing.
-use mathlib.Core.Path.{sym, ap, _∙_, subst}
-use Rattle.arithmetic.specs.Asked.{Fair}
-use Rattle.arithmetic.specs.Intervals.{planOf, adds}
-use Rattle.arithmetic.specs.declared.intervals.Extremes.{Extremes}
-use Rattle.arithmetic.proofs.Plans.{range-fair}
+use mathlib.Core.Path.{subst, sym, ap, _∙_}
 use borrow.Author.Needs.{needs}
+use Rattle.arithmetic.proofs.Plans.{range-fair}
+use Rattle.arithmetic.specs.declared.intervals.Extremes.{Extremes}
+use Rattle.arithmetic.specs.Intervals.{planOf, adds}
+use Rattle.arithmetic.specs.Asked.{Fair}
 use Rattle.sweep.proofs.entry.plan_of.Statement.{statement}
 use Rattle.sweep.proofs.entry.plan_of.Tie as tie
 
@@ -17,7 +17,7 @@ plan-limits-requires c κs =
     (s .pre .0 .0, subst Fair (sym (c .least-and-greatest .ensures)) (range-fair _ (s .pre .0 .1)))
 
 returns : tie.Need-returns
-returns c = c .plan-limits .ensures ∙ ap (λ (e : Extremes). planOf (c .before .before .before .before .args .splits) (adds (c .before .before .before .before .args .nyquist) (c .before .before .before .before .args .splits) e)) (c .before .least-and-greatest .ensures)
+returns c = let o = c .before .before .before .before .args .o in c .plan-limits .ensures ∙ ap (λ (e : Extremes). planOf (o .splits) (adds (o .nyquist) (o .splits) e)) (c .before .least-and-greatest .ensures)
 
 pub plan-of-spec : {M : Type 1} → statement M
 plan-of-spec = tie.close (tie.spec least-and-greatest-requires plan-limits-requires returns)

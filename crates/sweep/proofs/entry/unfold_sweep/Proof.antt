@@ -1,28 +1,27 @@
 -- `sweep::entry::unfold_sweep` meets its contract. Assumes nothing.
-use Prim.Native.Nat.{_+_, _*_, _-_, _≤_}
-use native.Mathlib.Omega.{arith}
-use mathlib.Core.Path.{refl}
-use lib.ListN.{length}
 use borrow.Rule.Slice.PartMut.{post-is}
-use mir.ValLaws.{toZ-ofZ}
-use mir.Syntax.{w32, w64}
-use Rattle.sweep.specs.Sweep.{Sweep}
-use Rattle.sweep.specs.Call.{Memory}
-use Rattle.sweep.specs.Entry.{sweepOf}
-use Rattle.sweep.proofs.EndLaws.{length-taken, small, words-room, floats-room, solves-ask, solved-ends}
+use native.Mathlib.Omega.{arith}
+use Prim.Native.Nat.{_+_, _-_, _*_, _≤_}
+use lib.ListN.{length, take}
 use borrow.Author.Needs.{needs}
+use Rattle.sweep.proofs.EndLaws.{length-taken, small, words-room, floats-room, finds-ask, outputs, solved-ends}
+use Rattle.sweep.specs.Entry.{sweepBy}
+use Rattle.sweep.specs.Call.{Memory, memoryOf}
 use Rattle.sweep.proofs.entry.unfold_sweep.Statement.{statement}
 use Rattle.sweep.proofs.entry.unfold_sweep.Tie as tie
 
--- the sweep and the memory that a call's parameters are
-abbrev sweepAt : tie.Start → Sweep
-sweepAt c = sweepOf (c .args .rays) (c .args .gates) (c .args .nyquist) (c .args .splits) (c .args .skip-rays) (c .args .skip-gates) (c .args .centred) (c .args .wrap) (c .args .velocity .now) (c .args .valid .now)
-
+-- the memory that the parameters are
 abbrev memoryAt : tie.Start → Memory
-memoryAt c = record { counts = c .args .folds .now; pair = c .args .pair .now; words = c .args .words .now; floats = c .args .floats .now }
+memoryAt s = memoryOf (s .args .folds .now) (s .args .pair .now) (s .args .words .now) (s .args .floats .now)
 
 few : (s : tie.Start) → length (s .args .velocity .now) ≤ 1440000
-few s = small (sweepAt s) (memoryAt s) (s .pre .0)
+few s = small (sweepBy (s .args .o) (s .args .velocity .now) (s .args .valid .now)) (memoryAt s) (s .pre .0)
+
+words-are : (s : tie.Start) → 96 * length (s .args .velocity .now) + 64 ≤ length (s .args .words .now)
+words-are s = words-room (sweepBy (s .args .o) (s .args .velocity .now) (s .args .valid .now)) (memoryAt s) (s .pre .0)
+
+floats-are : (s : tie.Start) → 16 * length (s .args .velocity .now) + 16 ≤ length (s .args .floats .now)
+floats-are s = floats-room (sweepBy (s .args .o) (s .args .velocity .now) (s .args .valid .now)) (memoryAt s) (s .pre .0)
 
 mul-w : tie.Need-mul-w
 mul-w c = record { fits = omega (arith, few (c .before .before .before .before .before)) }
@@ -43,7 +42,7 @@ part-solve-start : tie.Need-part-solve-start
 part-solve-start c = search needs
 
 part-solve-end : tie.Need-part-solve-end
-part-solve-end c = let s = c .before .before .before .before .before .before .before in words-room (sweepAt s) (memoryAt s) (s .pre .0)
+part-solve-end c = words-are (c .before .before .before .before .before .before .before)
 
 sub-solve-2 : tie.Need-sub-solve-2
 sub-solve-2 c = search needs
@@ -52,14 +51,13 @@ part-solve-start-2 : tie.Need-part-solve-start-2
 part-solve-start-2 c = search needs
 
 part-solve-end-2 : tie.Need-part-solve-end-2
-part-solve-end-2 c = let s = c .before .before .before .before .before .before .before .before in floats-room (sweepAt s) (memoryAt s) (s .pre .0)
+part-solve-end-2 c = floats-are (c .before .before .before .before .before .before .before .before)
 
 solve-requires : tie.Need-solve-requires
 solve-requires c κs =
     let s = c .before .before .before .before .before .before .before .before .before in
-    let room = words-room (sweepAt s) (memoryAt s) (s .pre .0) in
-    let spare = floats-room (sweepAt s) (memoryAt s) (s .pre .0) in
-    solves-ask (sweepAt s) (memoryAt s) (s .pre .0) (s .args .a) (s .args .b) (s .args .number) _ _ _ (toZ-ofZ w32 (s .args .a) (s .fits .a)) (toZ-ofZ w32 (s .args .b) (s .fits .b)) (toZ-ofZ w64 (s .args .number) (s .fits .number)) (s .pre .1 .0) (s .pre .1 .1) _ refl refl _ _ _ _ refl refl (length-taken _ (s .args .words .now) room) (length-taken _ (s .args .floats .now) spare)
+    let a = s .args in
+    (finds-ask (a .o) (a .p) (a .velocity .now) (a .valid .now) (memoryAt s) (s .pre .0) (s .pre .1 .0) (s .pre .1 .1) _ _ (length-taken _ (a .words .now) (words-are s)) (length-taken _ (a .floats .now) (floats-are s)), outputs (a .o) (a .p) (a .velocity .now) (a .valid .now) (memoryAt s) (s .pre .0))
 
 same-length : tie.Need-same-length
 same-length c = search needs
@@ -75,11 +73,10 @@ same-length-4 c = search needs
 
 returns : tie.Need-returns
 returns c =
-    let u = c .before .before .before .before .before .before .before in
-    let s = u .before .before .before .before .before .before .before .before .before .before in
-    let room = words-room (sweepAt s) (memoryAt s) (s .pre .0) in
-    let spare = floats-room (sweepAt s) (memoryAt s) (s .pre .0) in
-    solved-ends (sweepAt s) (memoryAt s) (s .pre .0) (s .args .a) (s .args .b) (s .args .number) _ _ _ (toZ-ofZ w32 (s .args .a) (s .fits .a)) (toZ-ofZ w32 (s .args .b) (s .fits .b)) (toZ-ofZ w64 (s .args .number) (s .fits .number)) _ refl _ _ (length-taken _ (s .args .words .now) room) (length-taken _ (s .args .floats .now) spare) _ (u .solve .ensures) _ _ (post-is 0 (96 * length (s .args .velocity .now) + 64) (s .args .words .now) (omega arith)) (post-is 0 (16 * length (s .args .velocity .now) + 16) (s .args .floats .now) (omega arith))
+    let u = c .before .before .before .before .before .before .before .solve in
+    let s = c .before .before .before .before .before .before .before .before .before .before .before .before .before .before .before .before .before in
+    let a = s .args in
+    solved-ends (a .o) (a .p) (a .velocity .now) (a .valid .now) (memoryAt s) (s .pre .0) (take (96 * length (a .velocity .now) + 64 - 0) (a .words .now)) (take (16 * length (a .velocity .now) + 16 - 0) (a .floats .now)) (length-taken _ (a .words .now) (words-are s)) (length-taken _ (a .floats .now) (floats-are s)) _ (u .ensures) _ _ (post-is 0 (96 * length (a .velocity .now) + 64) (a .words .now) (omega arith)) (post-is 0 (16 * length (a .velocity .now) + 16) (a .floats .now) (omega arith))
 
 pub unfold-sweep-spec : {M : Type 1} → statement M
 unfold-sweep-spec =

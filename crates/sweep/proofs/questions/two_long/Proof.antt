@@ -1,0 +1,14 @@
+-- `sweep::questions::two_long` meets its contract. Assumes nothing.
+use borrow.Author.Tests.{eq-eqb, ne-eqb}
+use mathlib.Core.Path.{refl}
+use Rattle.sweep.proofs.questions.two_long.Statement.{statement}
+use Rattle.sweep.proofs.questions.two_long.Tie as tie
+
+returns : tie.Need-returns
+returns c = rw (eq-eqb _ _ (c .if1 .taken)) refl
+
+returns-2 : tie.Need-returns-2
+returns-2 c = rw (ne-eqb _ _ (c .if1 .left)) refl
+
+pub two-long-spec : {M : Type 1} → statement M
+two-long-spec = tie.close (tie.spec returns returns-2)

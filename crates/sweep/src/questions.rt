@@ -1,0 +1,222 @@
+// The questions put to a call, each as a test, and for each entry the number of the first that gets a no. Question 9 is put at each merge.
+ghost use mathlib.Core.Path.{_≡_};
+ghost use mathlib.Core.Bool.{not, _&&_, _||_};
+ghost use Prim.Native.Nat.{_*_, _≤_};
+ghost use lib.Dec.{eqb, leb};
+ghost use lib.ListN.{length, getD};
+ghost use lib.IntN.{pos};
+ghost use Rattle.arithmetic.specs.Seq.{upto, all};
+ghost use Rattle.arithmetic.specs.Intervals.{sized, fair};
+ghost use Rattle.network.specs.Network.{bounded};
+ghost use Rattle.sweep.specs.Checks.{firstNo, seven, room, atMost, wordsFor, floatsFor, inSize, inLength, inMask, inSpeed};
+ghost use Rattle.sweep.specs.Entry.{sweepBy, answerOf};
+ghost use Rattle.sweep.specs.Velocity.{askedVelocity};
+
+// Question 1.
+fn in_size(rays: u32, gates: u32) -> bool
+    ensures { λ r. ⌜ r ≡ inSize rays gates ⌝ }
+{
+    rays <= 720 && gates <= 2000
+}
+
+// The gates that a sweep should have: a product of two u32 fits.
+pub fn gates_in(rays: u32, gates: u32) -> usize
+    ensures { λ r. ⌜ r ≡ rays * gates ⌝ }
+{
+    (rays as usize) * (gates as usize)
+}
+
+// Two lengths, each as it is to be: what question 2 asks of an entry's own slices.
+fn two_long(one: usize, n: usize, two: usize, m: usize) -> bool
+    ensures { λ r. ⌜ r ≡ (eqb one n && eqb two m) ⌝ }
+{
+    one == n && two == m
+}
+
+// Question 2, n being the gates that the sweep should have, and `own` the entry's own part.
+fn in_length(n: usize, velocity: &[f32], valid: &[u8], own: bool) -> bool
+    ensures { λ r. ⌜ r ≡ inLength n (now (velocity .entry)) (now (valid .entry)) own ⌝ }
+{
+    velocity.len() == n && (valid.len() == n && own)
+}
+
+// Question 3.
+fn all_masks(valid: &[u8]) -> bool
+    ensures { λ r. ⌜ r ≡ inMask (now (valid .entry)) ⌝ }
+{
+    let mut i = 0;
+    while i < valid.len() {
+        if valid[i] > 1 {
+            return false;
+        }
+        i += 1;
+    }
+    true
+}
+
+// Question 4.
+fn in_room(n: usize, words: usize, floats: usize) -> bool
+    requires { ⌜ n ≤ 1440000 ⌝ }
+    ensures { λ r. ⌜ r ≡ (leb (wordsFor n) words && leb (floatsFor n) floats) ⌝ }
+{
+    96 * n + 64 <= words && 16 * n + 16 <= floats
+}
+
+// Question 5.
+fn nyquist_sized(nyquist: f32) -> bool
+    ensures { λ r. ⌜ r ≡ sized nyquist ⌝ }
+{
+    0.125 <= nyquist && nyquist <= 1024.0
+}
+
+// Question 6.
+fn in_options(splits: u32, skip_rays: u32, skip_gates: u32, centred: u32, wrap: u32) -> bool
+    ensures { λ r. ⌜ r ≡ (leb 1 splits && leb splits 9999 && leb «skip_rays» 1000 && leb «skip_gates» 1000 && leb centred 1 && leb wrap 1) ⌝ }
+{
+    1 <= splits
+        && (splits <= 9999
+            && (skip_rays <= 1000 && (skip_gates <= 1000 && (centred <= 1 && wrap <= 1))))
+}
+
+// Whether a velocity is a number from -16,384 to 16,384.
+fn is_fair(v: f32) -> bool
+    ensures { λ r. ⌜ r ≡ fair v ⌝ }
+{
+    -16384.0 <= v && v <= 16384.0
+}
+
+// Question 7. What stands at a masked gate does not matter.
+fn all_speeds(velocity: &[f32], valid: &[u8]) -> bool
+    requires { ⌜ length (now valid) ≡ length (now velocity) ⌝ }
+    ensures { λ r. ⌜ r ≡ inSpeed (now (velocity .entry)) (now (valid .entry)) ⌝ }
+{
+    let mut i = 0;
+    while i < velocity.len() {
+        if valid[i] == 1 {
+            if !is_fair(velocity[i]) {
+                return false;
+            }
+        }
+        i += 1;
+    }
+    true
+}
+
+// Question 8, of a plan of limits.
+pub fn limits_few(p: arithmetic::intervals::Plan) -> bool
+    ensures { λ r. ⌜ r ≡ atMost 10000 (p .number) ⌝ }
+{
+    p.number <= 10000
+}
+
+// Whether a count is -2,000 to 2,000.
+fn is_bounded(count: i32) -> bool
+    ensures { λ r. ⌜ r ≡ bounded 2000 count ⌝ }
+{
+    -2000 <= count && count <= 2000
+}
+
+// Question 10. What stands at a masked gate does not matter.
+fn all_counts(valid: &[u8], folds: &[i32]) -> bool
+    requires { ⌜ length (now folds) ≡ length (now valid) ⌝ }
+    ensures { λ r. ⌜ r ≡ all (λ g. not (eqb (getD (now (valid .entry)) g 0) 1) || bounded 2000 (getD (now (folds .entry)) g (pos 0))) (upto (length (now (valid .entry))) 0) ⌝ }
+{
+    let mut i = 0;
+    while i < valid.len() {
+        if valid[i] == 1 {
+            if !is_bounded(folds[i]) {
+                return false;
+            }
+        }
+        i += 1;
+    }
+    true
+}
+
+// What an entry lends beside the sweep: whether its own slices are as long as they are to be, and the two work memories' lengths.
+pub struct Room {
+    pub own: bool,
+    pub words: usize,
+    pub floats: usize,
+}
+
+// The sweep entry's own slices are the counts and the pair, n being the gates that the sweep should have.
+pub fn room_of(n: usize, counts: usize, pair: usize, words: usize, floats: usize) -> Room
+    ensures { λ r. ⌜ r ≡ room n (record { counts = counts; pair = pair; words = words; floats = floats }) ⌝ }
+{
+    Room {
+        own: two_long(counts, n, pair, 2),
+        words: words,
+        floats: floats,
+    }
+}
+
+// Questions 1 to 7 of an entry that works on a sweep: the number of the first that gets a no, or 0.
+pub fn first_missed(o: network::options::Options, velocity: &[f32], valid: &[u8], lent: Room) -> u32
+    ensures { λ r. ⌜ r ≡ answerOf (firstNo (seven (sweepBy o (now (velocity .entry)) (now (valid .entry))) lent)) ⌝ }
+{
+    if !in_size(o.rays, o.gates) {
+        return 1;
+    }
+    let n = gates_in(o.rays, o.gates);
+    if !in_length(n, velocity, valid, lent.own) {
+        return 2;
+    }
+    if !all_masks(valid) {
+        return 3;
+    }
+    if !in_room(n, lent.words, lent.floats) {
+        return 4;
+    }
+    if !nyquist_sized(o.nyquist) {
+        return 5;
+    }
+    if !in_options(
+        o.splits,
+        o.skip_between_rays,
+        o.skip_along_ray,
+        o.centred,
+        o.wrap,
+    ) {
+        return 6;
+    }
+    if !all_speeds(velocity, valid) {
+        return 7;
+    }
+    0
+}
+
+// The second entry's questions, 1, 2, 3, 5, 7 and 10: the number of the first that gets a no, or 0. `unfolded` is a length.
+pub fn first_missed_velocity(
+    rays: u32,
+    gates: u32,
+    nyquist: f32,
+    velocity: &[f32],
+    valid: &[u8],
+    folds: &[i32],
+    unfolded: usize,
+) -> u32
+    ensures { λ r. ⌜ r ≡ answerOf (askedVelocity (record { rays = rays; gates = gates; nyquist = nyquist; vel = now (velocity .entry); mask = now (valid .entry); counts = now (folds .entry) }) unfolded) ⌝ }
+{
+    if !in_size(rays, gates) {
+        return 1;
+    }
+    let n = gates_in(rays, gates);
+    let own = two_long(folds.len(), n, unfolded, n);
+    if !in_length(n, velocity, valid, own) {
+        return 2;
+    }
+    if !all_masks(valid) {
+        return 3;
+    }
+    if !nyquist_sized(nyquist) {
+        return 5;
+    }
+    if !all_speeds(velocity, valid) {
+        return 7;
+    }
+    if !all_counts(valid, folds) {
+        return 10;
+    }
+    0
+}
