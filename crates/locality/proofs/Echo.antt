@@ -21,12 +21,12 @@ use Rattle.labels.proofs.RegionsEcho.{firstGates, regions-parts, regions-valid}
 use Rattle.arithmetic.proofs.AllLaws.{tab-all}
 use Rattle.edges.specs.declared.edges.EdgeRecord.{EdgeRecord}
 use Rattle.edges.specs.Edges.{pairs, used}
-use Rattle.network.specs.Network.{start, merges, countOf, sizeIn}
+use Rattle.network.specs.Network.{start, merges, countOf, sizeIn, networkBy}
 use Rattle.locality.proofs.Embed.{Embedding, merges-image, counts-image}
 use Rattle.network.proofs.EdgesEcho.{Apart, recordIn, renQ, used-ren, used-all}
 use Rattle.locality.proofs.PairsEcho.{left-near, top-near, flag-side, pairs-part, pairs-sides}
 use Rattle.locality.proofs.StartEcho.{Unjoined, edgeSide, start-embeds}
-use Rattle.sweep.specs.Sweep.{Sweep, regionsOf, pairsOf, sizes, networkOf, final}
+use Rattle.sweep.specs.Sweep.{Sweep, regionsOf, pairsOf, networkOf, final}
 
 -- ---- the sweep with every gate outside the echo masked; a masked gate's velocity is left out
 
@@ -141,11 +141,11 @@ module _ (E : ℕ → Bool) (s : Sweep) where
       rs = used (length bs) (pairsOf s f)
 
       whole-is : networkOf s f ≡ start (folded (s .nyquist)) rs (map (sizeIn (f .labels)) (upto (length bs) 1))
-      unfolding networkOf sizes
+      unfolding networkOf networkBy pairsOf
       whole-is = ap (λ (n : ℕ). start (folded (s .nyquist)) (used n (pairsOf s f)) (map (sizeIn (f .labels)) (upto n 1))) (P .number)
 
       part-is : networkOf (only E s) f′ ≡ start (folded (s .nyquist)) (used (trues bs) (pairsOf (only E s) f′)) (map (sizeIn (f′ .labels)) (upto (trues bs) 1))
-      unfolding networkOf sizes only
+      unfolding networkOf networkBy pairsOf only
       part-is = ap (λ (n : ℕ). start (folded (s .nyquist)) (used n (pairsOf (only E s) f′)) (map (sizeIn (f′ .labels)) (upto n 1))) (P .number′)
 
       -- 4. the network of the echo alone lies in the whole's

@@ -14,7 +14,7 @@ use Rattle.labels.specs.Label.{Found}
 use Rattle.labels.proofs.RootsEcho.{at}
 use Rattle.arithmetic.proofs.AllLaws.{all-map, tab-all}
 use Rattle.labels.proofs.RegionsEcho.{regions-valid}
-use Rattle.network.specs.Network.{State, merges, countOf, Region, Edge, plan, move, merge, stepTo, step, replay, alone, start}
+use Rattle.network.specs.Network.{State, merges, countOf, Region, Edge, plan, move, merge, stepTo, step, replay, alone, start, networkBy}
 use Rattle.network.specs.Network as Network
 use Rattle.sweep.specs.Sweep.{Sweep, Unfolded, regionsOf, networkOf, final, early, ended, finished, offsetOf, gateCount, unfoldedBy, unfolded, sizes, pairsOf}
 use Rattle.locality.specs.Demand3.{first, countAt, uncentred}
@@ -107,7 +107,7 @@ count-zero (r ∷ rs) t = rw (t .0) (count-zero rs (t .1))
 module _ (s : Sweep) (limits : List Float) where
   -- label 0 counts 0
   pub zero-count : countOf (final (first s limits) .regions) 0 ≡ pos 0
-  unfolding final networkOf start
+  unfolding final networkOf networkBy start sizes
   zero-count = count-zero (final (first s limits) .regions) (replay-numbered (merges (first s limits)) (first s limits) (alone-numbered 0 (sizes (regionsOf s limits))))
 
   -- centring plays no part in a region's count

@@ -19,7 +19,7 @@ use Rattle.labels.proofs.RootsEcho.{at, at-less}
 use Rattle.arithmetic.proofs.AllLaws.{all-both, all-weaker, all-true, all-false}
 use Rattle.edges.specs.declared.edges.EdgeRecord.{EdgeRecord}
 use Rattle.edges.specs.Edges.{used, pairs}
-use Rattle.network.specs.Network.{State, Event, merges, replay, trace, choose, Edge, step, better, event}
+use Rattle.network.specs.Network.{State, Event, merges, replay, trace, choose, Edge, step, better, event, networkBy}
 use Rattle.network.proofs.Ends.{FoundLive}
 use Rattle.network.proofs.Restrict.{eventIn, event-edge}
 use Rattle.locality.proofs.Locality.{other, SameSides, Agrees}
@@ -129,7 +129,7 @@ module _ (E : ℕ → Bool) (s : Sweep) (limits : List Float) (A : ApartBy E s l
   label-side g h = lies E (flag (flags E s limits)) (f .labels) (flag-side E (s .shape) (flags E s limits) f (regionsOf (only E s) limits) (labels-follow E s limits A) A) g h
 
   agrees : (l : List ℕ) → SameSides p q l (merges (networkOf s f)) → Agrees p q (networkOf s f) l
-  unfolding networkOf pairsOf
+  unfolding networkOf networkBy pairsOf sizes
   agrees l h = every-merge-list p (folded (s .nyquist)) (used (f .number) (pairs (s .shape) (f .labels) (s .vel))) (sizes f)
       (used-all (λ a b. p a ≡ p b) (f .number) (pairs (s .shape) (f .labels) (s .vel)) (pairs-sides E (s .shape) (f .labels) (s .vel) p A label-side)) l h
 

@@ -16,19 +16,19 @@ use Rattle.labels.proofs.RootsEcho.{at}
 use Rattle.labels.proofs.RegionsEcho.{firstGates}
 use Rattle.edges.specs.declared.edges.EdgeRecord.{EdgeRecord}
 use Rattle.edges.specs.Edges.{pairs, used}
-use Rattle.network.specs.Network.{State, sizeIn}
+use Rattle.network.specs.Network.{State, sizeIn, networkBy, goodBy}
 use Rattle.network.proofs.Restrict.{restrict, Closed}
 use Rattle.locality.proofs.Locality.{other}
 use Rattle.network.proofs.EdgesEcho.{recordIn, used-all}
 use Rattle.locality.proofs.PairsEcho.{flag-side, pairs-all}
 use Rattle.locality.proofs.StartEcho.{edgeSide}
-use Rattle.locality.proofs.AcceptEcho.{inRangeAll, range-image, range-sides, restrict-other}
+use Rattle.locality.proofs.AcceptEcho.{range-image, range-sides, restrict-other}
 use Rattle.sweep.specs.Sweep.{Sweep, regionsOf, pairsOf, sizes, networkOf}
 use Rattle.locality.proofs.Echo.{only, flags, ApartBy, labels-follow, network-embeds}
 
 -- question 9 of a sweep by these limits
-unfoldable pub goodBy : Sweep → List Float → Bool
-goodBy s limits = inRangeAll (networkOf s (regionsOf s limits))
+unfoldable pub goodOf : Sweep → List Float → Bool
+goodOf s limits = goodBy (networkOf s (regionsOf s limits))
 
 -- the rest of an echo
 unfoldable pub rest : (ℕ → Bool) → ℕ → Bool
@@ -87,24 +87,24 @@ module _ (E : ℕ → Bool) (s : Sweep) (limits : List Float) (A : ApartBy E s l
   labels-contrary i h = not-map (firstGates (s .shape .gates) (s .vel) (s .mask) limits) i (omega (arith, number-is, length-map (upto (f .number) 1) (sizeIn (f .labels)), upto-length (f .number) 1))
 
   other-side : restrict p′ (edgeSide p′ (used (f .number) (pairsOf s f))) N ≡ restrict (other p) (other (edgeSide p (used (f .number) (pairsOf s f)))) N
-  unfolding networkOf
+  unfolding networkOf networkBy pairsOf sizes
   other-side = restrict-other p p′ (folded (s .nyquist)) (used (f .number) (pairsOf s f)) (sizes f) contrary labels-contrary
 
-  image : inRangeAll (restrict p (edgeSide p (used (f .number) (pairsOf s f))) N) ≡ inRangeAll (networkOf (only E s) (regionsOf (only E s) limits))
+  image : goodBy (restrict p (edgeSide p (used (f .number) (pairsOf s f))) N) ≡ goodBy (networkOf (only E s) (regionsOf (only E s) limits))
   image =
-      ap (λ (n : ℕ). inRangeAll (restrict p (edgeSide p (used n (pairsOf s f))) N)) (labels-follow E s limits A .number)
+      ap (λ (n : ℕ). goodBy (restrict p (edgeSide p (used n (pairsOf s f))) N)) (labels-follow E s limits A .number)
       ∙ range-image (shift (flags E s limits)) (spot (map (recordIn p) (used (length (flags E s limits)) (pairsOf s f)))) p (edgeSide p (used (length (flags E s limits)) (pairsOf s f)))
       (networkOf (only E s) (regionsOf (only E s) limits)) N (network-embeds E s limits A (flags E s limits) (labels-follow E s limits A))
 
-  image′ : inRangeAll (restrict p′ (edgeSide p′ (used (f .number) (pairsOf s f))) N) ≡ inRangeAll (networkOf (only (rest E) s) (regionsOf (only (rest E) s) limits))
+  image′ : goodBy (restrict p′ (edgeSide p′ (used (f .number) (pairsOf s f))) N) ≡ goodBy (networkOf (only (rest E) s) (regionsOf (only (rest E) s) limits))
   image′ =
-      ap (λ (n : ℕ). inRangeAll (restrict p′ (edgeSide p′ (used n (pairsOf s f))) N)) (labels-follow (rest E) s limits B .number)
+      ap (λ (n : ℕ). goodBy (restrict p′ (edgeSide p′ (used n (pairsOf s f))) N)) (labels-follow (rest E) s limits B .number)
       ∙ range-image (shift (flags (rest E) s limits)) (spot (map (recordIn p′) (used (length (flags (rest E) s limits)) (pairsOf s f)))) p′ (edgeSide p′ (used (length (flags (rest E) s limits)) (pairsOf s f)))
       (networkOf (only (rest E) s) (regionsOf (only (rest E) s) limits)) N (network-embeds (rest E) s limits B (flags (rest E) s limits) (labels-follow (rest E) s limits B))
 
   closed : Closed p (edgeSide p (used (f .number) (pairsOf s f))) N
   closed = subst (λ (n : ℕ). Closed p (edgeSide p (used n (pairsOf s f))) N) (sym (labels-follow E s limits A .number)) (network-embeds E s limits A (flags E s limits) (labels-follow E s limits A) .closed)
 
-  pub good-splits : (goodBy s limits ≡ true) ↔ ((goodBy (only E s) limits ≡ true) × (goodBy (only (rest E) s) limits ≡ true))
-  unfolding goodBy
+  pub good-splits : (goodOf s limits ≡ true) ↔ ((goodOf (only E s) limits ≡ true) × (goodOf (only (rest E) s) limits ≡ true))
+  unfolding goodOf
   good-splits = rw (← image, ← image′, other-side) (range-sides p (edgeSide p (used (f .number) (pairsOf s f))) N closed)

@@ -11,8 +11,7 @@ use borrow.Author.Tests.{le-ltb, eqb-true}
 use Rattle.arithmetic.specs.Seq.{upto, keep, each, all, All}
 use Rattle.edges.specs.Edges.{Shape, Pair, pairs, gathered, firstIs, secondIs, recordsOf, records, greaterFirst, used}
 use Rattle.edges.specs.declared.edges.EdgeRecord.{EdgeRecord}
-use Rattle.network.specs.Network.{start, numbered, alone, merges, run, replay, trace, countOf, sizeIn}
-use Rattle.network.specs.Reduce.{networkBy, goodBy}
+use Rattle.network.specs.Network.{start, numbered, alone, merges, run, replay, trace, countOf, sizeIn, networkBy, goodBy}
 use Rattle.network.proofs.EdgesEcho.{gathered-all, records-nil}
 
 -- one region's records join it to itself

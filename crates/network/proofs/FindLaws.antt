@@ -21,8 +21,8 @@ use Rattle.merge.specs.Steps.{unbias}
 use Rattle.edges.specs.Edges.{pairs, used}
 use Rattle.edges.specs.Sees.{shape}
 use Rattle.edges.specs.declared.edges.Frame.{Frame}
-use Rattle.network.specs.Network.{sizeIn, merges}
-use Rattle.network.specs.Reduce.{networkBy, Reduces, Reduced, Tables}
+use Rattle.network.specs.Network.{sizeIn, merges, networkBy}
+use Rattle.network.specs.Reduce.{Reduces, Reduced, Tables}
 use Rattle.network.specs.Find.{frameOf, limitsBy, regionsBy, networkFor, Labelled, Few, Finds, Leaves}
 use Rattle.network.specs.declared.options.Options.{Options}
 use Rattle.network.specs.declared.network.Ran.{Ran}

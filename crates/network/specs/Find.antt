@@ -14,8 +14,8 @@ use Rattle.labels.specs.Label.{Found}
 use Rattle.labels.specs.Regions.{regions}
 use Rattle.edges.specs.Sees.{shape}
 use Rattle.edges.specs.declared.edges.Frame.{Frame}
-use Rattle.network.specs.Network.{State, merges}
-use Rattle.network.specs.Reduce.{networkBy, goodBy, Tables}
+use Rattle.network.specs.Network.{State, merges, networkBy, goodBy}
+use Rattle.network.specs.Reduce.{Tables}
 use Rattle.network.specs.declared.options.Options.{Options}
 use Rattle.network.specs.declared.find.Run.{Run}
 use Rattle.network.specs.declared.find.Finding.{Finding}

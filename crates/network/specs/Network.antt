@@ -7,10 +7,11 @@ use lib.Dec.{leb, ltb, eqb}
 use lib.ListN.{length}
 use lib.IntN.{ℤ, pos, negsuc, _+ℤ_, negℤ}
 use lib.Ieee.{Float, binary32, binary64, add, sub, neg, div}
-use Rattle.arithmetic.specs.Seq.{all, keep}
+use Rattle.arithmetic.specs.Seq.{upto, all, keep}
 use Rattle.arithmetic.specs.Rounding.{roundEven, narrowed, real, scale}
 use Rattle.arithmetic.specs.declared.rounding.Rounded.{Rounded}
 use Rattle.arithmetic.specs.declared.rounding.Rounded.the-variants.{Whole, Outside}
+use Rattle.edges.specs.Edges.{Shape, pairs, used}
 use Rattle.edges.specs.declared.edges.EdgeRecord.{EdgeRecord}
 
 -- An edge's weight and difference: what follows its node when it moves.
@@ -314,3 +315,11 @@ sizeIn labels l = length (keep (eqb l) labels)
 -- The first state: edges numbered from 0, regions from 1.
 unfoldable pub start : Float → List EdgeRecord → List ℕ → State
 start w rs ns = record { edges = numbered w 0 rs; regions = alone 1 ns }
+
+-- The network of labelled gates, k being the number of regions and w 2 × Nyquist.
+unfoldable pub networkBy : Float → Shape → ℕ → List ℕ → List Float → State
+networkBy w shape k labels vel = start w (used k (pairs shape labels vel)) (map (sizeIn labels) (upto k 1))
+
+-- Question 9 of every merge.
+unfoldable pub goodBy : State → Bool
+goodBy s = all inRange (trace s (merges s))

@@ -1,27 +1,18 @@
 -- From labels to the counts of all regions: what it asks, and what it leaves. Definitions only.
 use Prim.Native.Nat.{ℕ, _+_, _*_, _≤_, _<_}
 use mathlib.Core.Path.{_≡_}
-use mathlib.Core.Bool.{Bool, true, false}
-use mathlib.Core.List.{List, map}
+use mathlib.Core.Bool.{true, false}
+use mathlib.Core.List.{List}
 use lib.ListN.{length, getD}
 use lib.Ieee.{Float}
-use Rattle.arithmetic.specs.Seq.{upto, all, tabulate}
+use Rattle.arithmetic.specs.Seq.{tabulate}
 use Rattle.arithmetic.specs.Seg.{seg}
-use Rattle.edges.specs.Edges.{Shape, pairs, used}
-use Rattle.network.specs.Network.{State, start, sizeIn, merges, trace, replay, inRange, countOf}
+use Rattle.network.specs.Network.{State, sizeIn, merges, goodBy, replay, countOf}
 use Rattle.merge.specs.Steps.{unbias}
 use Rattle.memory.specs.Layout.{sizesAt, countsAt}
 use Rattle.edges.specs.declared.edges.Frame.{Frame}
 use Rattle.network.specs.declared.network.Ran.{Ran}
 use Rattle.network.specs.declared.network.Ran.the-variants.{Settled, Denied}
-
--- the network of labelled gates, k being the number of regions and wide 2 × Nyquist
-unfoldable pub networkBy : Float → Shape → ℕ → List ℕ → List Float → State
-networkBy wide shape k labels vel = start wide (used k (pairs shape labels vel)) (map (sizeIn labels) (upto k 1))
-
--- question 9 of every merge
-unfoldable pub goodBy : State → Bool
-goodBy t = all inRange (trace t (merges t))
 
 -- what is asked of the sweep and of the memory
 pub record Reduces (f : Frame) (w : List ℕ) (d vel : List Float) (n k : ℕ) : Type 0 where

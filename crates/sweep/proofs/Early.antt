@@ -10,9 +10,8 @@ use Rattle.arithmetic.specs.Intervals.{folded}
 use Rattle.labels.specs.Label.{Found}
 use Rattle.edges.specs.Edges.{Pair, used}
 use Rattle.network.specs.Network.{merges, countOf}
-use Rattle.network.specs.Reduce.{networkBy}
 use Rattle.network.proofs.FewRegions.{used-few, used-none, no-merges, no-counts}
-use Rattle.sweep.specs.Sweep.{Sweep, pairsOf, sizes, networkOf, final, none, early}
+use Rattle.sweep.specs.Sweep.{Sweep, pairsOf, networkOf, final, none, early}
 
 module _ (s : Sweep) (f : Found) (h : early s f ≡ true) where
   used-early : used (f .number) (pairsOf s f) ≡ []
@@ -25,9 +24,9 @@ module _ (s : Sweep) (f : Found) (h : early s f ≡ true) where
       go false e (p ∷ ps) w q = absurd (unfold none in true≢false (sym q))
 
   pub early-merges : merges (networkOf s f) ≡ []
-  unfolding networkOf networkBy pairsOf sizes
+  unfolding networkOf pairsOf
   early-merges = no-merges (folded (s .nyquist)) (s .shape) (f .number) (f .labels) (s .vel) used-early
 
   pub early-counts : (a : ℕ) → countOf (final (networkOf s f) .regions) a ≡ pos 0
-  unfolding final networkOf networkBy pairsOf sizes
+  unfolding final networkOf pairsOf
   early-counts = no-counts (folded (s .nyquist)) (s .shape) (f .number) (f .labels) (s .vel) used-early

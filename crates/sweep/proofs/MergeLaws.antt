@@ -15,18 +15,17 @@ use Rattle.arithmetic.specs.Intervals.{folded}
 use Rattle.arithmetic.proofs.SeqLaws.{tab-at, tab-same, keep-same}
 use Rattle.arithmetic.proofs.SegLaws.{getD-seg}
 use Rattle.labels.specs.Label.{Found}
-use Rattle.network.specs.Network.{State, sizeIn, replay, merges, countOf, gatesOf}
+use Rattle.network.specs.Network.{State, sizeIn, replay, merges, countOf, gatesOf, networkBy, goodBy}
 use Rattle.edges.specs.Edges.{pairs, used}
 use Rattle.edges.specs.Sees.{shape}
 use Rattle.merge.specs.Steps.{unbias}
 use Rattle.memory.specs.Layout.{sizesAt, countsAt}
-use Rattle.network.specs.Reduce.{networkBy, goodBy}
 use Rattle.network.specs.Find.{frameOf, networkFor, Leaves}
 use Rattle.network.specs.declared.options.Options.{Options}
 use Rattle.network.specs.declared.find.Run.{Run}
 use Rattle.network.specs.declared.find.Finding.{Finding}
 use Rattle.network.specs.declared.find.Finding.the-variants.{Regions, Refused}
-use Rattle.sweep.specs.Sweep.{Sweep, orZero, weighed, meanOf, sizes, pairsOf, networkOf, offsetOf, final, gateCount, finished, unfoldedBy}
+use Rattle.sweep.specs.Sweep.{Sweep, orZero, weighed, meanOf, networkOf, offsetOf, final, gateCount, finished, unfoldedBy}
 use Rattle.sweep.specs.Checks.{Outcome, asked9}
 use Rattle.sweep.specs.Call.{ending}
 use Rattle.sweep.specs.Entry.{sweepBy}
@@ -174,23 +173,17 @@ module _ (o : Options) (vel : List Float) (mask : List ℕ) (F : Found) (n : ℕ
       where
         accepted-end : goodBy t ≡ true
             → ending (asked9 (finished s F t)) (lent cs p) ≡ record { number = 0; memory = lent (tabulate (length mask) (λ g. gateCount (offsetOf s (final t)) (getD mask g 0) (countOf (final t .regions) (getD L g 0)))) (k ∷ length (merges t) ∷ []) }
-        accepted-end e = unfold ending asked9 finished goodBy in rw e refl
+        accepted-end e = unfold ending asked9 finished in rw e refl
 
   written-bad : goodBy t ≡ false → (cs : List ℤ) (p : List ℕ) → written x v mask (o .centred) cs p ≡ ending (asked9 (finished s F t)) (lent cs p)
   written-bad e cs p = ap (λ (y : Finding). written y v mask (o .centred) cs p) (R .refused e) ∙ sym (refused-end e)
     where
       refused-end : goodBy t ≡ false → ending (asked9 (finished s F t)) (lent cs p) ≡ record { number = 9; memory = lent cs p }
-      refused-end e = unfold ending asked9 finished goodBy in rw e refl
-
-  same-network : t ≡ networkOf s F
-  unfolding networkBy networkOf pairsOf sizes
-  same-network = refl
+      refused-end e = unfold ending asked9 finished in rw e refl
 
   pub written-is : (cs : List ℤ) (p : List ℕ) → written x v mask (o .centred) cs p ≡ ending (asked9 (unfoldedBy s F)) (lent cs p)
   written-is cs p =
-      go (goodBy t) refl
-      ∙ ap (λ (y : State). ending (asked9 (finished s F y)) (lent cs p)) same-network
-      ∙ ap (λ (y : Outcome). ending y (lent cs p)) (ends-same s F)
+      go (goodBy t) refl ∙ (unfold networkOf in ap (λ (y : Outcome). ending y (lent cs p)) (ends-same s F))
     where
       go : (b : Bool) → goodBy t ≡ b → written x v mask (o .centred) cs p ≡ ending (asked9 (finished s F t)) (lent cs p)
       go true e = written-good e cs p

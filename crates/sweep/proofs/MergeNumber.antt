@@ -12,8 +12,7 @@ use lib.Ieee.{Float, nan}
 use borrow.Author.Tests.{eqb-true, ne-eqb}
 use Rattle.arithmetic.specs.Seq.{upto, each, keep}
 use Rattle.edges.specs.Edges.{Shape, Direction, left, right, top, bottom, sees, Pair, pairTo, pairsAt, pairs, gathered, firstIs, secondIs, recordsOf, records, greaterFirst, used}
-use Rattle.network.specs.Network.{State, Edge, choose, follow, step, run, merges, start, numbered}
-use Rattle.network.specs.Reduce.{networkBy}
+use Rattle.network.specs.Network.{State, Edge, choose, follow, step, run, merges, start, numbered, networkBy}
 use Rattle.edges.specs.declared.edges.EdgeRecord.{EdgeRecord}
 use Rattle.sweep.specs.Mean.{sumFrom}
 

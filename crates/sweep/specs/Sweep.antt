@@ -6,15 +6,15 @@ use lib.Dec.{eqb, ltb}
 use lib.ListN.{length, getD}
 use lib.IntN.{ℤ, pos, _+ℤ_, _-ℤ_, _*ℤ_}
 use lib.Ieee.{Float, binary64, div}
-use Rattle.arithmetic.specs.Seq.{upto, all, tabulate}
+use Rattle.arithmetic.specs.Seq.{upto, tabulate}
 use Rattle.arithmetic.specs.Rounding.{roundEven, real}
 use Rattle.arithmetic.specs.declared.rounding.Rounded.{Rounded}
 use Rattle.arithmetic.specs.declared.rounding.Rounded.the-variants.{Whole, Outside}
 use Rattle.arithmetic.specs.Intervals.{folded}
 use Rattle.labels.specs.Label.{Found}
 use Rattle.labels.specs.Regions.{regions}
-use Rattle.edges.specs.Edges.{Shape, Pair, pairs, used}
-use Rattle.network.specs.Network.{Region, State, gatesOf, sizeIn, start, merges, replay, trace, inRange, countOf}
+use Rattle.edges.specs.Edges.{Shape, Pair, pairs}
+use Rattle.network.specs.Network.{Region, State, gatesOf, sizeIn, merges, goodBy, replay, countOf, networkBy}
 
 -- the inputs of a call, but for what is lent
 pub record Sweep : Type 0 where
@@ -39,7 +39,7 @@ sizes f = map (sizeIn (f .labels)) (upto (f .number) 1)
 
 -- the network before the first merge
 unfoldable pub networkOf : Sweep → Found → State
-networkOf s f = start (folded (s .nyquist)) (used (f .number) (pairsOf s f)) (sizes f)
+networkOf s f = networkBy (folded (s .nyquist)) (s .shape) (f .number) (f .labels) (s .vel)
 
 -- the network after the last merge
 unfoldable pub final : State → State
@@ -95,7 +95,7 @@ finished s f n = record {
   merges = merges n;
   offset = offsetOf s (final n);
   counts = tabulate (length (s .mask)) (λ g. gateCount (offsetOf s (final n)) (getD (s .mask) g 0) (countOf (final n .regions) (getD (f .labels) g 0)));
-  good = all inRange (trace n (merges n));
+  good = goodBy n;
 }
 
 -- the sweep with these regions

@@ -15,7 +15,7 @@ use Rattle.arithmetic.proofs.SeqLaws.{tab-length}
 use Rattle.arithmetic.specs.Seg.{seg, put, Apart}
 use Rattle.arithmetic.proofs.SegLaws.{eq-or-ne, length-put, length-seg, getD-seg, getD-put-in, seg-put-below, seg-put-above, seg-put-same, seg-set-out, seg-part, put-mid, lent-seg}
 use Rattle.edges.specs.Edges.{Pair, pairs, used}
-use Rattle.network.specs.Network.{sizeIn, merges, replay, countOf}
+use Rattle.network.specs.Network.{sizeIn, merges, replay, countOf, networkBy, goodBy}
 use Rattle.edges.specs.Sees.{shape}
 use Rattle.edges.specs.Whole.{Asked, Edged}
 use Rattle.network.specs.Sizes.{Sizes}
@@ -24,7 +24,7 @@ use Rattle.merge.specs.Table.{count}
 use Rattle.merge.specs.Steps.{unbias}
 use Rattle.network.specs.Begin.{Space, Raw, AllIs}
 use Rattle.memory.specs.Layout.{sizesAt, countsAt}
-use Rattle.network.specs.Reduce.{networkBy, goodBy, Reduces, Reduced}
+use Rattle.network.specs.Reduce.{Reduces, Reduced}
 use Rattle.edges.specs.declared.edges.Frame.{Frame}
 use Rattle.network.specs.declared.network.Ran.{Ran}
 use Rattle.network.proofs.network.Joint.{Filled, raw}
