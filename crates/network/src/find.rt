@@ -78,7 +78,10 @@ pub fn label(
 // Below two regions there is nothing to merge: the sizes, and every count 0, which is 1,000 in its table.
 fn leave_alone(w: &mut [u32], n: usize, k: usize)
     requires { ⌜ Few (now w) n k ⌝ }
-    ensures { λ _. ⌜ now (w .exit) ≡ put (put (now (w .entry)) n (tabulate (k + 1) (sizeIn (seg (now (w .entry)) 0 n)))) (n + (k + 1)) (replicate (k + 1) 1000) ⌝ }
+    ensures { λ _. ⌜ (
+        let sized = put (now (w .entry)) n (tabulate (k + 1) (sizeIn (seg (now (w .entry)) 0 n))) in
+        now (w .exit) ≡ put sized (n + (k + 1)) (replicate (k + 1) 1000)
+        ) ⌝ }
 {
     let nodes = k + 1;
     crate::sizes::count_sizes(w, n, n, nodes);
@@ -95,7 +98,10 @@ pub fn find(
     floats: &mut [f64],
 ) -> Finding
     requires { ⌜ Finds o p (now velocity) (now valid) (now words) (now floats) ⌝ }
-    ensures { λ r. ⌜ Leaves (regionsBy o p (now (velocity .entry)) (now (valid .entry))) (networkFor o (regionsBy o p (now (velocity .entry)) (now (valid .entry))) (now (velocity .entry))) (length (now (velocity .entry))) (now (words .exit)) r ⌝ }
+    ensures { λ r. ⌜ (
+        let f = regionsBy o p (now (velocity .entry)) (now (valid .entry)) in
+        Leaves f (networkFor o f (now (velocity .entry))) (length (now (velocity .entry))) (now (words .exit)) r
+        ) ⌝ }
 {
     let n = velocity.len();
     let k = label(o, p, velocity, valid, words) as usize;

@@ -43,7 +43,10 @@ lent cs p = record { counts = cs; pair = p; words = []; floats = [] }
 
 -- what was found in these words, written: counts and pair, or the refusal by question 9
 abbrev pub written : Finding → List ℕ → List ℕ → ℕ → List ℤ → List ℕ → Answer
-written (Regions r) w mask centred cs p = record { number = 0; memory = lent (countsBy w (length mask) (r .regions) mask centred) (r .regions ∷ r .merges ∷ []) }
+written (Regions r) w mask centred cs p = record {
+  number = 0;
+  memory = lent (countsBy w (length mask) (r .regions) mask centred) (r .regions ∷ r .merges ∷ []);
+}
 written Refused w mask centred cs p = record { number = 9; memory = lent cs p }
 
 -- what writing asks

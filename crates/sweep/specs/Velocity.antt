@@ -22,6 +22,10 @@ pub record Counted : Type 0 where
   pub mask : List ℕ
   pub counts : List ℤ
 
+-- the same, of a call's parameters
+abbrev pub counted : ℕ → ℕ → Float → List Float → List ℕ → List ℤ → Counted
+counted rays gates nyquist vel mask counts = record { rays = rays; gates = gates; nyquist = nyquist; vel = vel; mask = mask; counts = counts }
+
 -- a valid gate's velocity in f64 + count × (2 × Nyquist); 0 at a masked gate
 unfoldable pub unfoldedAt : Float → Float → ℕ → ℤ → Float
 unfoldedAt nyq v m c = cond (eqb m 1) (add binary64 v (mul binary64 (real c) (folded nyq))) (real (pos 0))

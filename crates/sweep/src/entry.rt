@@ -41,7 +41,12 @@ fn unfold_sweep(
 ) -> u32
     requires { ⌜ firstNo (sevenOf (sweepBy o (now velocity) (now valid)) (lengths (memoryOf (now folds) (now pair) (now words) (now floats)))) ≡ none ⌝ }
     requires { ⌜ (atLeast0 (p .number) ≤ 10000) × Rising (limitsBy o p) ⌝ }
-    ensures { λ r. ⌜ answerBy r (now (folds .exit)) (now (pair .exit)) (now (words .exit)) (now (floats .exit)) ≡ ending (asked9 (unfolded (sweepBy o (now (velocity .entry)) (now (valid .entry))) (limitsBy o p))) (clearedFor (gatesIn (sweepBy o (now (velocity .entry)) (now (valid .entry)))) (memoryOf (now (folds .entry)) (now (pair .entry)) (now (words .entry)) (now (floats .entry)))) ⌝ }
+    ensures { λ r. ⌜ (
+        let s = sweepBy o (now (velocity .entry)) (now (valid .entry)) in
+        let m = memoryOf (now (folds .entry)) (now (pair .entry)) (now (words .entry)) (now (floats .entry)) in
+        answerBy r (now (folds .exit)) (now (pair .exit)) (now (words .exit)) (now (floats .exit))
+        ≡ ending (asked9 (unfolded s (limitsBy o p))) (clearedFor (gatesIn s) m)
+        ) ⌝ }
 {
     let n = velocity.len();
     let w = 96 * n + 64;
@@ -68,7 +73,11 @@ pub fn dealias_sweep(
     words: &mut [u32],
     floats: &mut [f64],
 ) -> u32
-    ensures { λ r. ⌜ answerBy r (now (folds .exit)) (now (pair .exit)) (now (words .exit)) (now (floats .exit)) ≡ call (sweepBy o (now (velocity .entry)) (now (valid .entry))) (memoryOf (now (folds .entry)) (now (pair .entry)) (now (words .entry)) (now (floats .entry))) ⌝ }
+    ensures { λ r. ⌜ (
+        let m = memoryOf (now (folds .entry)) (now (pair .entry)) (now (words .entry)) (now (floats .entry)) in
+        answerBy r (now (folds .exit)) (now (pair .exit)) (now (words .exit)) (now (floats .exit))
+        ≡ call (sweepBy o (now (velocity .entry)) (now (valid .entry))) m
+        ) ⌝ }
 {
     let n = crate::questions::gates_in(o.rays, o.gates);
     let lent = crate::questions::room_of(n, folds.len(), pair.len(), words.len(), floats.len());

@@ -10,7 +10,7 @@ ghost use Rattle.arithmetic.specs.Intervals.{sized, fair};
 ghost use Rattle.network.specs.Network.{bounded};
 ghost use Rattle.sweep.specs.Checks.{firstNo, seven, room, atMost, wordsFor, floatsFor, inSize, inLength, inMask, inSpeed};
 ghost use Rattle.sweep.specs.Entry.{sweepBy, answerOf};
-ghost use Rattle.sweep.specs.Velocity.{askedVelocity};
+ghost use Rattle.sweep.specs.Velocity.{counted, askedVelocity};
 
 // Question 1.
 fn in_size(rays: u32, gates: u32) -> bool
@@ -196,7 +196,10 @@ pub fn first_missed_velocity(
     folds: &[i32],
     unfolded: usize,
 ) -> u32
-    ensures { λ r. ⌜ r ≡ answerOf (askedVelocity (record { rays = rays; gates = gates; nyquist = nyquist; vel = now (velocity .entry); mask = now (valid .entry); counts = now (folds .entry) }) unfolded) ⌝ }
+    ensures { λ r. ⌜ (
+        let u = counted rays gates nyquist (now (velocity .entry)) (now (valid .entry)) (now (folds .entry)) in
+        r ≡ answerOf (askedVelocity u unfolded)
+        ) ⌝ }
 {
     if !in_size(rays, gates) {
         return 1;

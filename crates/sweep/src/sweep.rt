@@ -121,7 +121,10 @@ pub fn write(
     pair: &mut [u32],
 ) -> u32
     requires { ⌜ Ready f (now w) (now valid) (length (now folds)) (length (now pair)) ⌝ }
-    ensures { λ r. ⌜ record { number = r; memory = lent (now (folds .exit)) (now (pair .exit)) } ≡ written f (now (w .entry)) (now (valid .entry)) centred (now (folds .entry)) (now (pair .entry)) ⌝ }
+    ensures { λ r. ⌜
+        record { number = r; memory = lent (now (folds .exit)) (now (pair .exit)) }
+        ≡ written f (now (w .entry)) (now (valid .entry)) centred (now (folds .entry)) (now (pair .entry))
+        ⌝ }
 {
     match f {
         network::find::Finding::Regions(r) => {
@@ -168,7 +171,12 @@ pub fn solve(
 ) -> u32
     requires { ⌜ Finds o p (now velocity) (now valid) (now words) (now floats) ⌝ }
     requires { ⌜ (length (now folds) ≡ length (now velocity)) × (length (now pair) ≡ 2) ⌝ }
-    ensures { λ r. ⌜ answerBy r (now (folds .exit)) (now (pair .exit)) (now (words .exit)) (now (floats .exit)) ≡ ending (asked9 (unfolded (sweepBy o (now (velocity .entry)) (now (valid .entry))) (limitsBy o p))) (allZero (memoryOf (now (folds .entry)) (now (pair .entry)) (now (words .entry)) (now (floats .entry)))) ⌝ }
+    ensures { λ r. ⌜ (
+        let s = sweepBy o (now (velocity .entry)) (now (valid .entry)) in
+        let m = memoryOf (now (folds .entry)) (now (pair .entry)) (now (words .entry)) (now (floats .entry)) in
+        answerBy r (now (folds .exit)) (now (pair .exit)) (now (words .exit)) (now (floats .exit))
+        ≡ ending (asked9 (unfolded s (limitsBy o p))) (allZero m)
+        ) ⌝ }
 {
     let f = network::find::find(o, p, velocity, valid, words, floats);
     let r = write(f, o.centred, valid, words, folds, pair);
