@@ -9,7 +9,7 @@ use lib.ListN.{length, getD}
 use lib.IntN.{ℤ, pos, _+ℤ_, _-ℤ_, negℤ, +ℤ-assoc, +ℤ-negℤ-cancel}
 use lib.Ieee.{Float}
 use Rattle.sweep.specs.Sweep.{Sweep, Unfolded, unfolded}
-use Rattle.sweep.specs.Checks.{refused, accepted, gatesIn, ownLimits, seven, asked, asked9, outcome}
+use Rattle.sweep.specs.Checks.{refused, accepted, gatesIn, ownLimits, seven, firstMissed, answered, outcome}
 use Rattle.sweep.proofs.QuestionLaws.{all-yes}
 use Rattle.sweep.proofs.CheckLaws.{long-are}
 use Rattle.locality.specs.Demand3.{Accepted, Apart, Alike, offset, MergeListsHold, TwoSweepsHold}
@@ -30,26 +30,20 @@ module _ (s : Sweep) (c : List ℤ) (a : Accepted s c) where
   unrefused : (k : ℕ) → refused k ≡ accepted c (a .regions) (a .merges) → ⊥
   unrefused k h = let z : _≡_ {A = ℕ} 0 1 = cc in omega arith
 
-  -- questions 1 to 8 and 9 got a yes
-  both : (asked s (a .lent) ≡ none) × (asked9 (own s) ≡ accepted c (a .regions) (a .merges))
-  unfolding outcome
-  both = go (asked s (a .lent)) refl (a .yes)
+  -- all nine questions got a yes, and the counts are the sweep's
+  both : (firstMissed s (a .lent) ≡ none) × (c ≡ own s .counts)
+  unfolding outcome answered
+  both = go (firstMissed s (a .lent)) (a .yes)
     where
-      go : (o : Option ℕ) → asked s (a .lent) ≡ o → elim o [ none ↦ asked9 (unfolded s (ownLimits s)) | some k ↦ refused k ] ≡ accepted c (a .regions) (a .merges)
-          → (o ≡ none) × (asked9 (own s) ≡ accepted c (a .regions) (a .merges))
-      go none e h = (refl, h)
-      go (some k) e h = absurd (unrefused k h)
+      go : (o : Option ℕ) → answered o (own s) ≡ accepted c (a .regions) (a .merges) → (o ≡ none) × (c ≡ own s .counts)
+      go none h = (refl, cc)
+      go (some k) h = absurd (unrefused k h)
 
   accepted-counts : c ≡ own s .counts
-  unfolding asked9
-  accepted-counts = go (own s .good) (both .1)
-    where
-      go : (b : Bool) → elim b [ true ↦ accepted (own s .counts) (own s .regions) (length (own s .merges)) | false ↦ refused 9 ] ≡ accepted c (a .regions) (a .merges) → c ≡ own s .counts
-      go true h = cc
-      go false h = absurd (unrefused 9 h)
+  accepted-counts = both .1
 
   accepted-length : length (s .mask) ≡ gatesIn s
-  unfolding asked seven
+  unfolding firstMissed seven
   accepted-length = long-are (gatesIn s) (s .vel) (s .mask) _ (all-yes _ _ (all-yes _ _ (both .0) .1) .0) .1
 
 -- ---- the statements

@@ -2,113 +2,110 @@
 use Prim.Native.Nat.{ℕ, _<_}
 use native.Mathlib.Omega.{arith}
 use mathlib.Core.Path.{_≡_, refl, sym, ap, _∙_}
-use mathlib.Core.Bool.{Bool, true, false}
-use mathlib.Core.List.{List, [], _∷_}
+use mathlib.Core.Bool.{Bool}
+use mathlib.Core.List.{List}
 use mathlib.Core.Option.{Option, none, some, Option·none-ne-some}
 use lib.ListN.{length, getD}
 use lib.IntN.{ℤ, pos, _+ℤ_, +ℤ-idr}
 use Rattle.network.specs.Network.{replay}
 use Rattle.sweep.specs.Sweep.{Sweep, Unfolded, unfolded}
-use Rattle.sweep.specs.Checks.{Outcome, accepted, refused, gatesIn, asked, asked9, outcome, ownLimits}
-use Rattle.sweep.specs.Call.{Memory, Answer, lengths, clearedFor, ending, call}
+use Rattle.sweep.specs.Checks.{accepted, gatesIn, asked, firstMissed, answered, outcome, ownLimits}
+use Rattle.sweep.specs.Call.{Memory, Answer, lengths, clearedFor, workedOn, ending, call}
 use Rattle.sweep.specs.Entry.{answerOf}
-use Rattle.sweep.proofs.CheckLaws.{asked-none}
+use Rattle.sweep.proofs.CheckLaws.{missed-none}
 use Rattle.locality.specs.Demand3.{Accepted, Does, first, countAt, uncentred, offset}
-use Rattle.locality.specs.Theorems.{Called, firstMissed, AnswerIs, Kept, RefusalKeeps, Written, CountsAre, Cleared, WorkCleared, EchoCounts, ListGives, EchoLists}
+use Rattle.locality.specs.Theorems.{Called, AnswerIs, RefusalKeeps, CountsAre, WorkCleared, EchoCounts, EchoLists}
 use Rattle.locality.proofs.GateCounts.{valid-counts, no-offset, same-region}
 use Rattle.locality.proofs.Demand3Laws.{merge-lists, two-sweeps}
+
+-- ---- the end of a call by the first question that gets a no
 
 module _ (s : Sweep) (m : Memory) where
   -- the sweep by its own limits
   abbrev own : Unfolded
   own = unfolded s (ownLimits s)
 
-  -- question 9's answer
-  abbrev nine : Bool → Outcome
-  nine b = elim b [ true ↦ accepted (own .counts) (own .regions) (length (own .merges)) | false ↦ refused 9 ]
+  -- the end of the call, o being the first no and w the memory worked on
+  abbrev end : Option ℕ → Memory → Answer
+  end o w = ending (answered o own) w
 
-  -- the end of a call past question 8
-  abbrev past : Bool → Answer
-  past b = ending (nine b) (clearedFor (gatesIn s) m)
-
-  -- the call by the answers of questions 1 to 8 and of question 9
-  abbrev ends : Option ℕ → Bool → Answer
-  ends o b = elim o [ none ↦ past b | some k ↦ record { number = k; memory = m } ]
-
-  call-ends : call s m ≡ ends (asked s (lengths m)) (own .good)
-  unfolding call asked9
+  call-ends : call s m ≡ end (firstMissed s (lengths m)) (workedOn s m)
+  unfolding call outcome
   call-ends = refl
 
-  number-ends : (o : Option ℕ) (b : Bool) → ends o b .number ≡ answerOf (elim o [ none ↦ elim b [ true ↦ none | false ↦ some 9 ] | some k ↦ some k ])
-  unfolding ending
-  number-ends none true = refl
-  number-ends none false = refl
-  number-ends (some k) b = refl
+  number-ends : (o : Option ℕ) (w : Memory) → end o w .number ≡ answerOf o
+  unfolding ending answered
+  number-ends none w = refl
+  number-ends (some k) w = refl
 
-  keeps-ends : (o : Option ℕ) (b : Bool) → 0 < ends o b .number → (ends o b .memory .counts ≡ m .counts) × (ends o b .memory .pair ≡ m .pair) × ((k : ℕ) → o ≡ some k → ends o b .memory ≡ m)
-  unfolding ending clearedFor
-  keeps-ends none true h = absurd (omega arith)
-  keeps-ends none false h = (refl, refl, λ k e. absurd (Option·none-ne-some k e))
-  keeps-ends (some k) b h = (refl, refl, λ j e. refl)
+  keeps-ends : (o : Option ℕ) (w : Memory) → 0 < answerOf o → end o w .memory ≡ w
+  unfolding ending answered
+  keeps-ends none w h = absurd (omega arith)
+  keeps-ends (some k) w h = refl
 
-  written-ends : (o : Option ℕ) (b : Bool) → (answerOf o ≡ 0 → o ≡ none) → ends o b .number ≡ 0
-      → (ends o b .memory .counts ≡ own .counts) × (ends o b .memory .pair ≡ own .regions ∷ length (own .merges) ∷ [])
-  unfolding ending
-  written-ends none true w h = (refl, refl)
-  written-ends none false w h = absurd (omega arith)
-  written-ends (some k) b w h = absurd (Option·none-ne-some k (sym (w h)))
+  words-end : (o : Option ℕ) (w : Memory) → (end o w .memory .words ≡ w .words) × (end o w .memory .floats ≡ w .floats)
+  unfolding ending answered
+  words-end none w = (refl, refl)
+  words-end (some k) w = (refl, refl)
 
-  accepts-ends : (o : Option ℕ) (b : Bool) → (answerOf o ≡ 0 → o ≡ none) → ends o b .number ≡ 0
-      → elim o [ none ↦ nine b | some k ↦ refused k ] ≡ accepted (ends o b .memory .counts) (own .regions) (length (own .merges))
-  unfolding ending
-  accepts-ends none true w h = refl
-  accepts-ends none false w h = absurd (omega arith)
-  accepts-ends (some k) b w h = absurd (Option·none-ne-some k (sym (w h)))
+  -- the memory worked on, o being the first no of questions 1 to 8
+  abbrev worked : Option ℕ → Memory
+  worked o = elim o [ none ↦ clearedFor (gatesIn s) m | some k ↦ m ]
 
-  cleared-ends : (b : Bool) → (past b .memory .words ≡ clearedFor (gatesIn s) m .words) × (past b .memory .floats ≡ clearedFor (gatesIn s) m .floats)
-  unfolding ending
-  cleared-ends true = (refl, refl)
-  cleared-ends false = (refl, refl)
+  worked-by : {o : Option ℕ} → asked s (lengths m) ≡ o → workedOn s m ≡ worked o
+  unfolding workedOn
+  worked-by e = ap worked e
+
+  worked-keeps : (o : Option ℕ) → (worked o .counts ≡ m .counts) × (worked o .pair ≡ m .pair)
+  unfolding clearedFor
+  worked-keeps none = (refl, refl)
+  worked-keeps (some k) = (refl, refl)
+
+-- ---- the theorems
 
 pub answer-is : AnswerIs
-unfolding firstMissed
-answer-is s m a c = ap (λ (x : Answer). x .number) (c ∙ call-ends s m) ∙ number-ends s m (asked s (lengths m)) (own s m .good)
+answer-is s m a c = ap (λ (x : Answer). x .number) (c ∙ call-ends s m) ∙ number-ends s m (firstMissed s (lengths m)) (workedOn s m)
 
 pub refusal-keeps : RefusalKeeps
 refusal-keeps s m a c h =
-    let e = c ∙ call-ends s m in
-    let k = keeps-ends s m (asked s (lengths m)) (own s m .good) (rw (← e) h) in
-    record {
-      counts = ap (λ (x : Answer). x .memory .counts) e ∙ k .0;
-      pair = ap (λ (x : Answer). x .memory .pair) e ∙ k .1;
-      all = λ j w. ap (λ (x : Answer). x .memory) e ∙ k .2 j w;
-    }
+    let e : a .memory ≡ workedOn s m = ap (λ (x : Answer). x .memory) (c ∙ call-ends s m) ∙ keeps-ends s m (firstMissed s (lengths m)) (workedOn s m) (rw (← answer-is s m a c) h) in
+    let f : a .memory ≡ worked s m (asked s (lengths m)) = e ∙ worked-by s m refl in
+    let k = worked-keeps s m (asked s (lengths m)) in
+    record { counts = ap (λ (x : Memory). x .counts) f ∙ k .0; pair = ap (λ (x : Memory). x .pair) f ∙ k .1; all = λ j w. e ∙ worked-by s m w }
+
+-- a call that answers 0 ends as one with no question missed
+accepts : (s : Sweep) (m : Memory) (a : Answer) → Called s m a → a .number ≡ 0 → (firstMissed s (lengths m) ≡ none) × (a ≡ end s m none (workedOn s m))
+accepts s m a c h =
+    let e = missed-none s (lengths m) (sym (answer-is s m a c) ∙ h) in
+    (e, c ∙ call-ends s m ∙ ap (λ (o : Option ℕ). end s m o (workedOn s m)) e)
 
 pub counts-are : CountsAre
+unfolding ending answered
 counts-are s m a c h =
-    let e = c ∙ call-ends s m in
-    let k = written-ends s m (asked s (lengths m)) (own s m .good) (asked-none s (lengths m)) (sym (ap (λ (x : Answer). x .number) e) ∙ h) in
-    record { counts = ap (λ (x : Answer). x .memory .counts) e ∙ k .0; pair = ap (λ (x : Answer). x .memory .pair) e ∙ k .1 }
+    let e = accepts s m a c h .1 in
+    record { counts = ap (λ (x : Answer). x .memory .counts) e; pair = ap (λ (x : Answer). x .memory .pair) e }
 
 pub work-cleared : WorkCleared
 work-cleared s m a c h =
-    let e : a ≡ past s m (own s m .good) = c ∙ call-ends s m ∙ ap (λ (o : Option ℕ). ends s m o (own s m .good)) h in
-    let k = cleared-ends s m (own s m .good) in
-    record { words = ap (λ (x : Answer). x .memory .words) e ∙ k .0; floats = ap (λ (x : Answer). x .memory .floats) e ∙ k .1 }
+    let e = c ∙ call-ends s m in
+    let k = words-end s m (firstMissed s (lengths m)) (workedOn s m) in
+    let w : workedOn s m ≡ clearedFor (gatesIn s) m = worked-by s m h in
+    record {
+      words = ap (λ (x : Answer). x .memory .words) e ∙ k .0 ∙ ap (λ (x : Memory). x .words) w;
+      floats = ap (λ (x : Answer). x .memory .floats) e ∙ k .1 ∙ ap (λ (x : Memory). x .floats) w;
+    }
 
 -- a call that answers 0 has an accepted sweep, and the counts it leaves are the sweep's
 pub call-accepts : (s : Sweep) (m : Memory) (a : Answer) → Called s m a → a .number ≡ 0 → Accepted s (a .memory .counts)
-unfolding outcome asked9
-call-accepts s m a c h =
-    let e = c ∙ call-ends s m in
-    record {
-      lent = lengths m;
-      regions = own s m .regions;
-      merges = length (own s m .merges);
-      yes =
-          accepts-ends s m (asked s (lengths m)) (own s m .good) (asked-none s (lengths m)) (sym (ap (λ (x : Answer). x .number) e) ∙ h)
-          ∙ ap (λ (x : Answer). accepted (x .memory .counts) (own s m .regions) (length (own s m .merges))) (sym e);
-    }
+unfolding outcome answered
+call-accepts s m a c h = record {
+  lent = lengths m;
+  regions = own s m .regions;
+  merges = length (own s m .merges);
+  yes =
+      ap (λ (o : Option ℕ). answered o (own s m)) (accepts s m a c h .0)
+      ∙ ap (λ (x : List ℤ). accepted x (own s m .regions) (length (own s m .merges))) (sym (counts-are s m a c h .counts));
+}
 
 pub echo-counts : EchoCounts
 echo-counts E s t m n a b c d y z alike p q = two-sweeps E s t (a .memory .counts) (b .memory .counts) (call-accepts s m a c y) (call-accepts t n b d z) alike p q

@@ -4,12 +4,12 @@ use Prim.Native.Nat.{ℕ, _<_}
 use mathlib.Core.Path.{_≡_}
 use mathlib.Core.Bool.{Bool, true, false}
 use mathlib.Core.List.{List, [], _∷_}
-use mathlib.Core.Option.{Option, none, some}
+use mathlib.Core.Option.{none, some}
 use lib.ListN.{length, getD}
 use lib.IntN.{pos, _+ℤ_}
 use Rattle.network.specs.Network.{replay}
 use Rattle.sweep.specs.Sweep.{Sweep, unfolded}
-use Rattle.sweep.specs.Checks.{Lent, gatesIn, asked, ownLimits}
+use Rattle.sweep.specs.Checks.{gatesIn, asked, firstMissed, ownLimits}
 use Rattle.sweep.specs.Call.{Memory, Answer, lengths, clearedFor, call}
 use Rattle.sweep.specs.Entry.{answerOf}
 use Rattle.locality.specs.Demand3.{Apart, MergeList, Does, first, countAt, Alike, offset, Agree}
@@ -17,10 +17,6 @@ use Rattle.locality.specs.Demand3.{Apart, MergeList, Does, first, countA
 -- the contract of the entry
 abbrev pub Called : Sweep → Memory → Answer → Type 0
 Called s m a = a ≡ call s m
-
--- the first of the nine questions that gets a no
-unfoldable pub firstMissed : Sweep → Lent → Option ℕ
-firstMissed s l = elim (asked s l) [ none ↦ elim (unfolded s (ownLimits s) .good) [ true ↦ none | false ↦ some 9 ] | some k ↦ some k ]
 
 -- `answer-is`: the answer is the number of the first question that gets a no, and 0 where none does
 abbrev pub AnswerIs : Type 0

@@ -17,11 +17,11 @@ use Rattle.arithmetic.specs.declared.intervals.Plan.{Plan}
 use Rattle.arithmetic.proofs.Plans.{plan-number, plan-limits-are}
 use Rattle.arithmetic.proofs.Rising.{sweep-limits-rise}
 use Rattle.sweep.specs.Sweep.{Sweep, unfolded}
-use Rattle.sweep.specs.Checks.{ask, firstNo, sevenOf, gatesIn, inLimits, atMost, ownLimits, asked, asked9}
-use Rattle.sweep.specs.Call.{Memory, Answer, lengths, clearedFor, ending, call}
+use Rattle.sweep.specs.Checks.{refused, ask, firstNo, sevenOf, gatesIn, inLimits, atMost, ownLimits, asked, asked9}
+use Rattle.sweep.specs.Call.{Memory, Answer, lengths, clearedFor, workedOn, ending, call}
 use Rattle.sweep.specs.Entry.{answerOf}
 use Rattle.sweep.proofs.QuestionLaws.{orElse}
-use Rattle.sweep.proofs.CheckLaws.{passed, asked-eight}
+use Rattle.sweep.proofs.CheckLaws.{passed, asked-eight, outcome-by}
 
 -- question 8 as the code puts it
 pub limits-test : (z : ℤ) → leZ z (pos 10000) ≡ atMost 10000 z
@@ -41,12 +41,12 @@ module _ (s : Sweep) (m : Memory) where
   endBy (some k) = record { number = k; memory = m }
 
   call-by : (o : Option ℕ) → asked s (lengths m) ≡ o → endBy o ≡ call s m
-  unfolding call endBy
-  call-by o e = go (asked s (lengths m)) e
+  unfolding call workedOn
+  call-by o e = go o ∙ sym (λ i. ending (outcome-by s (lengths m) o e i) (elim (e i) [ none ↦ clearedFor (gatesIn s) m | some k ↦ m ]))
     where
-      go : (q : Option ℕ) → q ≡ o → endBy o ≡ elim q [ none ↦ ending (asked9 (unfolded s (ownLimits s))) (clearedFor (gatesIn s) m) | some k ↦ record { number = k; memory = m } ]
-      go none e = ap endBy (sym e)
-      go (some k) e = ap endBy (sym e)
+      go : (o : Option ℕ) → endBy o ≡ ending (elim o [ none ↦ asked9 (unfolded s (ownLimits s)) | some k ↦ refused k ]) (elim o [ none ↦ clearedFor (gatesIn s) m | some k ↦ m ])
+      go none = unfold endBy in refl
+      go (some k) = unfold endBy ending in refl
 
   pub call-missed : (r : ℕ) → r ≡ answerOf (firstNo (sevenOf s (lengths m))) → (r ≡ 0 → ⊥) → _≡_ {A = Answer} (record { number = r; memory = m }) (call s m)
   call-missed r e h = go (firstNo (sevenOf s (lengths m))) e (asked-eight s (lengths m))

@@ -5,7 +5,7 @@ use native.Mathlib.Nat.{mul-le-mul}
 use mathlib.Core.Path.{_≡_, refl, sym, ap, _∙_}
 use mathlib.Core.Bool.{Bool, true, false, not, _&&_}
 use mathlib.Core.List.{List, [], _∷_}
-use mathlib.Core.Option.{none, some}
+use mathlib.Core.Option.{Option, none, some}
 use lib.Dec.{T, eqb, leb}
 use lib.ListN.{length, getD}
 use lib.IntN.{pos, negsuc}
@@ -16,8 +16,35 @@ use Rattle.arithmetic.specs.Intervals.{valid, sized, fair}
 use Rattle.arithmetic.specs.Asked.{Asked}
 use Rattle.arithmetic.proofs.Plans.{T-of}
 use Rattle.arithmetic.proofs.AllLaws.{and-left, and-right}
-use Rattle.sweep.specs.Sweep.{Sweep}
-use Rattle.sweep.specs.Checks.{Lent, ask, firstNo, gatesIn, wordsFor, floatsFor, inSize, inLength, inMask, inRoom, inOptions, inSpeed, inLimits, seven, room, sevenOf, asked}
+use Rattle.sweep.specs.Sweep.{Sweep, Unfolded, unfolded}
+use Rattle.sweep.specs.Checks.{
+  Lent,
+  Question,
+  refused,
+  ask,
+  firstNo,
+  gatesIn,
+  wordsFor,
+  floatsFor,
+  inSize,
+  inLength,
+  inMask,
+  inRoom,
+  inOptions,
+  inSpeed,
+  inLimits,
+  seven,
+  room,
+  sevenOf,
+  eightOf,
+  nineOf,
+  ownLimits,
+  asked,
+  firstMissed,
+  answered,
+  asked9,
+  outcome,
+}
 use Rattle.sweep.specs.declared.questions.Room.{Room}
 use Rattle.sweep.specs.Entry.{answerOf}
 use Rattle.sweep.proofs.QuestionLaws.{orElse, list-after, zero-none, all-yes}
@@ -186,14 +213,30 @@ module _ (s : Sweep) (l : Lent) where
 
   -- no question has the number 0
   pub seven-none : (r : ℕ) → r ≡ answerOf (firstNo (sevenOf s l)) → r ≡ 0 → firstNo (sevenOf s l) ≡ none
-  unfolding seven
-  seven-none r e h = zero-none _ (omega arith, (omega arith, (omega arith, (omega arith, (omega arith, (omega arith, (omega arith, tt))))))) (sym e ∙ h)
+  unfolding seven all
+  seven-none r e h = zero-none (sevenOf s l) refl (sym e ∙ h)
 
   -- questions 1 to 8 are questions 1 to 7 and then question 8
   pub asked-eight : asked s l ≡ orElse (firstNo (sevenOf s l)) (firstNo (ask 8 (inLimits s) ∷ []))
   unfolding asked
   asked-eight = list-after (sevenOf s l) (ask 8 (inLimits s) ∷ [])
 
-  pub asked-none : answerOf (asked s l) ≡ 0 → asked s l ≡ none
-  unfolding asked seven
-  asked-none = zero-none _ (omega arith, (omega arith, (omega arith, (omega arith, (omega arith, (omega arith, (omega arith, (omega arith, tt))))))))
+  pub missed-none : answerOf (firstMissed s l) ≡ 0 → firstMissed s l ≡ none
+  unfolding firstMissed seven all
+  missed-none = zero-none (nineOf s l) refl
+
+  -- the sweep by its own limits, and question 9 put to it
+  abbrev own : Unfolded
+  own = unfolded s (ownLimits s)
+
+  abbrev nine : List Question
+  nine = ask 9 (own .good) ∷ []
+
+  -- question 9 after questions 1 to 8
+  pub outcome-by : (o : Option ℕ) → asked s l ≡ o → outcome s l ≡ elim o [ none ↦ asked9 (unfolded s (ownLimits s)) | some k ↦ refused k ]
+  unfolding outcome firstMissed asked
+  outcome-by o e = ap (λ (q : Option ℕ). answered q own) (list-after (eightOf s l) nine ∙ ap (λ (q : Option ℕ). orElse q (firstNo nine)) e) ∙ go o
+    where
+      go : (o : Option ℕ) → answered (orElse o (firstNo nine)) own ≡ elim o [ none ↦ asked9 own | some k ↦ refused k ]
+      go none = unfold asked9 in refl
+      go (some k) = unfold answered in refl

@@ -19,7 +19,7 @@ use Rattle.arithmetic.proofs.SeqLaws.{tab-same}
 use Rattle.labels.specs.Label.{Found}
 use Rattle.network.specs.Network.{alone, start, merges, replay, trace, countOf, gatesOf, networkBy, goodBy}
 use Rattle.sweep.specs.Sweep.{Sweep, orZero, sizes, networkOf, final, early, weighed, meanOf, offsetOf, gateCount, ended, finished, unfoldedBy}
-use Rattle.sweep.specs.Checks.{asked9}
+use Rattle.sweep.specs.Checks.{firstNo, answered, asked9}
 use Rattle.sweep.proofs.Early.{early-merges, early-counts}
 
 -- ---- a zero divided by anything rounds to 0, or is no number
@@ -110,7 +110,7 @@ module _ (s : Sweep) (f : Found) (h : early s f ≡ true) where
   early-good = rw (early-merges s f h) (unfold trace all in refl)
 
   early-same : asked9 (finished s f (networkOf s f)) ≡ asked9 (ended s f)
-  unfolding finished ended asked9
+  unfolding finished ended asked9 answered firstNo
   early-same = rw (early-good, early-merges s f h, early-gates) refl
 
 pub ends-same : (s : Sweep) (f : Found) → asked9 (finished s f (networkOf s f)) ≡ asked9 (unfoldedBy s f)

@@ -26,7 +26,7 @@ use Rattle.network.specs.declared.find.Run.{Run}
 use Rattle.network.specs.declared.find.Finding.{Finding}
 use Rattle.network.specs.declared.find.Finding.the-variants.{Regions, Refused}
 use Rattle.sweep.specs.Sweep.{Sweep, orZero, weighed, meanOf, networkOf, offsetOf, final, gateCount, finished, unfoldedBy}
-use Rattle.sweep.specs.Checks.{Outcome, asked9}
+use Rattle.sweep.specs.Checks.{Outcome, firstNo, answered, asked9}
 use Rattle.sweep.specs.Call.{ending}
 use Rattle.sweep.specs.Entry.{sweepBy}
 use Rattle.sweep.specs.Mean.{sumFrom, sizeAt, heldAt}
@@ -173,13 +173,13 @@ module _ (o : Options) (vel : List Float) (mask : List ℕ) (F : Found) (n : ℕ
       where
         accepted-end : goodBy t ≡ true
             → ending (asked9 (finished s F t)) (lent cs p) ≡ record { number = 0; memory = lent (tabulate (length mask) (λ g. gateCount (offsetOf s (final t)) (getD mask g 0) (countOf (final t .regions) (getD L g 0)))) (k ∷ length (merges t) ∷ []) }
-        accepted-end e = unfold ending asked9 finished in rw e refl
+        accepted-end e = unfold ending asked9 answered firstNo finished in rw e refl
 
   written-bad : goodBy t ≡ false → (cs : List ℤ) (p : List ℕ) → written x v mask (o .centred) cs p ≡ ending (asked9 (finished s F t)) (lent cs p)
   written-bad e cs p = ap (λ (y : Finding). written y v mask (o .centred) cs p) (R .refused e) ∙ sym (refused-end e)
     where
       refused-end : goodBy t ≡ false → ending (asked9 (finished s F t)) (lent cs p) ≡ record { number = 9; memory = lent cs p }
-      refused-end e = unfold ending asked9 finished in rw e refl
+      refused-end e = unfold ending asked9 answered firstNo finished in rw e refl
 
   pub written-is : (cs : List ℤ) (p : List ℕ) → written x v mask (o .centred) cs p ≡ ending (asked9 (unfoldedBy s F)) (lent cs p)
   written-is cs p =

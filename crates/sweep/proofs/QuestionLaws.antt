@@ -10,13 +10,14 @@ use mathlib.Core.List.{List, [], _∷_, _++_}
 use mathlib.Core.Option.{Option, none, some, Option·none-ne-some}
 use mir.Syntax.{w64}
 use mir.Val.{Fits}
-use lib.Dec.{eqb, leb}
+use lib.Dec.{eqb, leb, ltb}
 use lib.ListN.{length, getD, drop, drop-of-length-le}
 use lib.Seq.{drop-cons}
 use lib.Ieee.{Float, nan}
-use borrow.Author.Tests.{le-leb, lt-leb, eq-eqb, ne-eqb}
-use Rattle.arithmetic.specs.Seq.{all, All}
+use borrow.Author.Tests.{le-leb, lt-leb, ltb-true, eq-eqb, ne-eqb}
+use Rattle.arithmetic.specs.Seq.{all}
 use Rattle.arithmetic.specs.Intervals.{valid, fair}
+use Rattle.arithmetic.proofs.AllLaws.{and-left, and-right}
 use Rattle.sweep.specs.Checks.{Question, firstNo, inMask, inSpeed}
 use Rattle.sweep.specs.Entry.{answerOf}
 
@@ -49,14 +50,17 @@ list-after (q ∷ qs) rs = go (q .yes) (list-after qs rs)
     go false ih = refl
 
 -- zero is none, where no question has the number 0
-pub zero-none : (qs : List Question) → All (λ q. 0 < q .number) qs → answerOf (firstNo qs) ≡ 0 → firstNo qs ≡ none
-unfolding firstNo
+pub zero-none : (qs : List Question) → all (λ q. ltb 0 (q .number)) qs ≡ true → answerOf (firstNo qs) ≡ 0 → firstNo qs ≡ none
+unfolding firstNo all
 zero-none [] t h = refl
-zero-none (q ∷ qs) t h = go (q .yes) h (zero-none qs (t .1))
+zero-none (q ∷ qs) t h = go (q .yes) h (zero-none qs (and-right (ltb 0 (q .number)) (all (λ q. ltb 0 (q .number)) qs) t))
   where
+    above : 0 < q .number
+    above = ltb-true 0 (q .number) (and-left (ltb 0 (q .number)) (all (λ q. ltb 0 (q .number)) qs) t)
+
     go : (b : Bool) → answerOf (elim b [ true ↦ firstNo qs | false ↦ some (q .number) ]) ≡ 0 → (answerOf (firstNo qs) ≡ 0 → firstNo qs ≡ none) → _≡_ {A = Option ℕ} (elim b [ true ↦ firstNo qs | false ↦ some (q .number) ]) none
     go true h ih = ih h
-    go false h ih = absurd (omega (arith, t .0))
+    go false h ih = absurd (omega (arith, above))
 
 -- where no question gets a no, the first gets a yes, and none of the rest gets a no
 pub all-yes : (q : Question) (qs : List Question) → firstNo (q ∷ qs) ≡ none → (q .yes ≡ true) × (firstNo qs ≡ none)

@@ -134,8 +134,8 @@ module _ (u : Counted) (k : ℕ) where
 
   -- no question has the number 0
   pub none-missed : (r : ℕ) → r ≡ answerOf (askedVelocity u k) → r ≡ 0 → askedVelocity u k ≡ none
-  unfolding askedVelocity
-  none-missed r e h = zero-none _ (omega arith, (omega arith, (omega arith, (omega arith, (omega arith, (omega arith, tt)))))) (sym e ∙ h)
+  unfolding askedVelocity all
+  none-missed r e h = zero-none _ refl (sym e ∙ h)
 
   pub all-long : askedVelocity u k ≡ none → Long
   unfolding askedVelocity

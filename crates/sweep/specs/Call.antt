@@ -6,8 +6,8 @@ use lib.ListN.{length, drop, replicate}
 use lib.IntN.{ℤ, pos}
 use lib.Ieee.{Float}
 use Rattle.arithmetic.specs.Rounding.{real}
-use Rattle.sweep.specs.Sweep.{Sweep, unfolded}
-use Rattle.sweep.specs.Checks.{Lent, Outcome, refused, accepted, gatesIn, wordsFor, floatsFor, asked, asked9, ownLimits}
+use Rattle.sweep.specs.Sweep.{Sweep}
+use Rattle.sweep.specs.Checks.{Lent, Outcome, refused, accepted, gatesIn, wordsFor, floatsFor, asked, outcome}
 
 -- the counts, the pair and the two work memories
 pub record Memory : Type 0 where
@@ -45,14 +45,15 @@ clearedFor n m = record {
   floats = cleared (real (pos 0)) (floatsFor n) (m .floats);
 }
 
--- the end of a call that put question 9
+-- the memory that a call works on: cleared at its end once questions 1 to 8 have got a yes
+unfoldable pub workedOn : Sweep → Memory → Memory
+workedOn s m = elim (asked s (lengths m)) [ none ↦ clearedFor (gatesIn s) m | some k ↦ m ]
+
+-- the end of a call: counts and pair are written where it is accepted
 unfoldable pub ending : Outcome → Memory → Answer
 ending (refused k) m = record { number = k; memory = m }
 ending (accepted cs r k) m = record { number = 0; memory = record { counts = cs; pair = r ∷ k ∷ []; words = m .words; floats = m .floats } }
 
--- the call: a refusal by questions 1 to 8 leaves everything; after that the work memory is cleared
+-- the call
 unfoldable pub call : Sweep → Memory → Answer
-call s m = elim (asked s (lengths m)) [
-  | none ↦ ending (asked9 (unfolded s (ownLimits s))) (clearedFor (gatesIn s) m)
-  | some k ↦ record { number = k; memory = m }
-]
+call s m = ending (outcome s (lengths m)) (workedOn s m)

@@ -103,18 +103,35 @@ abbrev pub sevenOf : Sweep → Lent → List Question
 sevenOf s l = seven s (room (gatesIn s) l)
 
 -- questions 1 to 8
+abbrev pub eightOf : Sweep → Lent → List Question
+eightOf s l = sevenOf s l ++ (ask 8 (inLimits s) ∷ [])
+
+-- all nine, question 9 being put to the sweep with its own limits
+abbrev pub nineOf : Sweep → Lent → List Question
+nineOf s l = eightOf s l ++ (ask 9 (unfolded s (ownLimits s) .good) ∷ [])
+
+-- the first of questions 1 to 8 that gets a no
 unfoldable pub asked : Sweep → Lent → Option ℕ
-asked s l = firstNo (sevenOf s l ++ (ask 8 (inLimits s) ∷ []))
+asked s l = firstNo (eightOf s l)
+
+-- the first of all nine
+unfoldable pub firstMissed : Sweep → Lent → Option ℕ
+firstMissed s l = firstNo (nineOf s l)
 
 -- the answer: a refusal by its number, or the counts, regions and number of merges
 pub data Outcome : Type 0 where
   refused : ℕ → Outcome
   accepted : List ℤ → ℕ → ℕ → Outcome
 
--- question 9
-unfoldable pub asked9 : Unfolded → Outcome
-asked9 u = elim (u .good) [ true ↦ accepted (u .counts) (u .regions) (length (u .merges)) | false ↦ refused 9 ]
+-- the answer by the first no
+unfoldable pub answered : Option ℕ → Unfolded → Outcome
+answered none u = accepted (u .counts) (u .regions) (length (u .merges))
+answered (some k) u = refused k
 
 -- the answer of a call
 unfoldable pub outcome : Sweep → Lent → Outcome
-outcome s l = elim (asked s l) [ none ↦ asked9 (unfolded s (ownLimits s)) | some k ↦ refused k ]
+outcome s l = answered (firstMissed s l) (unfolded s (ownLimits s))
+
+-- the answer where questions 1 to 8 got a yes
+unfoldable pub asked9 : Unfolded → Outcome
+asked9 u = answered (firstNo (ask 9 (u .good) ∷ [])) u
