@@ -19,7 +19,7 @@ fn answer(s: gates::Setting, velocity: &[f32], valid: &[u8])
     let mut pair = [0u32; 2];
     let mut words = arrays::words();
     let mut floats = arrays::floats();
-    let number = sweep::exports::jivakkol_dealias_sweep(
+    let number = jivakkol::exports::jivakkol_dealias_sweep(
         s.rays,
         s.gates,
         s.nyquist,

@@ -59,6 +59,10 @@ pub record Written : Type 0 where
   pub number : ℕ
   pub unfolded : List Float
 
+-- the same, of what the slice holds
+abbrev pub writtenBy : ℕ → List Float → Written
+writtenBy r out = record { number = r; unfolded = out }
+
 -- the call: a refusal leaves what was lent
 unfoldable pub callVelocity : Counted → List Float → Written
 callVelocity u out = elim (askedVelocity u (length out)) [ none ↦ record { number = 0; unfolded = velocities u } | some k ↦ record { number = k; unfolded = out } ]

@@ -1,6 +1,5 @@
-// The two exported entries, and what they are built of.
+// The sweep call and the second entry, and the questions that they put.
 pub mod entry;
-pub mod exports;
 pub mod questions;
 pub mod sweep;
 pub mod velocity;

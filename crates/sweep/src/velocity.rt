@@ -1,10 +1,10 @@
-// The second entry's work, from fold counts to unfolded velocities in f64, one rounding an operation.
+// The second entry, from fold counts to unfolded velocities in f64, one rounding an operation.
 ghost use mathlib.Core.Path.{_≡_};
 ghost use lib.ListN.{length, getD};
 ghost use lib.IntN.{pos};
 ghost use lib.Ieee.{nan};
 ghost use Rattle.arithmetic.specs.Seq.{tabulate};
-ghost use Rattle.sweep.specs.Velocity.{unfoldedAt};
+ghost use Rattle.sweep.specs.Velocity.{unfoldedAt, callVelocity, counted, writtenBy};
 
 // A gate's unfolded velocity: 0 where it is masked.
 fn unfolded_at(nyquist: f32, v: f32, valid: u8, count: i32) -> f64
@@ -33,4 +33,36 @@ pub fn unfold_gates(
         unfolded[i] = unfolded_at(nyquist, velocity[i], valid[i], folds[i]);
         i += 1;
     }
+}
+
+// The call of the second entry: its questions, then every gate's unfolded velocity.
+pub fn unfold_velocity(
+    rays: u32,
+    gates: u32,
+    nyquist: f32,
+    velocity: &[f32],
+    valid: &[u8],
+    folds: &[i32],
+    unfolded: &mut [f64],
+) -> u32
+    ensures { λ r. ⌜ (
+        let u = counted rays gates nyquist (now (velocity .entry)) (now (valid .entry)) (now (folds .entry)) in
+        writtenBy r (now (unfolded .exit)) ≡ callVelocity u (now (unfolded .entry))
+        ) ⌝ }
+{
+    let n = unfolded.len();
+    let missed = crate::questions::first_missed_velocity(
+        rays,
+        gates,
+        nyquist,
+        velocity,
+        valid,
+        folds,
+        n,
+    );
+    if missed != 0 {
+        return missed;
+    }
+    unfold_gates(nyquist, velocity, valid, folds, unfolded);
+    0
 }

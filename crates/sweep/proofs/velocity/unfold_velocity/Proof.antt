@@ -1,4 +1,4 @@
--- `sweep::exports::jivakkol_unfold_velocity` meets its contract. Assumes nothing.
+-- `sweep::velocity::unfold_velocity` meets its contract. Assumes nothing.
 use mathlib.Core.Option.{none}
 use native.Mathlib.Omega.{arith}
 use mathlib.Core.Path.{_≡_, sym, _∙_}
@@ -6,8 +6,8 @@ use lib.ListN.{length}
 use borrow.Author.Needs.{needs}
 use Rattle.sweep.proofs.VelocityLaws.{none-missed, all-long, velocity-refused, unfolds}
 use Rattle.sweep.specs.Velocity.{Counted, askedVelocity}
-use Rattle.sweep.proofs.exports.jivakkol_unfold_velocity.Statement.{statement}
-use Rattle.sweep.proofs.exports.jivakkol_unfold_velocity.Tie as tie
+use Rattle.sweep.proofs.velocity.unfold_velocity.Statement.{statement}
+use Rattle.sweep.proofs.velocity.unfold_velocity.Tie as tie
 
 -- the inputs that the parameters are
 abbrev countedAt : tie.Start → Counted
@@ -34,7 +34,7 @@ same-length c = search needs
 returns-2 : tie.Need-returns-2
 returns-2 c = unfolds (countedAt (c .before .before .before .before .before .before .before .before .before)) (c .before .before .before .before .before .before .before .before .before .args .unfolded .now) _ (all-yes (c .before .before .before .before)) (c .before .before .unfold-gates .ensures)
 
-pub jivakkol-unfold-velocity-spec : {M : Type 1} → statement M
-jivakkol-unfold-velocity-spec =
+pub unfold-velocity-spec : {M : Type 1} → statement M
+unfold-velocity-spec =
     tie.close
     (tie.spec first-missed-velocity-requires returns unfold-gates-requires same-length returns-2)

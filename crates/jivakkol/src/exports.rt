@@ -1,0 +1,61 @@
+// The entries that a host calls, under the names and in the order of include/jivakkol.h. Each hands its parameters on whole.
+ghost use mathlib.Core.Path.{_≡_};
+ghost use Rattle.sweep.specs.Call.{call, memoryOf, answerBy};
+ghost use Rattle.sweep.specs.Entry.{sweepOf};
+ghost use Rattle.sweep.specs.Velocity.{callVelocity, counted, writtenBy};
+
+// A sweep's fold counts, with the numbers of regions and of merges.
+#[no_mangle]
+pub extern "C" fn jivakkol_dealias_sweep(
+    rays: u32,
+    gates: u32,
+    nyquist: f32,
+    interval_splits: u32,
+    skip_between_rays: u32,
+    skip_along_ray: u32,
+    centered: u32,
+    rays_wrap_around: u32,
+    velocity: &[f32],
+    valid: &[u8],
+    folds: &mut [i32],
+    pair: &mut [u32],
+    work: &mut [u32],
+    work_f64: &mut [f64],
+) -> u32
+    ensures { λ r. ⌜ (
+        let s = sweepOf rays gates nyquist «interval_splits» «skip_between_rays» «skip_along_ray» centered «rays_wrap_around» (now (velocity .entry)) (now (valid .entry)) in
+        let m = memoryOf (now (folds .entry)) (now (pair .entry)) (now (work .entry)) (now («work_f64» .entry)) in
+        answerBy r (now (folds .exit)) (now (pair .exit)) (now (work .exit)) (now («work_f64» .exit)) ≡ call s m
+        ) ⌝ }
+{
+    let o = network::options::Options {
+        rays: rays,
+        gates: gates,
+        nyquist: nyquist,
+        splits: interval_splits,
+        skip_between_rays: skip_between_rays,
+        skip_along_ray: skip_along_ray,
+        centred: centered,
+        wrap: rays_wrap_around,
+    };
+    sweep::entry::dealias_sweep(o, velocity, valid, folds, pair, work, work_f64)
+}
+
+// Unfolded velocities from fold counts.
+#[no_mangle]
+pub extern "C" fn jivakkol_unfold_velocity(
+    rays: u32,
+    gates: u32,
+    nyquist: f32,
+    velocity: &[f32],
+    valid: &[u8],
+    folds: &[i32],
+    unfolded: &mut [f64],
+) -> u32
+    ensures { λ r. ⌜ (
+        let u = counted rays gates nyquist (now (velocity .entry)) (now (valid .entry)) (now (folds .entry)) in
+        writtenBy r (now (unfolded .exit)) ≡ callVelocity u (now (unfolded .entry))
+        ) ⌝ }
+{
+    sweep::velocity::unfold_velocity(rays, gates, nyquist, velocity, valid, folds, unfolded)
+}

@@ -1,0 +1,2 @@
+// The library's boundary: what a host links.
+pub mod exports;
