@@ -6,8 +6,9 @@ use mathlib.Core.List.{List, [], _∷_, foldl}
 use mathlib.Core.Option.{Option, none, some}
 use lib.Dec.{leb, ltb, eqb}
 use lib.ListN.{length, getD}
-use lib.Ieee.{Float, nan, binary64, add}
+use lib.Ieee.{Float, nan, binary64, add, sub, div}
 use Rattle.arithmetic.specs.Seq.{upto, keep, each}
+use Rattle.arithmetic.specs.Rounding.{narrowed}
 use Rattle.edges.specs.declared.edges.EdgeRecord.{EdgeRecord}
 
 -- rays, gates per ray, the two skips, and whether rays wrap
@@ -79,6 +80,10 @@ begun p = record { one = p .one; two = p .two; count = 1; sum1 = p .vel1; sum2 =
 -- a record with one more pair
 unfoldable pub plus : EdgeRecord → Pair → EdgeRecord
 plus r p = record { one = r .one; two = r .two; count = suc (r .count); sum1 = add binary64 (r .sum1) (p .vel1); sum2 = add binary64 (r .sum2) (p .vel2) }
+
+-- the difference of a record: (sum1 − sum2)/(2 × Nyquist) in f64, narrowed to f32; w is 2 × Nyquist
+unfoldable pub difference : Float → EdgeRecord → Float
+difference w r = narrowed (div binary64 (sub binary64 (r .sum1) (r .sum2)) w)
 
 -- pairs gathered into one record, in their order: none if there are none
 unfoldable pub gathered : List Pair → List EdgeRecord

@@ -4,11 +4,10 @@ use mathlib.Core.Path.{_≡_}
 use mathlib.Core.Bool.{true, false}
 use mathlib.Core.List.{List, map}
 use lib.ListN.{length, getD, set}
-use lib.Ieee.{Float, binary64, sub, div}
+use lib.Ieee.{Float}
 use Rattle.arithmetic.specs.Seq.{upto}
-use Rattle.arithmetic.specs.Rounding.{narrowed}
 use Rattle.arithmetic.specs.Seg.{seg, put}
-use Rattle.edges.specs.Edges.{Pair, begun, plus}
+use Rattle.edges.specs.Edges.{Pair, begun, plus, difference}
 use Rattle.edges.specs.GatePairs.{both, pairOf}
 use Rattle.memory.specs.Layout.{gateAt, farAt, orderAt, firstAt, secondAt, enextAt}
 use Rattle.edges.specs.Order.{alike, runs}
@@ -47,9 +46,6 @@ Legible w n m = (vel : List Float) × Ready w vel n m
 abbrev pub LabelsAt : List ℕ → ℕ → ℕ → Labels → Type 0
 LabelsAt w n i r = (vel : List Float) → (r .one ≡ pairAt w vel n i .one) × (r .two ≡ pairAt w vel n i .two)
 
-unfoldable pub diffOf : Float → EdgeRecord → Float
-diffOf wide r = narrowed (div binary64 (sub binary64 (r .sum1) (r .sum2)) wide)
-
 -- edge e written
 unfoldable pub written : List ℕ → ℕ → ℕ → ℕ → EdgeRecord → List ℕ
 written w t c e r = set (set (set w (t + e) (r .count)) (t + firstAt c + e) (r .one)) (t + secondAt c + e) (r .two)
@@ -68,7 +64,7 @@ pub record Slot (w : List ℕ) (d : List Float) (n m t c e : ℕ) : Type 0 where
 -- one turn, at pair p: the record goes on, or is written and another begun
 pub record Turned (wide : Float) (t c : ℕ) (p : Pair) (s r : Gathering) (w v : List ℕ) (d b : List Float) : Type 0 where
   pub on : alike (s .«record») p ≡ true → (v ≡ w) × (b ≡ d) × (r .«record» ≡ plus (s .«record») p) × (r .edges ≡ s .edges)
-  pub off : alike (s .«record») p ≡ false → (v ≡ written w t c (s .edges) (s .«record»)) × (b ≡ set d (s .edges) (diffOf wide (s .«record»))) × (r .«record» ≡ begun p) × (r .edges ≡ s .edges + 1)
+  pub off : alike (s .«record») p ≡ false → (v ≡ written w t c (s .edges) (s .«record»)) × (b ≡ set d (s .edges) (difference wide (s .«record»))) × (r .«record» ≡ begun p) × (r .edges ≡ s .edges + 1)
 
 -- what gathering asks: room for all runs
 pub record Gathers (w : List ℕ) (d vel : List Float) (n m t c : ℕ) : Type 0 where
@@ -81,5 +77,5 @@ pub record Gathers (w : List ℕ) (d vel : List Float) (n m t c : ℕ) : Type 0 
 -- and gives
 pub record Gathered (wide : Float) (w v : List ℕ) (d b : List Float) (t c e : ℕ) (rs : List EdgeRecord) : Type 0 where
   pub words : v ≡ tables w t c rs
-  pub diffs : b ≡ put d 0 (map (diffOf wide) rs)
+  pub diffs : b ≡ put d 0 (map (difference wide) rs)
   pub count : e ≡ length rs

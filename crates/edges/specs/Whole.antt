@@ -6,7 +6,7 @@ use lib.ListN.{length, getD}
 use lib.Ieee.{Float}
 use Rattle.arithmetic.specs.Seg.{seg}
 use Rattle.edges.specs.declared.edges.Frame.{Frame}
-use Rattle.edges.specs.Gather.{diffOf}
+use Rattle.edges.specs.Edges.{difference}
 use Rattle.memory.specs.Layout.{orderAt, tallyAt, firstAt, secondAt, enextAt}
 use Rattle.edges.specs.Order.{weigh}
 use Rattle.edges.specs.declared.edges.EdgeRecord.{EdgeRecord}
@@ -30,5 +30,5 @@ pub record Edged (wide : Float) (n : ℕ) (u v : List ℕ) (b : List Float) (t e
   pub weight : seg v t e ≡ map (λ r. r .count) rs
   pub first : seg v (t + firstAt e) e ≡ map (λ r. r .one) rs
   pub second : seg v (t + secondAt e) e ≡ map (λ r. r .two) rs
-  pub diff : seg b 0 e ≡ map (diffOf wide) rs
+  pub diff : seg b 0 e ≡ map (difference wide) rs
   pub labels : seg v 0 n ≡ seg u 0 n

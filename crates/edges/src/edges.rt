@@ -7,9 +7,9 @@ ghost use lib.Dec.{eqb};
 ghost use lib.ListN.{length, getD, set};
 ghost use Rattle.arithmetic.specs.Seg.{seg, put};
 ghost use Rattle.arithmetic.specs.Seq.{upto};
-ghost use Rattle.edges.specs.Edges.{next, left, right, top, bottom, look, sees, skip, begun, plus, pairs, used};
+ghost use Rattle.edges.specs.Edges.{next, left, right, top, bottom, look, sees, skip, begun, plus, difference, pairs, used};
 ghost use Rattle.edges.specs.Whole.{Asked, Edged};
-ghost use Rattle.edges.specs.Gather.{pairIs, pairAt, later, Ready, Legible, LabelsAt, diffOf, written, tables, Slot, Turned, Gathers, Gathered};
+ghost use Rattle.edges.specs.Gather.{pairIs, pairAt, later, Ready, Legible, LabelsAt, written, tables, Slot, Turned, Gathers, Gathered};
 ghost use Rattle.edges.specs.Order.{alike, runs};
 ghost use Rattle.edges.specs.Sorts.{labelsOf, Reads, Sorts, Sorted};
 ghost use Rattle.edges.specs.GatePairs.{gatePairTo, gatePairsAt, gatePairs, Adds, Sheet, Place};
@@ -294,7 +294,7 @@ pub fn go_on(s: EdgeRecord, p: Raw) -> EdgeRecord
 
 // The difference of a record.
 pub fn difference(s: EdgeRecord, wide: f64) -> f64
-    ensures { λ r. ⌜ r ≡ diffOf wide s ⌝ }
+    ensures { λ r. ⌜ r ≡ difference wide s ⌝ }
 {
     let y = arithmetic::narrow::to_f32((s.sum1 - s.sum2) / wide);
     std::num::f32_to_f64_with_nan(y)
@@ -312,7 +312,7 @@ pub fn put_edge(
 )
     requires { ⌜ (t + 5 * c ≤ length (now w)) × (c ≤ length (now d)) × (e < c) ⌝ }
     ensures { λ _. ⌜ now (w .exit) ≡ written (now (w .entry)) t c e s ⌝ }
-    ensures { λ _. ⌜ now (d .exit) ≡ set (now (d .entry)) e (diffOf wide s) ⌝ }
+    ensures { λ _. ⌜ now (d .exit) ≡ set (now (d .entry)) e (difference wide s) ⌝ }
 {
     w[t + e] = s.count;
     w[t + 3 * c + e] = s.one;

@@ -10,6 +10,7 @@ use lib.IntN.{pos}
 use Rattle.arithmetic.specs.Seq.{upto, keep, All}
 use Rattle.arithmetic.proofs.SeqLaws.{keep-of-map, keep-same, map-upto-same}
 use Rattle.labels.proofs.Spot.{spot, trues, shift, flag, spot-rises, rising-inj, shift-inj, shifts-kept, zero-plus, next-place}
+use Rattle.edges.specs.Edges.{difference}
 use Rattle.edges.specs.declared.edges.EdgeRecord.{EdgeRecord}
 use Rattle.network.specs.Network.{Region, merges, edgeOf, numbered, alone, start}
 use Rattle.network.proofs.Restrict.{edgeIn, regionIn, restrict, OkE, OkR, Closed}
@@ -64,7 +65,7 @@ module _ (bs : List Bool) (w : Float) where
 
   numbered-ren : (q : ℕ → Bool) (σ : ℕ → ℕ) (rs rs′ : List EdgeRecord) (k m : ℕ) → keep T rs ≡ map (renQ ρ) rs′ → ((i : ℕ) → q (k + i) ≡ edgeSide (flag bs) rs i)
       → ((i : ℕ) → σ (m + i) ≡ k + spot (map T rs) i) → keep (edgeIn (flag bs) q) (numbered w k rs) ≡ map (renE ρ σ) (numbered w m rs′)
-  unfolding numbered keep spot edgeSide edgeOf edgeIn renE renQ
+  unfolding numbered keep spot edgeSide edgeOf difference edgeIn renE renQ
   numbered-ren q σ [] [] k m e h r = refl
   numbered-ren q σ [] (x ∷ rs′) k m e h r = absurd (nil≢cons e)
   numbered-ren q σ (x ∷ rs) rs′ k m e h r = go (T x) refl rs′ e r (numbered-ren q σ rs)

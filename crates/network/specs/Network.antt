@@ -6,12 +6,12 @@ use Prim.Native.Nat.{ℕ, zero, suc, _+_}
 use lib.Dec.{leb, ltb, eqb}
 use lib.ListN.{length}
 use lib.IntN.{ℤ, pos, negsuc, _+ℤ_, negℤ}
-use lib.Ieee.{Float, binary32, binary64, add, sub, neg, div}
+use lib.Ieee.{Float, binary32, binary64, add, neg, div}
 use Rattle.arithmetic.specs.Seq.{upto, all, keep}
-use Rattle.arithmetic.specs.Rounding.{roundEven, narrowed, real, scale}
+use Rattle.arithmetic.specs.Rounding.{roundEven, real, scale}
 use Rattle.arithmetic.specs.declared.rounding.Rounded.{Rounded}
 use Rattle.arithmetic.specs.declared.rounding.Rounded.the-variants.{Whole, Outside}
-use Rattle.edges.specs.Edges.{Shape, pairs, used}
+use Rattle.edges.specs.Edges.{Shape, difference, pairs, used}
 use Rattle.edges.specs.declared.edges.EdgeRecord.{EdgeRecord}
 
 -- An edge's weight and difference: what follows its node when it moves.
@@ -295,7 +295,7 @@ edgeOf w k r = record {
   live = true;
   first = r .one;
   second = r .two;
-  link = record { weight = r .count; diff = narrowed (div binary64 (sub binary64 (r .sum1) (r .sum2)) w) };
+  link = record { weight = r .count; diff = difference w r };
 }
 
 -- The edges of records, numbered from k.

@@ -14,13 +14,13 @@ use Rattle.arithmetic.proofs.SegLaws.{length-seg, getD-seg, length-put, seg-put
 use Rattle.arithmetic.specs.Seq.{upto, each, All}
 use Rattle.arithmetic.proofs.SeqLaws.{upto-length}
 use Rattle.memory.specs.Sort.{pick, bucket, sorted}
-use Rattle.edges.specs.Edges.{Shape, left, right, top, bottom, sees, Pair, pairs, used}
+use Rattle.edges.specs.Edges.{Shape, left, right, top, bottom, sees, Pair, difference, pairs, used}
 use Rattle.edges.specs.declared.edges.Frame.{Frame}
 use Rattle.edges.specs.Sees.{shape}
 use Rattle.edges.specs.GatePairs.{GatePair, both, gatePairTo, gatePairsAt, gatePairs, pairOf, Adds, Sheet}
 use Rattle.edges.specs.Order.{ordered, runs, weigh}
 use Rattle.edges.specs.Sorts.{labelsOf, Sorts, Sorted}
-use Rattle.edges.specs.Gather.{pairAt, later, Ready, diffOf, tables, Gathers, Gathered}
+use Rattle.edges.specs.Gather.{pairAt, later, Ready, tables, Gathers, Gathered}
 use Rattle.edges.specs.Whole.{Asked, Edged}
 use Rattle.arithmetic.proofs.AllLaws.{all-append, all-each}
 use Rattle.edges.proofs.edges.Stored.{gates, fars, adds-labels, adds-length, adds-gates, adds-fars}
@@ -258,7 +258,7 @@ module _ (f : Frame) (u : List ℕ) (a vel : List Float) (n k t : ℕ) (q : Aske
             let lX : length (map (λ (r : EdgeRecord). r .count) R) ≡ e = length-map R (λ r. r .count) ∙ sym (r .count) in
             let lY : length (map (λ (r : EdgeRecord). r .one) R) ≡ e = length-map R (λ r. r .one) ∙ sym (r .count) in
             let lZ : length (map (λ (r : EdgeRecord). r .two) R) ≡ e = length-map R (λ r. r .two) ∙ sym (r .count) in
-            let lD : length (map (diffOf wide) R) ≡ e = length-map R (diffOf wide) ∙ sym (r .count) in
+            let lD : length (map (difference wide) R) ≡ e = length-map R (difference wide) ∙ sym (r .count) in
             let W1 : List ℕ = put v t (map (λ r. r .count) R) in
             let W2 : List ℕ = put W1 (t + 3 * c) (map (λ r. r .one) R) in
             let l1 : length W1 ≡ length v = length-put v t (map (λ r. r .count) R) in
@@ -286,7 +286,7 @@ module _ (f : Frame) (u : List ℕ) (a vel : List Float) (n k t : ℕ) (q : Aske
                   ∙ ap (map (λ (r : EdgeRecord). r .two)) runs-are;
               diff =
                   ap (λ (l : List Float). seg l 0 e) (r .diffs)
-                  ∙ ap (λ (x : ℕ). seg (put a 0 (map (diffOf wide) R)) 0 x) (sym lD) ∙ seg-put-same a 0 (map (diffOf wide) R) (omega (arith, q .diffs))
-                  ∙ ap (map (diffOf wide)) runs-are;
+                  ∙ ap (λ (x : ℕ). seg (put a 0 (map (difference wide) R)) 0 x) (sym lD) ∙ seg-put-same a 0 (map (difference wide) R) (omega (arith, q .diffs))
+                  ∙ ap (map (difference wide)) runs-are;
               labels = ap (λ (l : List ℕ). seg l 0 n) (r .words) ∙ tables-labels v t c R n (omega (arith, q .above)) ∙ labels-v;
             }

@@ -10,10 +10,10 @@ use Rattle.arithmetic.specs.Seq.{upto}
 use Rattle.arithmetic.proofs.SeqLaws.{map-append}
 use Rattle.arithmetic.specs.Seg.{seg, put}
 use Rattle.arithmetic.proofs.SegLaws.{length-put, put-snoc, set-put-below, getD-put-below, seg-put-below}
-use Rattle.edges.specs.Edges.{Pair, begun, plus}
+use Rattle.edges.specs.Edges.{Pair, begun, plus, difference}
 use Rattle.edges.specs.GatePairs.{pairOf}
 use Rattle.edges.specs.Order.{alike, runsFrom}
-use Rattle.edges.specs.Gather.{pairAt, later, Ready, diffOf, written, tables}
+use Rattle.edges.specs.Gather.{pairAt, later, Ready, written, tables}
 use Rattle.edges.proofs.edges.PairTurn.{label-at}
 use Rattle.edges.specs.declared.edges.EdgeRecord.{EdgeRecord}
 
@@ -105,11 +105,11 @@ pub tables-length : (w : List ℕ) (t c : ℕ) (rs : List EdgeRecord) → length
 unfolding tables
 tables-length w t c rs = simp length-put refl
 
-pub diffs-snoc : (wide : Float) (d : List Float) (e : ℕ) (rs : List EdgeRecord) (r : EdgeRecord) → e ≡ length rs → set (put d 0 (map (diffOf wide) rs)) e (diffOf wide r) ≡ put d 0 (map (diffOf wide) (rs ++ (r ∷ [])))
+pub diffs-snoc : (wide : Float) (d : List Float) (e : ℕ) (rs : List EdgeRecord) (r : EdgeRecord) → e ≡ length rs → set (put d 0 (map (difference wide) rs)) e (difference wide r) ≡ put d 0 (map (difference wide) (rs ++ (r ∷ [])))
 diffs-snoc wide d e rs r l =
-    ap (λ (x : ℕ). set (put d 0 (map (diffOf wide) rs)) x (diffOf wide r)) {x = e} {y = 0 + e} (omega arith)
-    ∙ snoc-at d 0 (map (diffOf wide) rs) e (diffOf wide r) (length-map rs (diffOf wide) ∙ sym l)
-    ∙ ap (put d 0) (sym (map-append (diffOf wide) rs (r ∷ [])))
+    ap (λ (x : ℕ). set (put d 0 (map (difference wide) rs)) x (difference wide r)) {x = e} {y = 0 + e} (omega arith)
+    ∙ snoc-at d 0 (map (difference wide) rs) e (difference wide r) (length-map rs (difference wide) ∙ sym l)
+    ∙ ap (put d 0) (sym (map-append (difference wide) rs (r ∷ [])))
 
 -- ---- pairs
 

@@ -8,12 +8,12 @@ use lib.ListN.{length, getD, set, length-append}
 use lib.Ieee.{Float}
 use Rattle.arithmetic.specs.Seg.{seg, put}
 use Rattle.arithmetic.proofs.SegLaws.{length-put}
-use Rattle.edges.specs.Edges.{Pair, begun, plus}
+use Rattle.edges.specs.Edges.{Pair, begun, plus, difference}
 use Rattle.edges.specs.declared.edges.Gathering.{Gathering}
 use Rattle.edges.specs.declared.edges.Raw.{Raw}
 use Rattle.edges.specs.GatePairs.{both, pairOf}
 use Rattle.edges.specs.Order.{alike, runs, runsFrom}
-use Rattle.edges.specs.Gather.{pairIs, pairAt, later, Ready, diffOf, written, tables, Slot, Turned, Gathers, Gathered}
+use Rattle.edges.specs.Gather.{pairIs, pairAt, later, Ready, written, tables, Slot, Turned, Gathers, Gathered}
 use Rattle.edges.proofs.edges.GatherLaws.{tables-snoc, tables-below, tables-labels, tables-length, diffs-snoc, later-cons, later-end, runs-some}
 use Rattle.edges.specs.declared.edges.EdgeRecord.{EdgeRecord}
 
@@ -21,7 +21,7 @@ use Rattle.edges.specs.declared.edges.EdgeRecord.{EdgeRecord}
 pub record Going (wide : Float) (u : List ℕ) (a vel : List Float) (n m t c : ℕ) (w : List ℕ) (d : List Float) (s : Gathering) (i : ℕ) : Type 0 where
   pub done : List EdgeRecord
   pub mem : w ≡ tables u t c done
-  pub diffs : d ≡ put a 0 (map (diffOf wide) done)
+  pub diffs : d ≡ put a 0 (map (difference wide) done)
   pub edges : s .edges ≡ length done
   pub rest : done ++ runsFrom (s .«record») (later u vel n m i) ≡ runs (later u vel n m 0)
   pub few : s .«record» .count ≤ i
@@ -54,7 +54,7 @@ module _ (wide : Float) (u : List ℕ) (a vel : List Float) (n m t c : ℕ) (lay
     lw = ap length (g .mem) ∙ tables-length u t c (g .done)
 
     pub ld : length d ≡ length a
-    ld = ap length (g .diffs) ∙ length-put a 0 (map (diffOf wide) (g .done))
+    ld = ap length (g .diffs) ∙ length-put a 0 (map (difference wide) (g .done))
 
     pub going-ready : Ready w vel n m
     going-ready =
@@ -93,8 +93,8 @@ module _ (wide : Float) (u : List ℕ) (a vel : List Float) (n m t c : ℕ) (lay
     closed : (v : List ℕ) → v ≡ written w t c (s .edges) (s .«record») → v ≡ tables u t c (g .done ++ (s .«record» ∷ []))
     closed v e = e ∙ ap (λ (l : List ℕ). written l t c (s .edges) (s .«record»)) (g .mem) ∙ tables-snoc u t c (s .edges) (g .done) (s .«record») (g .edges) (going-slot .place)
 
-    closed-diffs : (b : List Float) → b ≡ set d (s .edges) (diffOf wide (s .«record»)) → b ≡ put a 0 (map (diffOf wide) (g .done ++ (s .«record» ∷ [])))
-    closed-diffs b e = e ∙ ap (λ (l : List Float). set l (s .edges) (diffOf wide (s .«record»))) (g .diffs) ∙ diffs-snoc wide a (s .edges) (g .done) (s .«record») (g .edges)
+    closed-diffs : (b : List Float) → b ≡ set d (s .edges) (difference wide (s .«record»)) → b ≡ put a 0 (map (difference wide) (g .done ++ (s .«record» ∷ [])))
+    closed-diffs b e = e ∙ ap (λ (l : List Float). set l (s .edges) (difference wide (s .«record»))) (g .diffs) ∙ diffs-snoc wide a (s .edges) (g .done) (s .«record») (g .edges)
 
     one-more : length (g .done ++ (s .«record» ∷ [])) ≡ s .edges + 1
     one-more = omega (arith, length-append (g .done) (s .«record» ∷ []), g .edges)
@@ -131,13 +131,13 @@ module _ (wide : Float) (u : List ℕ) (a vel : List Float) (n m t c : ℕ) (lay
           few = omega (arith, ap (λ (z : EdgeRecord). z .count) (o .2));
         }
 
-    pub going-end : (v : List ℕ) (b : List Float) → m ≤ i → v ≡ written w t c (s .edges) (s .«record») → b ≡ set d (s .edges) (diffOf wide (s .«record»)) → Gathered wide u v a b t c (s .edges + 1) (runs (later u vel n m 0))
+    pub going-end : (v : List ℕ) (b : List Float) → m ≤ i → v ≡ written w t c (s .edges) (s .«record») → b ≡ set d (s .edges) (difference wide (s .«record»)) → Gathered wide u v a b t c (s .edges + 1) (runs (later u vel n m 0))
     unfolding runsFrom
     going-end v b h e f =
         let z : g .done ++ (s .«record» ∷ []) ≡ runs (later u vel n m 0) = rw (later-end u vel n m i h) at (g .rest) in
         record {
           words = closed v e ∙ ap (tables u t c) z;
-          diffs = closed-diffs b f ∙ ap (λ (l : List EdgeRecord). put a 0 (map (diffOf wide) l)) z;
+          diffs = closed-diffs b f ∙ ap (λ (l : List EdgeRecord). put a 0 (map (difference wide) l)) z;
           count = sym one-more ∙ ap length z;
         }
 
@@ -152,7 +152,7 @@ module _ (wide : Float) (t c : ℕ) (P : Pair) (s r : Gathering) (p : Raw) (b : 
     off = λ e. absurd (true≢false (sym h ∙ al ∙ ap (alike (s .«record»)) pi ∙ e));
   }
 
-  pub turned-off : b ≡ false → r .«record» ≡ begun (pairIs p) → r .edges ≡ s .edges + 1 → (w v : List ℕ) (d a : List Float) → v ≡ written w t c (s .edges) (s .«record») → a ≡ set d (s .edges) (diffOf wide (s .«record»)) → Turned wide t c P s r w v d a
+  pub turned-off : b ≡ false → r .«record» ≡ begun (pairIs p) → r .edges ≡ s .edges + 1 → (w v : List ℕ) (d a : List Float) → v ≡ written w t c (s .edges) (s .«record») → a ≡ set d (s .edges) (difference wide (s .«record»)) → Turned wide t c P s r w v d a
   turned-off h x y w v d a e f = record {
     on = λ q. absurd (true≢false (sym q ∙ sym (ap (alike (s .«record»)) pi) ∙ sym al ∙ h));
     off = λ q. (e, f, x ∙ ap begun pi, y);

@@ -17,12 +17,11 @@ use Rattle.arithmetic.specs.Rounding.{narrowed}
 use Rattle.arithmetic.proofs.SeqLaws.{tab-at}
 use Rattle.arithmetic.proofs.SegLaws.{lt-or-le, getD-seg}
 use Rattle.edges.specs.declared.edges.EdgeRecord.{EdgeRecord}
-use Rattle.edges.specs.Edges.{Pair, used}
+use Rattle.edges.specs.Edges.{Pair, difference, used}
 use Rattle.network.specs.Network as Network
 use Rattle.network.specs.Network.{Edge, Region, numbered, sizeIn, gatesOf}
 use Rattle.network.specs.Simple.{Simple, Joined}
 use Rattle.edges.specs.Order.{weigh}
-use Rattle.edges.specs.Gather.{diffOf}
 use Rattle.merge.specs.Mem.{Mem, total}
 use Rattle.merge.specs.Table.{weight, first, second, size}
 use Rattle.network.specs.Net.{rows, edgeOf}
@@ -40,7 +39,7 @@ pub record Filled (wide : Float) (k m : ℕ) (L : List ℕ) (rs : List EdgeRecor
   pub weight : s .at weight ≡ map (λ r. r .count) rs
   pub first : s .at first ≡ map (λ r. r .one) rs
   pub second : s .at second ≡ map (λ r. r .two) rs
-  pub diff : seg (s .diff) 0 m ≡ map (diffOf wide) rs
+  pub diff : seg (s .diff) 0 m ≡ map (difference wide) rs
   pub size : s .at size ≡ tabulate (k + 1) (sizeIn L)
 
 -- ---- an edge of the tables is the record's
@@ -126,13 +125,13 @@ module _ (wide : Float) (k m : ℕ) (L : List ℕ) (ps : List Pair) (s : Mem) (F
   pub second-of : (j : ℕ) → j < m → getD (s .at second) j 0 ≡ getD (used k ps) j blank .two
   second-of j h = ap (λ (l : List ℕ). getD l j 0) (F .second) ∙ map-getD (λ (r : EdgeRecord). r .two) (used k ps) j blank 0 (in-rs j h)
 
-  pub diff-of : (j : ℕ) → j < m → getD (s .diff) j nan ≡ diffOf wide (getD (used k ps) j blank)
+  pub diff-of : (j : ℕ) → j < m → getD (s .diff) j nan ≡ difference wide (getD (used k ps) j blank)
   diff-of j h =
       sym (getD-seg (s .diff) 0 m j nan h ∙ ap (λ (i : ℕ). getD (s .diff) i nan) (omega arith))
-      ∙ ap (λ (l : List Float). getD l j nan) (F .diff) ∙ map-getD (diffOf wide) (used k ps) j blank nan (in-rs j h)
+      ∙ ap (λ (l : List Float). getD l j nan) (F .diff) ∙ map-getD (difference wide) (used k ps) j blank nan (in-rs j h)
 
   edge-of : (j : ℕ) → j < m → edgeOf s j ≡ Network.edgeOf wide j (getD (used k ps) j blank)
-  unfolding edgeOf Network.edgeOf diffOf
+  unfolding edgeOf Network.edgeOf
   edge-of j h =
       let live : not (eqb (getD (s .at weight) j 0) 0) ≡ true = ap (λ (b : Bool). not b) (ne-eqb (getD (s .at weight) j 0) 0 (λ e. omega (arith, weight-of j h, good j h .some))) in
       λ i. record { num = j; live = live i; first = first-of j h i; second = second-of j h i; link = record { weight = weight-of j h i; diff = diff-of j h i } }
@@ -207,7 +206,7 @@ module _ (wide : Float) (k m : ℕ) (L : List ℕ) (ps : List Pair) (s : Mem) (F
   raw n light small long = record {
     first-in = λ j h. omega (arith, first-of j h, good j h .high);
     second-in = λ j h. omega (arith, second-of j h, good j h .high, good j h .less);
-    single = λ j h. subst (λ (x : Float). T (fits binary32 x)) (sym (diff-of j h)) (unfold diffOf in narrowed-fits _);
+    single = λ j h. subst (λ (x : Float). T (fits binary32 x)) (sym (diff-of j h)) (unfold difference in narrowed-fits _);
     light = omega (arith, ap total (F .weight), total-counts (used k ps));
     gates = omega (arith, ap gatesOf regions-are, gates-few 0 (k + 1), gates-most L 0 (k + 1));
     simple = tables-simple;

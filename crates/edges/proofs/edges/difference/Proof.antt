@@ -2,7 +2,7 @@
 use mathlib.Core.Path.{_∙_}
 use Prim.Native.Nat.{_-_}
 use borrow.Author.Needs.{needs}
-use Rattle.edges.specs.Gather.{diffOf}
+use Rattle.edges.specs.Edges.{difference}
 use Rattle.edges.proofs.edges.difference.Statement.{statement}
 use Rattle.edges.proofs.edges.difference.Tie as tie
 
@@ -13,7 +13,7 @@ f32-to-f64-with-nan-requires : tie.Need-f32-to-f64-with-nan-requires
 f32-to-f64-with-nan-requires c κs = search needs
 
 returns : tie.Need-returns
-unfolding diffOf
+unfolding difference
 returns c = c .f32-to-f64-with-nan .ensures ∙ c .before .to-f32 .ensures
 
 pub difference-spec : {M : Type 1} → statement M
