@@ -8,7 +8,7 @@ use native.Mathlib.Numerals.{add-one}
 use native.Mathlib.Omega.{arith}
 use native.Mathlib.Decide.{decLt, ℕ-discrete}
 use lib.ListN.{length, getD, take, drop, set, replicate, length-set, length-drop, length-replicate, replicate-append-replicate}
-use lib.Seq.{getD-set-same, getD-set-other, getD-take, getD-drop, length-take-le, ext-getD, sets, sets-eq, take-suc, set-set, set-comm, drop-drop, take-add, take-all}
+use lib.Seq.{getD-set-same, getD-set-other, getD-take, getD-drop, length-take-le, ext-getD, sets, sets-eq, take-suc, set-set, set-comm, drop-drop, take-add, take-all, drop-set-lt}
 use borrow.Rule.Slice.PartMut.{putMid}
 use Rattle.arithmetic.specs.Seg.{seg, put, Apart}
 use Rattle.arithmetic.specs.Seq.{tabulate}
@@ -104,6 +104,11 @@ module _ {A : Type 0} where
 
   pub seg-put-above : (w : List A) (b : ℕ) (vs : List A) (c n : ℕ) → b + length vs ≤ c → seg (put w b vs) c n ≡ seg w c n
   seg-put-above w b vs c n h = seg-ext (put w b vs) w c n (length-put w b vs) (λ j d p q. getD-put-above w b vs j d (omega arith))
+
+  pub drop-put-above : (w : List A) (b : ℕ) (vs : List A) (c : ℕ) → b + length vs ≤ c → drop c (put w b vs) ≡ drop c w
+  unfolding put
+  drop-put-above w b [] c h = refl
+  drop-put-above w b (v ∷ vs) c h = drop-put-above (set w b v) (suc b) vs c (omega arith) ∙ drop-set-lt c w b v (omega arith)
 
   -- ---- equality of whole lists, by index (the default is any element)
   pub ext-any : (u w : List A) → length u ≡ length w → ((j : ℕ) (d : A) → j < length u → getD u j d ≡ getD w j d) → u ≡ w

@@ -30,6 +30,12 @@ unfolding upto
 upto-length zero k = refl
 upto-length (suc n) k = ap suc (upto-length n (suc k))
 
+pub upto-at : (n k i : ℕ) → i < n → getD (upto n k) i 0 ≡ k + i
+unfolding upto
+upto-at zero k i h = absurd (omega arith)
+upto-at (suc n) k zero h = omega arith
+upto-at (suc n) k (suc i) h = upto-at n (suc k) i (omega arith) ∙ omega arith
+
 pub map-upto-at : {A : Type 0} (f : ℕ → A) (n k i : ℕ) (d : A) → i < n → getD (map f (upto n k)) i d ≡ f (k + i)
 unfolding upto
 map-upto-at f zero k i d h = absurd (omega arith)

@@ -1,15 +1,13 @@
 // edges.rs: looks, pairs, and the edge records gathered from them.
 ghost use mathlib.Core.Path.{_≡_};
 ghost use mathlib.Core.Bool.{cond, _&&_};
-ghost use mathlib.Core.List.{List, [], _∷_};
-ghost use Prim.Native.Nat.{ℕ, suc, _+_, _-_, _*_, _≤_, _<_, _^_};
+ghost use Prim.Native.Nat.{_+_, _-_, _*_, _≤_, _<_, _^_};
 ghost use lib.Dec.{eqb};
-ghost use lib.ListN.{length, getD, set};
+ghost use lib.ListN.{length, set};
 ghost use Rattle.arithmetic.specs.Seg.{seg, put};
-ghost use Rattle.arithmetic.specs.Seq.{upto};
 ghost use Rattle.edges.specs.Edges.{next, left, right, top, bottom, look, sees, skip, begun, plus, difference, pairs, used};
 ghost use Rattle.edges.specs.Whole.{Asked, Edged};
-ghost use Rattle.edges.specs.Gather.{pairIs, pairAt, later, Ready, Legible, LabelsAt, written, tables, Slot, Turned, Gathers, Gathered};
+ghost use Rattle.edges.specs.Gather.{pairIs, pairAt, later, Ready, Legible, LabelsAt, written, Slot, Turned, Gathers, Gathered};
 ghost use Rattle.edges.specs.Order.{alike, runs};
 ghost use Rattle.edges.specs.Sorts.{labelsOf, Reads, Sorts, Sorted};
 ghost use Rattle.edges.specs.GatePairs.{gatePairTo, gatePairsAt, gatePairs, Adds, Sheet, Place};
@@ -191,18 +189,6 @@ pub fn pair_all(w: &mut [u32], n: usize, f: Frame) -> usize
     c
 }
 
-// The numbers below m, from b on.
-pub fn number(w: &mut [u32], b: usize, m: usize)
-    requires { ⌜ (b + m ≤ length (now w)) × (m < 2 ^ 32) ⌝ }
-    ensures { λ _. ⌜ now (w .exit) ≡ put (now (w .entry)) b (upto m 0) ⌝ }
-{
-    let mut i = 0;
-    while i < m {
-        w[b + i] = i as u32;
-        i += 1;
-    }
-}
-
 // The labels of the m gates from src on, from dst on.
 pub fn labels_of(w: &mut [u32], n: usize, src: usize, m: usize, dst: usize)
     requires { ⌜ Reads (now w) n src m dst ⌝ }
@@ -222,7 +208,7 @@ pub fn sort_pairs(w: &mut [u32], n: usize, m: usize, k: usize)
     ensures { λ _. ⌜ Sorted (now (w .entry)) (now (w .exit)) n m k ⌝ }
 {
     let base = 9 * n;
-    number(w, base, m);
+    memory::words::number(w, base, m);
     labels_of(w, n, n, m, base + m + m);
     labels_of(w, n, 5 * n, m, base + m + m + m);
     memory::sort::sort2(w, base, m, m, k);

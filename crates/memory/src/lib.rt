@@ -1,3 +1,4 @@
-// Tools over one lent slice: fill, copy, a stable counting sort, and a winner tree.
+// Tools over one lent slice: fill and copy, a stable counting sort, and a winner tree.
 pub mod sort;
 pub mod tree;
+pub mod words;

@@ -1,9 +1,9 @@
 // A winner tree over the first m words of a lent slice, the weights: the word at m + k is the winner below place k, for k from 1
 // to 2m - 1. Places m and up are the leaves, place k has the children 2k and 2k + 1, and 1 is the root.
 ghost use mathlib.Core.Path.{_≡_};
-ghost use Prim.Native.Nat.{ℕ, _+_, _*_, _/_, _≤_, _<_, _^_};
-ghost use lib.ListN.{length, getD, take, drop, set};
-ghost use Rattle.memory.specs.Tree.{pick, Dirty, Tree, Weighed, Built, Best};
+ghost use Prim.Native.Nat.{_+_, _*_, _/_, _≤_, _<_, _^_};
+ghost use lib.ListN.{length, set};
+ghost use Rattle.memory.specs.Tree.{pick, Dirty, Tree, Weighed, Best};
 
 // The heavier of i and j, of weights a and b; the lower at equal weights.
 fn pick(a: u32, b: u32, i: u32, j: u32) -> u32
@@ -49,24 +49,12 @@ pub fn weigh(w: &mut [u32], m: usize, e: usize, v: u32)
     play(w, m, (m + e) / 2);
 }
 
-// The leaves.
-fn leaves(w: &mut [u32], m: usize)
-    requires { ⌜ (3 * m ≤ length (now w)) × (m < 2 ^ 32) ⌝ }
-    ensures { λ _. ⌜ Built m m (now (w .entry)) (now (w .exit)) ⌝ }
-{
-    let mut e = 0;
-    while e < m {
-        w[m + m + e] = e as u32;
-        e += 1;
-    }
-}
-
 // The tree of any weights.
 pub fn build(w: &mut [u32], m: usize)
     requires { ⌜ (3 * m ≤ length (now w)) × (m < 2 ^ 32) ⌝ }
     ensures { λ _. ⌜ Weighed m (now (w .entry)) (now (w .exit)) ⌝ }
 {
-    leaves(w, m);
+    crate::words::number(w, m + m, m);
     let mut k = m;
     while k > 1 {
         k -= 1;

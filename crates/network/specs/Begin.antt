@@ -1,5 +1,6 @@
 -- The tables before the first merge, from edges and sizes alone. Definitions only.
 use mathlib.Core.Path.{_≡_}
+use mathlib.Core.Bool.{cond}
 use mathlib.Core.List.{List}
 use Prim.Native.Nat.{ℕ, zero, suc, _+_, _*_, _≤_, _<_, _^_}
 use lib.Dec.{T}
@@ -7,8 +8,9 @@ use lib.IntN.{pos}
 use lib.Ieee.{nan, binary32, fits, Float}
 use lib.ListN.{length, getD}
 use Rattle.network.specs.Network.{Region, State, gatesOf}
+use Rattle.arithmetic.specs.Seq.{upto}
 use Rattle.merge.specs.Mem.{Mem, view, Room, total, store}
-use Rattle.merge.specs.Table.{weight, first, second, enext, rnext, stamp, size, elen, rlen, count}
+use Rattle.merge.specs.Table.{is, weight, first, second, enext, rnext, stamp, size, elen, rlen, count}
 use Rattle.memory.specs.Layout.{tableWords}
 use Rattle.network.specs.Net.{rows, edgeOf}
 use Rattle.network.specs.Rep.{Rep}
@@ -18,9 +20,8 @@ use Rattle.network.specs.TurnIs.{gatesIn, firstOf, RanIs}
 use Rattle.network.specs.Simple.{Simple}
 
 -- each slot a circle of its own
-unfoldable pub slotsFrom : ℕ → Mem → ℕ → Mem
-slotsFrom zero s i = s
-slotsFrom (suc k) s i = slotsFrom k (store enext s i i) (i + 1)
+unfoldable pub slots : ℕ → ℕ → Mem → Mem
+slots m n s = record { at = λ u. cond (is enext u) (upto (2 * m + n) 0) (s .at u); diff = s .diff }
 
 -- each region a circle of its own, with count 0, that was never a base
 unfoldable pub regionsFrom : ℕ → Mem → ℕ → Mem
@@ -38,9 +39,6 @@ linkEdge m s j = linkAt m (getD (s .at second) j 0) (2 * j + 1) (linkAt m (getD 
 unfoldable pub linkFrom : ℕ → ℕ → Mem → ℕ → Mem
 linkFrom zero m s j = s
 linkFrom (suc k) m s j = linkFrom k m (linkEdge m s j) (j + 1)
-
-unfoldable pub begun : ℕ → ℕ → Mem → Mem
-begun m n s = linkFrom m m (regionsFrom n (slotsFrom (2 * m + n) s 0) 0) 0
 
 -- the network of a table of edges and a table of sizes
 unfoldable pub rawRegion : Mem → ℕ → Region

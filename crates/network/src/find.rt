@@ -85,7 +85,7 @@ fn leave_alone(w: &mut [u32], n: usize, k: usize)
 {
     let nodes = k + 1;
     crate::sizes::count_sizes(w, n, n, nodes);
-    memory::sort::fill(w, n + nodes, nodes, 1000);
+    memory::words::fill(w, n + nodes, nodes, 1000);
 }
 
 // The regions of a sweep by the limits of a plan, merged: labels, sizes and counts lie in the words afterwards.

@@ -11,7 +11,7 @@ ghost use Rattle.merge.specs.Steps.{numberOf};
 ghost use Rattle.network.specs.Rep.{Rep};
 ghost use Rattle.network.specs.Settle.{settle};
 ghost use Rattle.network.specs.TurnIs.{Standing, AnyTurn, Chosen, AnyPick, gatesIn, firstOf, RanIs};
-ghost use Rattle.network.specs.Begin.{slotsFrom, regionsFrom, linkAt, linkFrom, Space, Raw, Begun, Linkable, AllIs};
+ghost use Rattle.network.specs.Begin.{regionsFrom, linkAt, linkFrom, Space, Raw, Begun, Linkable, AllIs};
 ghost use Rattle.merge.specs.Does.{Does};
 
 // The heaviest live edge: its ends, its difference after the division by its weight, and its number.
@@ -172,19 +172,6 @@ pub fn run(w: &mut [u32], d: &mut [f64], m: usize, n: usize) -> Ran
     Ran::Settled(k)
 }
 
-// Each slot becomes a circle of its own.
-fn fill_slots(w: &mut [u32], d: &mut [f64], m: usize, n: usize)
-    requires { ⌜ Room m n (now w) (now d) ⌝ }
-    ensures { λ _. ⌜ Does m n (now (w .exit)) (now (d .exit)) (slotsFrom (2 * m + n) (view m n (now (w .entry)) (now (d .entry))) 0) ⌝ }
-{
-    let l = 2 * m + n;
-    let mut i = 0;
-    while i < l {
-        w[5 * m + i] = i as u32;
-        i += 1;
-    }
-}
-
 // Each region becomes a circle of its own, with count 0, that was never a base.
 fn fill_regions(w: &mut [u32], d: &mut [f64], m: usize, n: usize)
     requires { ⌜ Room m n (now w) (now d) ⌝ }
@@ -232,14 +219,14 @@ fn link_all(w: &mut [u32], d: &mut [f64], m: usize, n: usize)
     }
 }
 
-// The tables before the first merge.
+// The tables before the first merge: each slot a circle of its own, each region too, then the edges' slots linked to their ends.
 pub fn begin(w: &mut [u32], d: &mut [f64], m: usize, n: usize)
     requires { ⌜ Space m n (now w) (now d) ⌝ }
     requires { ⌜ Raw m n (view m n (now w) (now d)) ⌝ }
     ensures { λ _. ⌜ Begun m n (view m n (now (w .entry)) (now (d .entry))) (now (w .exit)) (now (d .exit)) ⌝ }
 {
     memory::tree::build(w, m);
-    fill_slots(w, d, m, n);
+    memory::words::number(w, 5 * m, 2 * m + n);
     fill_regions(w, d, m, n);
     link_all(w, d, m, n);
 }

@@ -21,10 +21,10 @@ pub fn reduce(
     let nodes = k + 1;
     let e = edges::edges::find_edges(w, d, vel, f, n, k, t, wide);
     crate::sizes::count_sizes(w, n, n, nodes);
-    memory::sort::copy(w, n, t + 7 * e + 3 * nodes, nodes);
+    memory::words::copy(w, n, t + 7 * e + 3 * nodes, nodes);
     let end = t + 7 * e + 7 * nodes;
     let r = crate::network::merge_all(&mut w[t..end], d, e, nodes);
-    memory::sort::copy(w, t + 7 * e + 6 * nodes, n + nodes, nodes);
+    memory::words::copy(w, t + 7 * e + 6 * nodes, n + nodes, nodes);
     w[n + nodes] = 1000;
     r
 }

@@ -12,7 +12,7 @@ pub fn count_sizes(w: &mut [u32], n: usize, at: usize, k: usize)
     requires { ⌜ Sizes (now w) n at k ⌝ }
     ensures { λ _. ⌜ now (w .exit) ≡ put (now (w .entry)) at (tabulate k (sizeIn (seg (now (w .entry)) 0 n))) ⌝ }
 {
-    memory::sort::fill(w, at, k, 0);
+    memory::words::fill(w, at, k, 0);
     let mut g = 0;
     while g < n {
         let l = w[g] as usize;

@@ -143,7 +143,7 @@ pub extern "C" fn stage_sizes(work: &mut [u32], n: usize, at: usize, k: usize)
 pub extern "C" fn stage_copy(work: &mut [u32], src: usize, dst: usize, len: usize)
     requires { ⌜ (src + len ≤ length (now work)) × (dst + len ≤ length (now work)) × Apart src len dst len ⌝ }
 {
-    memory::sort::copy(work, src, dst, len);
+    memory::words::copy(work, src, dst, len);
 }
 
 // All merges of e edges and v nodes, in their tables: 1 where question 9 got a yes at each.

@@ -154,7 +154,7 @@ pub fn clear(words: &mut [u32], floats: &mut [f64])
     ensures { λ _. ⌜ now (floats .exit) ≡ replicate (length (now (floats .entry))) (real (pos 0)) ⌝ }
 {
     let n = words.len();
-    memory::sort::fill(words, 0, n, 0);
+    memory::words::fill(words, 0, n, 0);
     clear_floats(floats);
 }
 

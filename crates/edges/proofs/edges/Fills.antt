@@ -1,28 +1,13 @@
--- The turns of `number` and `labels_of`, over plain values. Assumes nothing.
-use Prim.Native.Nat.{ℕ, suc, _+_, _-_, _≤_, _<_}
+-- The turns of `labels_of`, over plain values. Assumes nothing.
+use Prim.Native.Nat.{ℕ, _+_, _≤_, _<_}
 use native.Mathlib.Omega.{arith}
 use mathlib.Core.Path.{_≡_, sym, ap, _∙_}
-use mathlib.Core.List.{List, [], _∷_, _++_, map}
+use mathlib.Core.List.{List, [], _∷_, map}
 use lib.ListN.{length, getD, set, length-map}
-use Rattle.arithmetic.specs.Seq.{upto}
-use Rattle.arithmetic.proofs.SeqLaws.{upto-length, map-append}
+use Rattle.arithmetic.proofs.SeqLaws.{map-append}
 use Rattle.arithmetic.specs.Seg.{seg, put}
 use Rattle.arithmetic.proofs.SegLaws.{length-put, length-seg, put-snoc, put-nil, getD-put-below, seg-snoc}
 use Rattle.edges.specs.Sorts.{labelsOf, Reads}
-use Rattle.edges.proofs.edges.GatePairLaws.{upto-snoc}
-
-pub number-begin : (w : List ℕ) (b : ℕ) → w ≡ put w b (upto 0 0)
-unfolding upto
-number-begin w b = sym (put-nil w b)
-
-pub number-on : (w₀ w : List ℕ) (b i : ℕ) → w ≡ put w₀ b (upto i 0) → set w (b + i) i ≡ put w₀ b (upto (i + 1) 0)
-number-on w₀ w b i e =
-    ap (λ (l : List ℕ). set l (b + i) i) e
-    ∙ ap (λ (x : ℕ). set (put w₀ b (upto i 0)) (b + x) i) (sym (upto-length i 0))
-    ∙ put-snoc w₀ b (upto i 0) i
-    ∙ ap (λ (x : ℕ). put w₀ b (upto i 0 ++ (x ∷ []))) {x = i} {y = 0 + i} (omega arith)
-    ∙ ap (put w₀ b) (sym (upto-snoc i 0))
-    ∙ ap (λ (x : ℕ). put w₀ b (upto x 0)) {x = suc i} {y = i + 1} (omega arith)
 
 pub length-labels : (w : List ℕ) (src m : ℕ) → src + m ≤ length w → length (labelsOf w src m) ≡ m
 unfolding labelsOf

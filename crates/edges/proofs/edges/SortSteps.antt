@@ -1,11 +1,11 @@
 -- What `sort_pairs` does between its calls, over plain values. Assumes nothing.
-use Prim.Native.Nat.{ℕ, zero, suc, _+_, _-_, _*_, _≤_, _<_}
+use Prim.Native.Nat.{ℕ, zero, suc, _+_, _*_, _≤_, _<_}
 use native.Mathlib.Omega.{arith}
 use mathlib.Core.Path.{_≡_, refl, sym, ap, _∙_}
 use mathlib.Core.List.{List, [], _∷_, map}
 use lib.ListN.{length, getD}
 use Rattle.arithmetic.specs.Seq.{upto}
-use Rattle.arithmetic.proofs.SeqLaws.{upto-length}
+use Rattle.arithmetic.proofs.SeqLaws.{upto-length, upto-at}
 use Rattle.arithmetic.specs.Seg.{seg, put}
 use Rattle.arithmetic.proofs.SegLaws.{length-put, length-seg, getD-seg, getD-put-below, seg-put-below, seg-put-same}
 use Rattle.memory.specs.Sort.{sorted}
@@ -16,12 +16,6 @@ use Rattle.edges.proofs.edges.Fills.{length-labels}
 map-below : (w : List ℕ) (b : ℕ) (vs S : List ℕ) → ((i : ℕ) → i < length S → getD S i 0 < b) → map (λ x. getD (put w b vs) x 0) S ≡ map (λ x. getD w x 0) S
 map-below w b vs [] h = refl
 map-below w b vs (x ∷ S) h = rw (getD-put-below w b vs x 0 (h 0 (omega arith)), map-below w b vs S (λ i g. h (suc i) (omega arith))) refl
-
-upto-at : (m k i : ℕ) → i < m → getD (upto m k) i 0 ≡ k + i
-unfolding upto
-upto-at zero k i h = absurd (omega arith)
-upto-at (suc m) k zero h = omega arith
-upto-at (suc m) k (suc i) h = upto-at m (suc k) i (omega arith) ∙ omega arith
 
 labels-kept : (w : List ℕ) (b : ℕ) (vs : List ℕ) (src m : ℕ) → src + m ≤ b → src + m ≤ length w → ((i : ℕ) → i < m → getD w (src + i) 0 < b) → labelsOf (put w b vs) src m ≡ labelsOf w src m
 unfolding labelsOf

@@ -1,22 +1,19 @@
 -- The winner tree, over plain values. Assumes nothing.
 use mathlib.Core.Path.{_≡_, refl, sym, ap, _∙_, subst}
-use mathlib.Core.Logic.{_⊎_, inl, inr, ⊎-elim, by-cases}
+use mathlib.Core.Logic.{_⊎_, inl, inr, ⊎-elim}
 use mathlib.Core.Bool.{Bool, true, false, cond}
 use mathlib.Core.List.{List}
 use Prim.Native.Nat.{ℕ, zero, suc, _+_, _-_, _*_, _/_, _≤_, _<_}
 use native.Mathlib.Omega.{arith}
-use native.Mathlib.Decide.{decLt, ℕ-discrete}
 use lib.Dec.{ltb}
 use lib.ListN.{length, getD, set, take, drop, length-set}
 use lib.Seq.{getD-set-same, getD-set-other, take-set-le, drop-set-lt}
 use borrow.Author.Tests.{ltb-true, ltb-false}
+use Rattle.arithmetic.specs.Seg.{seg, put}
+use Rattle.arithmetic.specs.Seq.{upto}
+use Rattle.arithmetic.proofs.SegLaws.{lt-or-le, eq-or-ne, length-put, getD-put-in, seg-put-below, drop-put-above}
+use Rattle.arithmetic.proofs.SeqLaws.{upto-length, upto-at}
 use Rattle.memory.specs.Tree.{pick, up, On, Beats, Won, Played, Dirty, Tree, Built, Weighed, Best}
-
-lt-or-le : (m n : ℕ) → (m < n) ⊎ (n ≤ m)
-lt-or-le m n = by-cases (decLt m n) inl (λ k. inr (omega arith))
-
-eq-or-ne : (m n : ℕ) → (m ≡ n) ⊎ (m ≡ n → ⊥)
-eq-or-ne m n = by-cases (ℕ-discrete m n) inl inr
 
 -- ---- which is better
 beats-refl : (w : List ℕ) (x : ℕ) → Beats w x x
@@ -272,41 +269,24 @@ build-end m w₀ w k p h = record {
   };
 }
 
--- leaves
-pub record Leafing (m e : ℕ) (w₀ w : List ℕ) : Type 0 where
-  pub weights : take m w ≡ take m w₀
-  pub rest : drop (3 * m) w ≡ drop (3 * m) w₀
-  pub long : length w ≡ length w₀
-  pub leaf : (x : ℕ) → x < e → getD w (m + (m + x)) 0 ≡ x
-
-pub leaf-start : (m : ℕ) (w : List ℕ) → Leafing m 0 w w
-leaf-start m w = record { weights = refl; rest = refl; long = refl; leaf = λ x h. absurd (omega arith) }
-
-pub leaf-turn : (m e : ℕ) (w₀ w : List ℕ) → Leafing m e w₀ w → 3 * m ≤ length w₀ → e < m → Leafing m (e + 1) w₀ (set w (m + m + e) e)
-leaf-turn m e w₀ w p r lt = record {
-  weights = take-set-le m w (m + m + e) e (omega arith) ∙ p .weights;
-  rest = drop-set-lt (3 * m) w (m + m + e) e (omega arith) ∙ p .rest;
-  long = length-set w (m + m + e) e ∙ p .long;
-  leaf = λ x h. ⊎-elim
-      (λ t. let z : m + (m + x) ≡ m + m + e = omega arith in rw (z, getD-set-same w (m + m + e) e 0 (omega (arith, p .long))) (sym t))
-      (λ t. getD-set-other w (m + m + e) (m + (m + x)) e 0 (λ q. t (omega arith)) ∙ p .leaf x (omega arith))
-      (eq-or-ne x e);
-}
-
-pub leaf-end : (m e : ℕ) (w₀ w : List ℕ) → Leafing m e w₀ w → 3 * m ≤ length w₀ → m ≤ e → Built m m w₀ w
+-- the leaves, numbered
+pub leaves-are : (m : ℕ) (w₀ w : List ℕ) → 3 * m ≤ length w₀ → w ≡ put w₀ (m + m) (upto m 0) → Built m m w₀ w
 unfolding up
-leaf-end m e w₀ w p r h = record {
-  weights = p .weights;
-  rest = p .rest;
-  long = p .long;
+leaves-are m w₀ w r e = rw e (record {
+  weights = unfold seg in seg-put-below w₀ (m + m) (upto m 0) 0 m (omega arith);
+  rest = drop-put-above w₀ (m + m) (upto m 0) (3 * m) (omega (arith, upto-length m 0));
+  long = length-put w₀ (m + m) (upto m 0);
   tree = record {
-    room = omega (arith, p .long);
-    leaf = λ x q. p .leaf x (omega arith);
-    small = λ k a b c. let z : m + (m + (k - m)) ≡ m + k = omega arith in let l : getD w (m + k) 0 ≡ k - m = rw z at (p .leaf (k - m) (omega arith)) in omega arith;
-    below = λ k a b c. let z : m + (m + (k - m)) ≡ m + k = omega arith in let l : getD w (m + k) 0 ≡ k - m = rw z at (p .leaf (k - m) (omega arith)) in (0, omega arith);
+    room = omega (arith, length-put w₀ (m + m) (upto m 0));
+    leaf = λ x h. let z : m + (m + x) ≡ m + m + x = omega arith in rw z (leaf x h);
+    small = λ k a b c. let z : m + k ≡ m + m + (k - m) = omega arith in rw z (omega (arith, leaf (k - m) (omega arith)));
+    below = λ k a b c. let z : m + k ≡ m + m + (k - m) = omega arith in (0, omega (arith, leaf (k - m) (omega arith), ap (λ (x : ℕ). getD (put w₀ (m + m) (upto m 0)) x 0) z));
     won = λ k a b c o. absurd (omega arith);
   };
-}
+})
+  where
+    leaf : (x : ℕ) → x < m → getD (put w₀ (m + m) (upto m 0)) (m + m + x) 0 ≡ x
+    leaf x h = getD-put-in w₀ (m + m) (upto m 0) x 0 (omega (arith, upto-length m 0)) (omega arith) ∙ upto-at m 0 x h ∙ omega arith
 
 pub build-start : (m : ℕ) (w₀ w : List ℕ) → Built m m w₀ w → Playing m w w m 0
 build-start m w₀ w b = record { weights = refl; rest = refl; long = refl; played = b .tree }

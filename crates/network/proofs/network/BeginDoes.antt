@@ -1,17 +1,23 @@
 -- The functions that set the tables up, over plain values. Assumes nothing.
 use mathlib.Core.Path.{_≡_, refl, sym, ap, _∙_, subst}
-use mathlib.Core.Logic.{_⊎_, ⊎-elim}
+use mathlib.Core.Logic.{⊎-elim}
+use mathlib.Core.Bool.{Bool, true, false, cond}
 use mathlib.Core.List.{List}
 use Prim.Native.Nat.{ℕ, suc, _+_, _*_, _-_, _≤_, _<_, _^_}
 use native.Mathlib.Omega.{arith}
 use lib.ListN.{length, getD, set, length-set}
 use lib.Seq.{getD-set-same, getD-set-other}
-use Rattle.memory.proofs.tree.TreeLaws.{tree-set}
+use Rattle.arithmetic.specs.Seq.{upto}
+use Rattle.arithmetic.specs.Seg.{seg, put}
+use Rattle.arithmetic.proofs.SeqLaws.{upto-length}
+use Rattle.arithmetic.proofs.SegLaws.{length-put, getD-put-below, seg-put-same, seg-put-out}
+use Rattle.memory.proofs.tree.TreeLaws.{played-like, tree-set}
 use Rattle.memory.specs.Layout.{tableWords}
 use Rattle.merge.specs.Mem.{Mem, view, Room, store}
-use Rattle.merge.specs.Table.{first, second, enext, rnext, stamp, elen, rlen, count}
+use Rattle.merge.specs.Table.{Table, from, long, is, first, second, enext, rnext, stamp, elen, rlen, count}
 use Rattle.merge.specs.Does.{Does}
-use Rattle.network.specs.Begin.{slotsFrom, regionsFrom, linkAt, linkEdge, linkFrom, Linkable}
+use Rattle.network.specs.Begin.{slots, regionsFrom, linkAt, linkEdge, linkFrom, Linkable}
+use Rattle.merge.proofs.merge.TableLaws.{same-table, apart}
 use Rattle.merge.proofs.merge.View.{read, write}
 use Rattle.merge.proofs.merge.Leaf.{room-of}
 use Rattle.merge.proofs.merge.SoundSet.{eq-or-ne}
@@ -27,24 +33,22 @@ pub record Going (m n : ℕ) (rest : ℕ → Mem → ℕ → Mem) (w₀ : List �
 pub going-start : (m n : ℕ) (rest : ℕ → Mem → ℕ → Mem) (w : List ℕ) (d : List Float) (l : ℕ) → Room m n w d → Going m n rest w w d l 0 (rest l (view m n w d) 0)
 going-start m n rest w d l r = let z : l - 0 ≡ l = omega arith in record { room = r; most = omega arith; left = ap (λ (x : ℕ). rest x (view m n w d) 0) z; same-w = refl }
 
-slots-law : (k : ℕ) (s : Mem) (i : ℕ) → slotsFrom (suc k) s i ≡ slotsFrom k (store enext s i i) (i + 1)
-unfolding slotsFrom
-slots-law k s i = refl
-
-pub slots-turn : (m n : ℕ) (w₀ w : List ℕ) (d : List Float) (i : ℕ) (goal : Mem) → Going m n slotsFrom w₀ w d (2 * m + n) i goal → i < 2 * m + n → Going m n slotsFrom w₀ (set w (5 * m + i) i) d (2 * m + n) (i + 1) goal
-slots-turn m n w₀ w d i goal k lt =
-    let z : 2 * m + n - i ≡ suc (2 * m + n - (i + 1)) = omega arith in
-    let lw : length (set w (5 * m + i) i) ≡ length w = length-set w (5 * m + i) i in
-    record {
-      room = room-of m n w (set w (5 * m + i) i) d d (k .room) lw refl (tree-set m w (5 * m + i) i (omega arith) (k .room .tree));
-      most = omega arith;
-      left = ap (λ (s : Mem). slotsFrom (2 * m + n - (i + 1)) s (i + 1)) (write enext m n w d i i lt (k .room .words)) ∙ sym (slots-law (2 * m + n - (i + 1)) (view m n w d) i) ∙ ap (λ (x : ℕ). slotsFrom x (view m n w d) i) (sym z) ∙ k .left;
-      same-w = lw ∙ k .same-w;
-    }
-
-pub slots-end : (m n : ℕ) (w₀ w : List ℕ) (d : List Float) (i : ℕ) (goal : Mem) → Going m n slotsFrom w₀ w d (2 * m + n) i goal → 2 * m + n ≤ i → Does m n w d goal
-unfolding slotsFrom
-slots-end m n w₀ w d i goal k h = let z : 2 * m + n - i ≡ 0 = omega arith in record { tables = ap (λ (x : ℕ). slotsFrom x (view m n w d) i) (sym z) ∙ k .left; tree = k .room .tree }
+-- the slots numbered
+pub slots-does : (m n : ℕ) (w v : List ℕ) (d : List Float) → Room m n w d → v ≡ put w (5 * m) (upto (2 * m + n) 0) → Does m n v d (slots m n (view m n w d))
+unfolding view slots
+slots-does m n w v d r e =
+    let l : length (upto (2 * m + n) 0) ≡ 2 * m + n = upto-length (2 * m + n) 0 in
+    rw e (record {
+      tables = λ i. record { at = λ u. go u (is enext u) refl l i; diff = d };
+      tree = played-like m (put w (5 * m) (upto (2 * m + n) 0)) w 1 0 (length-put w (5 * m) (upto (2 * m + n) 0)) (λ i h. getD-put-below w (5 * m) (upto (2 * m + n) 0) i 0 (omega arith)) (r .tree);
+    })
+  where
+    go : (u : Table) (b : Bool) → is enext u ≡ b → length (upto (2 * m + n) 0) ≡ 2 * m + n
+        → seg (put w (5 * m) (upto (2 * m + n) 0)) (from u m n) (long u m n) ≡ cond b (upto (2 * m + n) 0) (seg w (from u m n) (long u m n))
+    go u true q l =
+        ap (λ (t : Table). seg (put w (5 * m) (upto (2 * m + n) 0)) (from t m n) (long t m n)) (sym (same-table enext u q))
+        ∙ ap (seg (put w (5 * m) (upto (2 * m + n) 0)) (5 * m)) (sym l) ∙ seg-put-same w (5 * m) (upto (2 * m + n) 0) (omega (arith, r .words))
+    go u false q l = seg-put-out w (5 * m) (upto (2 * m + n) 0) (from u m n) (long u m n) (λ j a b c f. apart m n enext u q j c (omega arith) a b)
 
 abbrev stored : ℕ → ℕ → List ℕ → ℕ → List ℕ
 stored m n w x = set (set (set (set (set w (7 * m + n + x) x) (7 * m + 5 * n + x) 1) (7 * m + 4 * n + x) 1) (7 * m + 6 * n + x) 1000) (7 * m + 2 * n + x) 0

@@ -9,12 +9,14 @@ use lib.Dec.{ltb, eqb}
 use lib.ListN.{length, getD, set, length-set}
 use lib.Seq.{getD-set-same, getD-set-other}
 use borrow.Author.Tests.{lt-ltb, le-ltb}
+use Rattle.arithmetic.specs.Seq.{upto}
+use Rattle.arithmetic.proofs.SeqLaws.{upto-length}
 use Rattle.merge.specs.Mem.{Mem, store}
 use Rattle.merge.specs.Table.{Table, first, second, enext, rnext, stamp, elen, rlen, count, is}
 use Rattle.merge.specs.Chain.{cur, Chains, own-joined, pos-joined, len-joined}
-use Rattle.network.specs.Begin.{slotsFrom, regionsFrom, linkAt, linkEdge, linkFrom}
+use Rattle.network.specs.Begin.{slots, regionsFrom, linkAt, linkEdge, linkFrom}
 use Rattle.merge.proofs.merge.Bias.{lt-or-le}
-use Rattle.merge.proofs.merge.TableLaws.{Alike, alike-refl, alike-then, alike-less, alike-store, length-store}
+use Rattle.merge.proofs.merge.TableLaws.{Unless, same-table, Alike, alike-refl, alike-then, alike-less, alike-store, length-store}
 use Rattle.merge.proofs.merge.Frames.{Same, same-refl, ofSlots}
 use Rattle.merge.proofs.merge.SoundSet.{eq-or-ne}
 use Rattle.network.proofs.network.Circles.{cur-suc}
@@ -46,31 +48,21 @@ given-same t s h = record { tables = alike-less ofSlots setUp t s (λ u. go (is 
     go false false false d e f h = rw h refl
 
 -- ---- slots
-pub record Slots (s t : Mem) (i k : ℕ) : Type 0 where
-  pub tables : Alike (is enext) t s
-  pub diff : t .diff ≡ s .diff
-  pub long : (u : Table) → length (t .at u) ≡ length (s .at u)
-  pub below : (x : ℕ) → x < i → getD (t .at enext) x 0 ≡ getD (s .at enext) x 0
-  pub own : (x : ℕ) → i ≤ x → x < i + k → getD (t .at enext) x 0 ≡ x
+pub given-slots : (m n : ℕ) (s : Mem) → Given (slots m n s) s
+unfolding slots
+given-slots m n s = record { tables = alike-less (is enext) setUp (slots m n s) s (λ u e. rw e refl) (record { at = λ u. go u (is enext u) }); diff = refl }
+  where
+    go : (u : Table) (b : Bool) → Unless b (cond b (upto (2 * m + n) 0) (s .at u) ≡ s .at u)
+    go u true = tt
+    go u false = refl
 
-pub given-slots : (s t : Mem) (i k : ℕ) → Slots s t i k → Given t s
-given-slots s t i k h = record { tables = alike-less (is enext) setUp t s (λ u e. rw e refl) (h .tables); diff = h .diff }
-
-pub slots-are : (k : ℕ) (s : Mem) (i : ℕ) → i + k ≤ length (s .at enext) → Slots s (slotsFrom k s i) i k
-unfolding slotsFrom store
-slots-are zero s i h = record { tables = alike-refl (is enext) s; diff = refl; long = λ u. refl; below = λ x p. refl; own = λ x p q. absurd (omega arith) }
-slots-are (suc k) s i h =
-    let r : Slots (store enext s i i) (slotsFrom k (store enext s i i) (i + 1)) (i + 1) k = slots-are k (store enext s i i) (i + 1) (omega (arith, length-set (s .at enext) i i)) in
-    record {
-      tables = alike-then (is enext) (slotsFrom k (store enext s i i) (i + 1)) (store enext s i i) s (r .tables) (alike-store (is enext) enext s i i refl);
-      diff = r .diff;
-      long = λ u. r .long u ∙ length-store enext u s i i;
-      below = λ x p. r .below x (omega arith) ∙ getD-set-other (s .at enext) i x i 0 (λ e. omega arith);
-      own = λ x p q. ⊎-elim
-          (λ e. ap (λ (y : ℕ). getD (slotsFrom k (store enext s i i) (i + 1) .at enext) y 0) e ∙ r .below i (omega arith) ∙ getD-set-same (s .at enext) i i 0 (omega arith) ∙ sym e)
-          (λ e. r .own x (omega arith) (omega arith))
-          (eq-or-ne x i);
-    }
+pub slots-long : (m n : ℕ) (s : Mem) → length (s .at enext) ≡ 2 * m + n → (u : Table) → length (slots m n s .at u) ≡ length (s .at u)
+unfolding slots
+slots-long m n s l u = go (is enext u) refl
+  where
+    go : (b : Bool) → is enext u ≡ b → length (cond b (upto (2 * m + n) 0) (s .at u)) ≡ length (s .at u)
+    go true e = upto-length (2 * m + n) 0 ∙ sym l ∙ ap (λ (t : Table). length (s .at t)) (same-table enext u e)
+    go false e = refl
 
 -- ---- regions
 pub record Regions (s t : Mem) (i k : ℕ) : Type 0 where

@@ -11,6 +11,9 @@ use lib.Ieee.{nan, Float}
 use lib.ListN.{length, getD, List·getD-eq-default}
 use borrow.Author.Tests.{lt-ltb, le-ltb}
 use Rattle.network.specs.Network.{Edge, Region, State, sizeOf, gatesOf}
+use Rattle.arithmetic.specs.Seq.{upto}
+use Rattle.arithmetic.specs.Seg.{put}
+use Rattle.arithmetic.proofs.SeqLaws.{upto-at}
 use Rattle.memory.specs.Tree.{Weighed}
 use Rattle.merge.specs.Mem.{Mem, view, Room, Sound, total}
 use Rattle.merge.specs.Table.{Table, long, weight, first, second, enext, rnext, stamp, size, elen, rlen, count}
@@ -19,7 +22,7 @@ use Rattle.merge.specs.Does.{Does}
 use Rattle.network.specs.Net.{rows, edgeOf, regionOf, stateOf}
 use Rattle.network.specs.Rep.{Rep, Circled}
 use Rattle.network.specs.TurnIs.{gatesIn, firstOf, RanIs}
-use Rattle.network.specs.Begin.{slotsFrom, regionsFrom, linkFrom, rawRegion, rawNet, Space, Raw, Begun, Linkable, AllIs}
+use Rattle.network.specs.Begin.{slots, regionsFrom, linkFrom, rawRegion, rawNet, Space, Raw, Begun, Linkable, AllIs}
 use Rattle.network.specs.Settle.{settle}
 use Rattle.network.specs.declared.network.Ran.{Ran}
 use Rattle.merge.proofs.merge.View.{view-lengths, view-weighed}
@@ -32,7 +35,8 @@ use Rattle.network.proofs.network.TableEdges.{like-of}
 use Rattle.network.proofs.network.Facing.{now-straight}
 use Rattle.network.proofs.network.Moved.{same-no, same-yes}
 use Rattle.network.specs.Simple.{Simple}
-use Rattle.network.proofs.network.StartLinks.{Given, given-then, given-same, Slots, given-slots, slots-are, Regions, given-regions, regions-are, ones, next-in, lens, Linked, range-of, linked-all, linked-long}
+use Rattle.network.proofs.network.BeginDoes.{slots-does}
+use Rattle.network.proofs.network.StartLinks.{Given, given-then, given-same, given-slots, slots-long, Regions, given-regions, regions-are, ones, next-in, lens, Linked, range-of, linked-all, linked-long}
 
 -- ---- sizes of single regions
 size-none : (f : ℕ → Region) → ((r : ℕ) → f r .node ≡ r) → (k n x : ℕ) → x < k → sizeOf (rows f k n) x ≡ 0
@@ -64,7 +68,7 @@ pub record Lengths (m n : ℕ) (s : Mem) : Type 0 where
 -- ---- all together
 module _ (m n : ℕ) (s : Mem) (lens₀ : Lengths m n s) (raw : Raw m n s) (small : 2 * m + n < 2 ^ 32) where
   abbrev s₁ : Mem
-  s₁ = slotsFrom (2 * m + n) s 0
+  s₁ = slots m n s
 
   abbrev s₂ : Mem
   s₂ = regionsFrom n s₁ 0
@@ -72,17 +76,18 @@ module _ (m n : ℕ) (s : Mem) (lens₀ : Lengths m n s) (raw : Raw m n s) (smal
   abbrev s₃ : Mem
   s₃ = linkFrom m m s₂ 0
 
-  S : Slots s s₁ 0 (2 * m + n)
-  S = slots-are (2 * m + n) s 0 (omega (arith, lens₀ .lengths enext))
+  long₁ : (u : Table) → length (s₁ .at u) ≡ long u m n
+  long₁ u = slots-long m n s (lens₀ .lengths enext) u ∙ lens₀ .lengths u
 
   G : Regions s₁ s₂ 0 n
-  G = regions-are n n s₁ 0 (omega arith) (ap length (S .tables .at rnext) ∙ lens₀ .lengths rnext) (ap length (S .tables .at elen) ∙ lens₀ .lengths elen) (ap length (S .tables .at rlen) ∙ lens₀ .lengths rlen) (ap length (S .tables .at count) ∙ lens₀ .lengths count) (ap length (S .tables .at stamp) ∙ lens₀ .lengths stamp)
+  G = regions-are n n s₁ 0 (omega arith) (long₁ rnext) (long₁ elen) (long₁ rlen) (long₁ count) (long₁ stamp)
 
   given₂ : Given s₂ s
-  given₂ = given-then s₂ s₁ s (given-regions s₁ s₂ 0 n G) (given-slots s s₁ 0 (2 * m + n) S)
+  given₂ = given-then s₂ s₁ s (given-regions s₁ s₂ 0 n G) (given-slots m n s)
 
   enext₂ : (x : ℕ) → x < 2 * m + n → getD (s₂ .at enext) x 0 ≡ x
-  enext₂ x h = ap (λ (l : List ℕ). getD l x 0) (G .tables .at enext) ∙ S .own x (omega arith) (omega arith)
+  unfolding slots
+  enext₂ x h = ap (λ (l : List ℕ). getD l x 0) (G .tables .at enext) ∙ upto-at (2 * m + n) 0 x h ∙ omega arith
 
   pub linkable : Linkable m n 0 s₂
   linkable = record {
@@ -95,8 +100,8 @@ module _ (m n : ℕ) (s : Mem) (lens₀ : Lengths m n s) (raw : Raw m n s) (smal
   start = record {
     own = λ x. x;
     pos' = λ x. 0;
-    l-enext = ap length (G .tables .at enext) ∙ S .long enext ∙ lens₀ .lengths enext;
-    l-elen = G .long elen ∙ ap length (S .tables .at elen) ∙ lens₀ .lengths elen;
+    l-enext = ap length (G .tables .at enext) ∙ long₁ enext;
+    l-elen = G .long elen ∙ long₁ elen;
     chains = ones (s₂ .at enext) (2 * m + n) (lens m s₂) enext₂ (λ x h. ⊎-elim
         (λ p. ap (λ (b : Bool). cond b 1 (getD (s₂ .at elen) (x - 2 * m) 0)) (lt-ltb x (2 * m) p))
         (λ p. ap (λ (b : Bool). cond b 1 (getD (s₂ .at elen) (x - 2 * m) 0)) (le-ltb x (2 * m) p) ∙ G .own (x - 2 * m) (omega arith) (omega arith) .1)
@@ -123,7 +128,6 @@ module _ (m n : ℕ) (s : Mem) (lens₀ : Lengths m n s) (raw : Raw m n s) (smal
   own-odd j h = I .odd j (omega arith)
 
   circled₃ : Circled m n (λ x. x) (edgeOf s₃) s₃ (I .own) (I .pos') (lens m s₃)
-  unfolding lens
   circled₃ = record {
     echains = I .chains;
     header = λ x h e. I .heads x h;
@@ -169,7 +173,7 @@ module _ (m n : ℕ) (s : Mem) (lens₀ : Lengths m n s) (raw : Raw m n s) (smal
 
   sound₃ : Sound m n s₃
   sound₃ = record {
-    lengths = λ u. linked-long m m s₂ 0 u ∙ G .long u ∙ S .long u ∙ lens₀ .lengths u;
+    lengths = λ u. linked-long m m s₂ 0 u ∙ G .long u ∙ long₁ u;
     l-diff = subst (λ (l : List Float). m ≤ length l) (sym (given₃ .diff)) (lens₀ .l-diff);
     within = within-all m n s₃ (range-of m n s₃ s given₃ (raw .first-in, raw .second-in) .0) (range-of m n s₃ s given₃ (raw .first-in, raw .second-in) .1)
         (λ j h. next-in (s₃ .at enext) (2 * m + n) (I .own) (I .pos') (lens m s₃) (I .chains) j h)
@@ -218,29 +222,29 @@ module _ (m n : ℕ) (w : List ℕ) (d : List Float) (sp : Space m n w d) (raw :
   tables₁ : view m n w₁ d ≡ s₀
   tables₁ = view-weighed m n w w₁ d D₁
 
-  pub begin-slots : Room m n w₁ d
-  begin-slots = record { words = omega (arith, sp .words, D₁ .long); diffs = sp .diffs; small = sp .small; tree = D₁ .tree }
+  room₁ : Room m n w₁ d
+  room₁ = record { words = omega (arith, sp .words, D₁ .long); diffs = sp .diffs; small = sp .small; tree = D₁ .tree }
 
-  module _ (w₂ : List ℕ) (d₂ : List Float) (lw₂ : length w₂ ≡ length w₁) (ld₂ : length d₂ ≡ length d) (D₂ : Does m n w₂ d₂ (slotsFrom (2 * m + n) (view m n w₁ d) 0)) where
-    pub begin-regions : Room m n w₂ d₂
-    begin-regions = room-of m n w₁ w₂ d d₂ begin-slots lw₂ ld₂ (D₂ .tree)
+  module _ (w₂ : List ℕ) (lw₂ : length w₂ ≡ length w₁) (e₂ : w₂ ≡ put w₁ (5 * m) (upto (2 * m + n) 0)) where
+    D₂ : Does m n w₂ d (slots m n (view m n w₁ d))
+    D₂ = slots-does m n w₁ w₂ d room₁ e₂
 
-    tables₂ : view m n w₂ d₂ ≡ slotsFrom (2 * m + n) s₀ 0
-    tables₂ = D₂ .tables ∙ ap (λ (u : Mem). slotsFrom (2 * m + n) u 0) tables₁
+    pub begin-regions : Room m n w₂ d
+    begin-regions = room-of m n w₁ w₂ d d room₁ lw₂ refl (D₂ .tree)
 
-    module _ (w₃ : List ℕ) (d₃ : List Float) (lw₃ : length w₃ ≡ length w₂) (ld₃ : length d₃ ≡ length d₂) (D₃ : Does m n w₃ d₃ (regionsFrom n (view m n w₂ d₂) 0)) where
-      tables₃ : view m n w₃ d₃ ≡ regionsFrom n (slotsFrom (2 * m + n) s₀ 0) 0
-      tables₃ = D₃ .tables ∙ ap (λ (u : Mem). regionsFrom n u 0) tables₂
+    module _ (w₃ : List ℕ) (d₃ : List Float) (lw₃ : length w₃ ≡ length w₂) (ld₃ : length d₃ ≡ length d) (D₃ : Does m n w₃ d₃ (regionsFrom n (view m n w₂ d) 0)) where
+      tables₃ : view m n w₃ d₃ ≡ regionsFrom n (slots m n s₀) 0
+      tables₃ = D₃ .tables ∙ ap (λ (u : Mem). regionsFrom n u 0) (D₂ .tables ∙ ap (slots m n) tables₁)
 
       room₃ : Room m n w₃ d₃
-      room₃ = room-of m n w₂ w₃ d₂ d₃ begin-regions lw₃ ld₃ (D₃ .tree)
+      room₃ = room-of m n w₂ w₃ d d₃ begin-regions lw₃ ld₃ (D₃ .tree)
 
       pub begin-link : Room m n w₃ d₃ × Linkable m n 0 (view m n w₃ d₃)
       begin-link = (room₃, subst (Linkable m n 0) (sym tables₃) (linkable m n s₀ l₀ raw (sp .small)))
 
       pub begin-done : (w₄ : List ℕ) (d₄ : List Float) → length w₄ ≡ length w₃ → length d₄ ≡ length d₃ → Does m n w₄ d₄ (linkFrom m m (view m n w₃ d₃) 0) → Begun m n s₀ w₄ d₄
       begin-done w₄ d₄ lw₄ ld₄ D₄ =
-          let e : linkFrom m m (regionsFrom n (slotsFrom (2 * m + n) s₀ 0) 0) 0 ≡ view m n w₄ d₄ = sym (D₄ .tables ∙ ap (λ (u : Mem). linkFrom m m u 0) tables₃) in
+          let e : linkFrom m m (regionsFrom n (slots m n s₀) 0) 0 ≡ view m n w₄ d₄ = sym (D₄ .tables ∙ ap (λ (u : Mem). linkFrom m m u 0) tables₃) in
           record {
             room = room-of m n w₃ w₄ d₃ d₄ room₃ lw₄ ld₄ (D₄ .tree);
             rep = subst (λ (u : Mem). Rep m n (gatesIn u) 0 u (firstOf m n u)) e (rep₃ m n s₀ l₀ raw (sp .small));

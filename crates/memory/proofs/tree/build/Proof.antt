@@ -1,5 +1,5 @@
 -- `memory::tree::build` meets its contract. Assumes nothing.
-use Rattle.memory.proofs.tree.TreeLaws.{Playing, Game, game-in, build-start, build-less, build-all}
+use Rattle.memory.proofs.tree.TreeLaws.{Playing, Game, game-in, leaves-are, build-start, build-less, build-all}
 use native.Mathlib.Omega.{arith}
 use mathlib.Core.Path.{_∙_}
 use Prim.Native.Nat.{_-_, _≤_}
@@ -15,11 +15,14 @@ abbrev μ-loop : tie.MeasureT-loop
 at : (c : tie.In-loop Inv-loop μ-loop) → Game (c .before .before .before .before .before .before .before .args .m) (c .before .loop .w) (c .before .loop .k - 1)
 at c = game-in (c .before .before .before .before .before .before .before .args .m) (c .before .loop .w) (c .before .loop .k) 0 (c .before .loop .k - 1) (c .before .loop .inv .1 .played) (omega arith) (omega arith) (omega arith)
 
-leaves-requires : tie.Need-leaves-requires Inv-loop μ-loop
-leaves-requires c κs = c .before .before .pre
+add-number : tie.Need-add-number Inv-loop μ-loop
+add-number c = omega arith
+
+number-requires : tie.Need-number-requires Inv-loop μ-loop
+number-requires c κs = (omega arith, omega arith)
 
 loop-holds : tie.Need-loop-holds Inv-loop μ-loop
-loop-holds c = (omega arith, build-start (c .before .before .before .before .before .args .m) (c .before .before .before .before .before .args .w .now) (c .before .before .leaves .last .0) (c .before .before .leaves .ensures))
+loop-holds c = (omega arith, build-start (c .before .before .before .before .before .args .m) (c .before .before .before .before .before .args .w .now) (c .before .before .number .last .0) (leaves-are _ _ _ (c .before .before .before .before .before .pre .0) (c .before .before .number .ensures)))
 
 sub-k : tie.Need-sub-k Inv-loop μ-loop
 sub-k c = omega arith
@@ -89,15 +92,15 @@ loop-again c =
     let d = c .before .before .before .before .before in
     let l = d .before .loop in
     let s = d .before .before .before .before .before .before .before in
-    (omega (arith, l .inv .0), build-less (s .args .m) (d .before .before .before .before .leaves .last .0) (l .w) (l .k) (c .pick .result) (l .inv .1) (d .loop-test .taken) (l .inv .0) (c .pick .ensures))
+    (omega (arith, l .inv .0), build-less (s .args .m) (d .before .before .before .before .number .last .0) (l .w) (l .k) (c .pick .result) (l .inv .1) (d .loop-test .taken) (l .inv .0) (c .pick .ensures))
 
 same-length : tie.Need-same-length Inv-loop μ-loop
-same-length c = c .before .loop .inv .1 .long ∙ c .before .before .before .before .leaves .ensures .long
+same-length c = c .before .loop .inv .1 .long ∙ c .before .before .before .before .number .kept .0
 
 returns : tie.Need-returns Inv-loop μ-loop
 returns c =
     let d = c .before .before .before .before .before .before .before in
-    build-all (d .args .m) (d .args .w .now) (c .before .before .before .before .leaves .last .0) (c .before .loop .w) (c .before .loop .k) (c .before .before .before .before .leaves .ensures) (c .before .loop .inv .1) (omega arith)
+    build-all (d .args .m) (d .args .w .now) (c .before .before .before .before .number .last .0) (c .before .loop .w) (c .before .loop .k) (leaves-are _ _ _ (d .pre .0) (c .before .before .before .before .number .ensures)) (c .before .loop .inv .1) (omega arith)
 
 pub build-spec : {M : Type 1} → statement M
 build-spec =
@@ -105,7 +108,8 @@ build-spec =
     (tie.spec
     Inv-loop
     μ-loop
-    leaves-requires
+    add-number
+    number-requires
     loop-holds
     sub-k
     mul-i
