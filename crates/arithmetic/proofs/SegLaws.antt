@@ -11,8 +11,8 @@ use lib.ListN.{length, getD, take, drop, set, replicate, length-set, length-drop
 use lib.Seq.{getD-set-same, getD-set-other, getD-take, getD-drop, length-take-le, ext-getD, sets, sets-eq, take-suc, set-set, set-comm, drop-drop, take-add, take-all, drop-set-lt}
 use borrow.Rule.Slice.PartMut.{putMid}
 use Rattle.arithmetic.specs.Seg.{seg, put, Apart}
-use Rattle.arithmetic.specs.Seq.{tabulate}
-use Rattle.arithmetic.proofs.SeqLaws.{tab-at, tab-length}
+use Rattle.arithmetic.specs.Seq.{tabulate, sum}
+use Rattle.arithmetic.proofs.SeqLaws.{tab-at, tab-length, sum-append}
 
 pub lt-or-le : (m n : ℕ) → (m < n) ⊎ (n ≤ m)
 lt-or-le m n = by-cases (decLt m n) inl (λ k. inr (omega arith))
@@ -270,3 +270,17 @@ module _ {A : Type 0} (w : List A) (a k : ℕ) (ys : List A) (e : length ys ≡ 
 
   pub lent-else : (j : ℕ) (d : A) → (a ≤ j → j < a + k → ⊥) → getD (putMid a k w ys) j d ≡ getD w j d
   lent-else j d o = ap (λ (x : List A). getD x j d) (put-mid w a k ys e h) ∙ getD-put-out w a ys j d (λ p q. o p (omega arith))
+
+-- ---- sums of a segment
+
+pub sum-more : (w : List ℕ) (b n : ℕ) → b + n < length w → sum (seg w b (n + 1)) ≡ sum (seg w b n) + getD w (b + n) 0
+unfolding sum
+sum-more w b n h = ap sum (seg-snoc w b n 0 h) ∙ sum-append (seg w b n) (getD w (b + n) 0 ∷ []) ∙ omega arith
+
+pub sum-le : (w : List ℕ) (b n m : ℕ) → n ≤ m → sum (seg w b n) ≤ sum (seg w b m)
+sum-le w b n m h = let z : n + (m - n) ≡ m = omega arith in omega (arith, sym (ap (λ (k : ℕ). sum (seg w b k)) z), ap sum (seg-add w b n (m - n)), sum-append (seg w b n) (seg w (b + n) (m - n)))
+
+-- the sums of what f grows by are f
+pub sums-are : (w : List ℕ) (b k : ℕ) (f : ℕ → ℕ) → b + k ≤ length w → f 0 ≡ 0 → ((n : ℕ) → n < k → f (suc n) ≡ f n + getD w (b + n) 0) → (n : ℕ) → n ≤ k → sum (seg w b n) ≡ f n
+sums-are w b k f h z s zero p = (unfold seg sum in sym z)
+sums-are w b k f h z s (suc n) p = ap (λ (j : ℕ). sum (seg w b j)) (sym (add-one n)) ∙ omega (arith, sum-more w b n (omega arith), sums-are w b k f h z s n (omega arith), s n p)

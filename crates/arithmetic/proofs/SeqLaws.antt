@@ -6,9 +6,9 @@ use mathlib.Core.Path.{_≡_, refl, sym, ap, _∙_}
 use mathlib.Core.Bool.{Bool, true, false, cond, _&&_}
 use mathlib.Core.List.{List, [], _∷_, _++_, map}
 use lib.Dec.{eqb}
-use lib.ListN.{length, getD, length-map}
+use lib.ListN.{length, getD, set, length-map}
 use borrow.Author.Tests.{eqb-true, eqb-false, ne-eqb, eq-eqb}
-use Rattle.arithmetic.specs.Seq.{upto, tabulate, keep, each}
+use Rattle.arithmetic.specs.Seq.{upto, tabulate, keep, each, sum}
 
 -- ---- tests of numbers
 
@@ -177,3 +177,22 @@ keep-swap s t l = sym (keep-and s t l) ∙ keep-same (λ x. s x && t x) (λ x. t
     and-comm true false = refl
     and-comm false true = refl
     and-comm false false = refl
+
+-- ---- sums
+
+pub sum-append : (l m : List ℕ) → sum (l ++ m) ≡ sum l + sum m
+unfolding sum
+sum-append [] m = omega arith
+sum-append (x ∷ l) m = omega (arith, sum-append l m)
+
+pub sum-set : (l : List ℕ) (i v : ℕ) → i < length l → sum (set l i v) + getD l i 0 ≡ sum l + v
+unfolding sum
+sum-set [] i v h = absurd (omega arith)
+sum-set (x ∷ l) zero v h = omega arith
+sum-set (x ∷ l) (suc i) v h = omega (arith, sum-set l i v (omega arith))
+
+pub sum-one : (l : List ℕ) (i : ℕ) → getD l i 0 ≤ sum l
+unfolding sum
+sum-one [] i = omega arith
+sum-one (x ∷ l) zero = omega arith
+sum-one (x ∷ l) (suc i) = omega (arith, sum-one l i)

@@ -1,5 +1,5 @@
 -- Lists that every stage uses. Definitions only.
-use Prim.Native.Nat.{ℕ, zero, suc}
+use Prim.Native.Nat.{ℕ, zero, suc, _+_}
 use mathlib.Core.Path.{_≡_}
 use mathlib.Core.Logic.{_⊎_}
 use mathlib.Core.Bool.{Bool, true, cond, _&&_}
@@ -28,6 +28,11 @@ all p (x ∷ xs) = p x && all p xs
 unfoldable pub each : {A B : Type 0} → (A → List B) → List A → List B
 each f [] = []
 each f (x ∷ xs) = f x ++ each f xs
+
+-- the sum of all elements
+unfoldable pub sum : List ℕ → ℕ
+sum [] = 0
+sum (x ∷ xs) = x + sum xs
 
 -- what holds of each element
 abbrev pub All : {A : Type 0} → (A → Type 0) → List A → Type 0
