@@ -3,7 +3,7 @@ use Prim.Native.Nat.{ℕ, zero, suc, _+_, _-_, _≤_, _<_, _^_}
 use native.Mathlib.Omega.{arith}
 use native.Mathlib.Numerals.{add-one}
 use mathlib.Core.Path.{_≡_, refl, sym, ap, _∙_, subst}
-use mathlib.Core.Logic.{_⊎_, ⊎-elim}
+use mathlib.Core.Logic.{⊎-elim}
 use mathlib.Core.Bool.{Bool, false, cond}
 use mathlib.Core.List.{List}
 use lib.Dec.{eqb}
@@ -15,7 +15,7 @@ use Rattle.arithmetic.proofs.SegLaws.{eq-or-ne}
 use Rattle.labels.proofs.ForestLaws.{not-both, read-set, gate-in, gate-out}
 use Rattle.labels.proofs.RankLaws.{rank-zero, rank-hit, rank-miss, rank-le}
 use Rattle.labels.specs.Bands.{marks, part}
-use Rattle.labels.specs.Numbering.{final, total, Counted, Numbering, Ahead}
+use Rattle.labels.specs.Numbering.{final, Counted, Numbering, Ahead}
 use Rattle.labels.proofs.BandLaws.{marks-in, marks-out, length-marks}
 use Rattle.labels.proofs.JointLaws.{part-in, part-out, length-part}
 
@@ -179,7 +179,7 @@ module _ (iv w rs : List ℕ) (F : Forest (marks iv) w rs) where
                   bad k = omega arith
               go (suc s) z = sym (N .bands p s z) ∙ N .bands g s (sym q ∙ z)
 
--- ---- bounds and sums
+-- ---- bounds
 pub rank-upto : (rs : List ℕ) (g : ℕ) → g ≤ length rs → rank (firsts rs) g ≤ g
 rank-upto rs zero h = omega (arith, rank-zero rs)
 rank-upto rs (suc g) h = ⊎-elim (λ e. omega (arith, rank-hit rs g h e, rank-upto rs g (omega arith))) (λ n. omega (arith, rank-miss rs g h n, rank-upto rs g (omega arith))) (eq-or-ne (getD rs g 0) (suc g))
@@ -189,47 +189,6 @@ count-begin iv rs c e j q = ap (λ (y : List ℕ). getD y j 0) e ∙ getD-replic
 
 pub count-bound : (iv w rs : List ℕ) → Forest (marks iv) w rs → (c : List ℕ) (g : ℕ) → g ≤ length w → Counted iv rs c g → (j : ℕ) → j < length c → getD c j 0 ≤ g
 count-bound iv w rs F c g h C j q = omega (arith, C j q, rank-upto (part iv rs j) g (omega (arith, length-part iv rs j, iv-long iv w rs F)))
-
-total-suc : (c : List ℕ) (j : ℕ) → total c (j + 1) ≡ total c j + getD c j 0
-unfolding total
-total-suc c j = ap (total c) (add-one j)
-
-total-more : (c : List ℕ) (a d b : ℕ) → a + d ≡ b → total c a ≤ total c b
-total-more c a zero b e = omega (arith, ap (total c) (to-b a b e))
-  where
-    to-b : (a b : ℕ) → a + 0 ≡ b → a ≡ b
-    to-b a b q = omega arith
-total-more c a (suc d) b e = omega (arith, total-suc c a, total-more c (a + 1) d b (omega arith))
-
-pub total-mono : (c : List ℕ) (a b : ℕ) → a ≤ b → total c a ≤ total c b
-total-mono c a b h = total-more c a (b - a) b (omega arith)
-
-pub record Summing (c₀ c : List ℕ) (s j : ℕ) : Type 0 where
-  pub long : length c ≡ length c₀
-  pub sum : s ≡ total c₀ j
-  pub done : (i : ℕ) → i < j → getD c i 0 ≡ total c₀ i
-  pub rest : (i : ℕ) → j ≤ i → getD c i 0 ≡ getD c₀ i 0
-
-pub sum-fits : (c₀ c : List ℕ) (s j : ℕ) → Summing c₀ c s j → j < length c₀ → s + getD c j 0 ≤ total c₀ (length c₀)
-sum-fits c₀ c s j S h = omega (arith, S .sum, S .rest j (omega arith), total-suc c₀ j, total-mono c₀ (j + 1) (length c₀) (omega arith))
-
-pub sum-step : (c₀ c : List ℕ) (s j : ℕ) → Summing c₀ c s j → j < length c₀ → Summing c₀ (set c j s) (s + getD c j 0) (j + 1)
-sum-step c₀ c s j S h =
-    record {
-      long = length-set c j s ∙ S .long;
-      sum = omega (arith, S .sum, S .rest j (omega arith), total-suc c₀ j);
-      done = λ i q. ⊎-elim (λ k. k .1 ∙ S .sum ∙ ap (total c₀) (sym (k .0))) (λ k. k .1 ∙ S .done i (less i q (k .0))) (at i);
-      rest = λ i q. ⊎-elim (λ k. absurd (past i q (k .0))) (λ k. k .1 ∙ S .rest i (omega arith)) (at i);
-    }
-  where
-    at : (i : ℕ) → ((i ≡ j) × (getD (set c j s) i 0 ≡ s)) ⊎ ((i ≡ j → ⊥) × (getD (set c j s) i 0 ≡ getD c i 0))
-    at i = read-set c j s i (omega (arith, S .long))
-
-    less : (i : ℕ) → i < j + 1 → (i ≡ j → ⊥) → i < j
-    less i q n = omega arith
-
-    past : (i : ℕ) → j + 1 ≤ i → i ≡ j → ⊥
-    past i q n = omega arith
 
 pub number-begin : (iv rs c : List ℕ) → ((i r : ℕ) → getD rs i 0 ≡ suc r → getD iv r 0 ≡ getD iv i 0) → Numbering iv rs c iv c 0
 number-begin iv rs c b =

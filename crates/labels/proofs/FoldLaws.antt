@@ -21,20 +21,14 @@ use Rattle.labels.proofs.OverLaws.{over-old, over-new, added-at, added-
 use Rattle.labels.proofs.RegionFacts.{map-at}
 use Rattle.labels.proofs.WindowLaws.{windows-step, windows-end}
 use Rattle.labels.specs.Bands.{Bands, window, marks, part, joint}
-use Rattle.labels.specs.Numbering.{final, sizes, total, Counted}
+use Rattle.labels.specs.Numbering.{final, sizes, Counted}
 use Rattle.labels.proofs.JointLaws.{roots-part, length-part, part-in, part-out}
 use Rattle.labels.proofs.CountLaws.{iv-long}
 
--- the counters hold the sizes, so their sums are the sizes' sums
-pub totals : (iv w rs c : List ℕ) → Forest (marks iv) w rs → Counted iv rs c (length w) → (j : ℕ) → j ≤ length c → total c j ≡ sizes iv rs j
-unfolding total sizes
-totals iv w rs c F C zero h = refl
-totals iv w rs c F C (suc j) h =
-    omega (
-      arith,
-      totals iv w rs c F C j (omega arith),
-      C j h ∙ ap (rank (firsts (part iv rs j))) (iv-long iv w rs F ∙ sym (length-part iv rs j)) ∙ rank-end (part iv rs j),
-    )
+-- the counters hold the sizes, by which the sums of sizes grow
+pub sizes-grow : (iv w rs c : List ℕ) → Forest (marks iv) w rs → Counted iv rs c (length w) → (j : ℕ) → j < length c → sizes iv rs (suc j) ≡ sizes iv rs j + getD c j 0
+unfolding sizes
+sizes-grow iv w rs c F C j h = ap (λ (x : ℕ). sizes iv rs j + x) (sym (C j h ∙ ap (rank (firsts (part iv rs j))) (iv-long iv w rs F ∙ sym (length-part iv rs j)) ∙ rank-end (part iv rs j)))
 
 module _ (gates : ℕ) (vel : List Float) (mask : List ℕ) (limits : List Float) (iv : List ℕ) (B : Bands limits vel mask iv) where
   R : List ℕ

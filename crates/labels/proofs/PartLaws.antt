@@ -9,7 +9,7 @@ use lib.Seq.{ext-getD, take-all, take-take}
 use borrow.Rule.Slice.PartMut.{midOf, putMid, mid-len}
 use Rattle.arithmetic.specs.Asked.{Rising}
 use Rattle.arithmetic.specs.Seg.{seg, put}
-use Rattle.arithmetic.proofs.SegLaws.{length-seg, getD-seg, lent-seg, lent-else, put-mid, length-put, seg-put-out, seg-all, seg-add}
+use Rattle.arithmetic.proofs.SegLaws.{length-seg, getD-seg, lent-seg, lent-else, put-mid, length-put, seg-put-below, seg-put-same, seg-all, seg-add}
 use Rattle.labels.specs.Label.{Found}
 use Rattle.labels.specs.Regions.{over, added, nothing, regions}
 use Rattle.labels.specs.Sheet.{Same, Fitting, Block, Ample}
@@ -92,18 +92,13 @@ pub record Growing (gates : ℕ) (vel : List Float) (mask : List ℕ) (limits : 
   pub found : record { labels = seg u 0 n; number = k } ≡ regions gates vel mask (take (suc i) limits)
 
 module _ (gates : ℕ) (vel : List Float) (mask : List ℕ) (limits : List Float) (n : ℕ) (S : Same n vel mask) (R : Rising limits) where
-  -- the labels cleared
-  pub grow-begin : (u ys : List ℕ) → n ≤ length u → ys ≡ replicate (length (midOf 0 (n - 0) u)) 0 → (length (putMid 0 (n - 0) u ys) ≡ length u) × Growing gates vel mask limits n (putMid 0 (n - 0) u ys) 0 0
+  -- no labels yet
+  pub grow-begin : (u v : List ℕ) → n ≤ length u → v ≡ put u 0 (replicate n 0) → Growing gates vel mask limits n v 0 0
   unfolding nothing
-  grow-begin u ys fits c =
-      let m : length (midOf 0 (n - 0) u) ≡ n - 0 = mid-len 0 n u fits in
-      let k : n - 0 ≡ n = omega arith in
-      let z : ys ≡ replicate n 0 = c ∙ ap (λ (y : ℕ). replicate y 0) (m ∙ k) in
-      let l : length ys ≡ n - 0 = ap length c ∙ length-replicate (length (midOf 0 (n - 0) u)) 0 ∙ m in
-      let s : seg (putMid 0 (n - 0) u ys) 0 n ≡ replicate (length mask) 0 = ap (λ (y : ℕ). seg (putMid 0 (n - 0) u ys) 0 y) (sym k) ∙ lent-seg u 0 (n - 0) ys l (omega arith) ∙ z ∙ ap (λ (y : ℕ). replicate y 0) (sym (S .masks)) in (
-        ap length (put-mid u 0 (n - 0) ys l (omega arith)) ∙ length-put u 0 ys,
-        record { found = ap (λ (t : List ℕ). record { labels = t; number = 0 }) s ∙ sym (begin gates vel mask limits) },
-      )
+  grow-begin u v fits c =
+      let l : length (replicate {A = ℕ} n 0) ≡ n = length-replicate n 0 in
+      let s : seg v 0 n ≡ replicate (length mask) 0 = ap (λ (y : List ℕ). seg y 0 n) c ∙ ap (seg (put u 0 (replicate n 0)) 0) (sym l) ∙ seg-put-same u 0 (replicate n 0) (omega arith) ∙ ap (λ (y : ℕ). replicate y 0) (sym (S .masks)) in
+      record { found = ap (λ (t : List ℕ). record { labels = t; number = 0 }) s ∙ sym (begin gates vel mask limits) }
 
   module _ (u : List ℕ) (k i j : ℕ) (G : Growing gates vel mask limits n u k i) (low : i < j) (high : j < length limits) where
     size : j + 1 - i ≡ suc (j - i)
@@ -152,22 +147,12 @@ module _ (gates : ℕ) (limits : List Float) (u : List ℕ) (n k : ℕ) (A : Amp
   whole-found ys r f l E = ap (λ (t : List ℕ). record { labels = t; number = r }) (first-part u ys n (n + n + k - 0) (l ∙ whole-long ∙ omega arith) (omega (arith, A .long)) (omega arith)) ∙ E
 
 -- ---- labels, and zeros after them
-pub zeros-after : (u ys : List ℕ) (n m e : ℕ) (f : Found) (r : ℕ) → e ≡ length u → e ≡ n + m → record { labels = seg u 0 n; number = r } ≡ f → ys ≡ replicate (length (midOf n (e - n) u)) 0
-    → (r ≡ f .number) × (putMid n (e - n) u ys ≡ f .labels ++ replicate m 0)
-zeros-after u ys n m e f r q s E z =
-    let k : e - n ≡ m = omega arith in
-    let long : length (midOf n (e - n) u) ≡ e - n = mid-len n e u (omega arith) in
-    let y : ys ≡ replicate m 0 = z ∙ ap (λ (t : ℕ). replicate t 0) (long ∙ k) in
-    let ly : length ys ≡ e - n = ap length y ∙ length-replicate m 0 ∙ sym k in
-    let v : List ℕ = putMid n (e - n) u ys in
-    let is : v ≡ put u n ys = put-mid u n (e - n) ys ly (omega arith) in
-    let lv : length v ≡ n + m = ap length is ∙ length-put u n ys ∙ sym q ∙ s in
-    let a : seg v 0 n ≡ seg u 0 n = ap (λ (t : List ℕ). seg t 0 n) is ∙ seg-put-out u n ys 0 n (λ j a b c d. omega arith) in
-    let b : seg v n m ≡ ys = ap (seg v n) (sym k) ∙ lent-seg u n (e - n) ys ly (omega arith) in (
+pub zeros-after : (u v : List ℕ) (n m : ℕ) (f : Found) (r : ℕ) → length u ≡ n + m → record { labels = seg u 0 n; number = r } ≡ f → v ≡ put u n (replicate m 0) → (r ≡ f .number) × (v ≡ f .labels ++ replicate m 0)
+zeros-after u v n m f r e E z =
+    let l : length (replicate {A = ℕ} m 0) ≡ m = length-replicate m 0 in
+    let a : seg v 0 n ≡ f .labels = ap (λ (t : List ℕ). seg t 0 n) z ∙ seg-put-below u n (replicate m 0) 0 n (omega arith) ∙ ap (λ (t : Found). t .labels) E in
+    let b : seg v n m ≡ replicate m 0 = ap (λ (t : List ℕ). seg t n m) z ∙ ap (seg (put u n (replicate m 0)) n) (sym l) ∙ seg-put-same u n (replicate m 0) (omega arith) in (
       ap (λ (t : Found). t .number) E,
-      sym (seg-all v (n + m) lv)
-          ∙ seg-add v 0 n m
-          ∙ ap (λ (t : ℕ). seg v 0 n ++ seg v t m) (omega arith)
-          ∙ ap (λ (t : List ℕ). t ++ seg v n m) (a ∙ ap (λ (t : Found). t .labels) E)
-          ∙ ap (λ (t : List ℕ). f .labels ++ t) (b ∙ y),
+      sym (seg-all v (n + m) (ap length z ∙ length-put u n (replicate m 0) ∙ e)) ∙ seg-add v 0 n m ∙ ap (λ (t : ℕ). seg v 0 n ++ seg v t m) (omega arith)
+          ∙ ap (λ (t : List ℕ). t ++ seg v n m) a ∙ ap (λ (t : List ℕ). f .labels ++ t) b,
     )

@@ -5,16 +5,15 @@ use mathlib.Core.Path.{_≡_, refl, sym, ap, _∙_, subst}
 use mathlib.Core.Logic.{⊎-elim}
 use mathlib.Core.Bool.{Bool}
 use mathlib.Core.List.{List, [], _∷_, foldl}
-use lib.ListN.{length, getD, set, drop, replicate, length-drop, length-replicate, getD-replicate, List·getD-eq-default}
-use lib.Seq.{drop-set-lt, drop-set-add, getD-drop, take-all, ext-getD}
+use lib.ListN.{length, getD, set, drop, length-drop, List·getD-eq-default}
+use lib.Seq.{drop-set-lt, drop-set-add, getD-drop, take-all}
 use borrow.Rule.Slice.PartMut.{midOf, putMid, drop-put}
 use Rattle.arithmetic.specs.Seg.{seg, put}
-use Rattle.arithmetic.proofs.SegLaws.{length-seg, getD-seg, seg-set-in, seg-set-out, lent-seg, put-mid, seg-put-out, length-put, lt-or-le}
+use Rattle.arithmetic.proofs.SegLaws.{length-seg, getD-seg, seg-set-in, seg-set-out, lent-seg, put-mid, seg-put-out, seg-put-below, seg-put-same, length-put, lt-or-le}
 use Rattle.labels.specs.Label.{join, Link}
 use Rattle.labels.specs.Forest.{Forest, Some, Gate}
 use Rattle.labels.specs.Bands.{marks, Treed}
 use Rattle.labels.specs.Sheet.{Joins, Counts}
-use Rattle.labels.proofs.ForestLaws.{read-set}
 use Rattle.labels.proofs.BandLaws.{marks-in, length-marks}
 use Rattle.labels.proofs.JointLaws.{by-one}
 
@@ -127,37 +126,13 @@ module _ (u v : List ℕ) (n : ℕ) (J : Joins u v n) where
       → Forest (marks (seg u 0 n)) (seg v n n) rs → Forest (marks (seg u 0 n)) (seg w n n) (foldl join rs (links (seg u 0 n)))
   after w rs links E F = subst (λ (b : List ℕ). Forest (marks b) (seg w n n) (foldl join rs (links b))) (J .bands) (E rs (subst (λ (b : List ℕ). Forest (marks b) (seg v n n) rs) (sym (J .bands)) F))
 
--- ---- a part cleared, word by word
-pub cleared : (l l₂ : List ℕ) (i : ℕ) → length l₂ ≡ length l → ((j : ℕ) → j < i → getD l₂ j 0 ≡ 0) → length l ≤ i → l₂ ≡ replicate (length l) 0
-cleared l l₂ i e z h = ext-getD 0 l₂ (replicate (length l) 0) (e ∙ sym (length-replicate (length l) 0)) (λ j q. z j (omega arith) ∙ sym (getD-replicate (length l) j 0 0 (omega arith)))
+-- ---- the counters become ys
+module _ (u : List ℕ) (n : ℕ) (fits : n + n ≤ length u) (ys : List ℕ) (e : length ys ≡ length u - (n + n)) where
+  pub put-counts : drop (n + n) (put u (n + n) ys) ≡ ys
+  unfolding seg
+  put-counts =
+      sym (take-all (length ys) (drop (n + n) (put u (n + n) ys)) (omega (arith, length-drop (n + n) (put u (n + n) ys), length-put u (n + n) ys)))
+      ∙ seg-put-same u (n + n) ys (omega arith)
 
-pub clear-step : (l : List ℕ) (i : ℕ) → i < length l → ((j : ℕ) → j < i → getD l j 0 ≡ 0) → (j : ℕ) → j < i + 1 → getD (set l i 0) j 0 ≡ 0
-clear-step l i h z j q = ⊎-elim (λ s. s .1) (λ s. s .1 ∙ z j (less (s .0))) (read-set l i 0 j h)
-  where
-    less : (j ≡ i → ⊥) → j < i
-    less n = omega arith
-
--- ---- the counters lent, and back as ys
-module _ (u : List ℕ) (n : ℕ) (fits : n + n ≤ length u) where
-  pub lent-counts : midOf (n + n) (length u - (n + n)) u ≡ drop (n + n) u
-  lent-counts = take-all (length u - (n + n)) (drop (n + n) u) (omega (arith, length-drop (n + n) u))
-
-  module _ (ys : List ℕ) (e : length ys ≡ length u - (n + n)) where
-    put-counts : putMid (n + n) (length u - (n + n)) u ys ≡ put u (n + n) ys
-    put-counts = put-mid u (n + n) (length u - (n + n)) ys e (omega arith)
-
-    pub back-length : length (putMid (n + n) (length u - (n + n)) u ys) ≡ length u
-    back-length = ap length put-counts ∙ length-put u (n + n) ys
-
-    pub back-counts : drop (n + n) (putMid (n + n) (length u - (n + n)) u ys) ≡ ys
-    unfolding seg
-    back-counts =
-        let v : List ℕ = putMid (n + n) (length u - (n + n)) u ys in
-        sym (take-all (length u - (n + n)) (drop (n + n) v) (omega (arith, length-drop (n + n) v, back-length))) ∙ lent-seg u (n + n) (length u - (n + n)) ys e (omega arith)
-
-    pub back-others : Counts u (putMid (n + n) (length u - (n + n)) u ys) n
-    back-others =
-        record {
-          bands = ap (λ (y : List ℕ). seg y 0 n) put-counts ∙ seg-put-out u (n + n) ys 0 n (λ j a b c d. omega arith);
-          words = ap (λ (y : List ℕ). seg y n n) put-counts ∙ seg-put-out u (n + n) ys n n (λ j a b c d. omega arith);
-        }
+  pub put-others : Counts u (put u (n + n) ys) n
+  put-others = record { bands = seg-put-below u (n + n) ys 0 n (omega arith); words = seg-put-below u (n + n) ys n n (omega arith) }

@@ -1,98 +1,63 @@
--- The tally, from call to call: u at first, ys its counters cleared, v with the regions counted, zs the counters' starts. Assumes nothing.
+-- The tally, from call to call: u at first, u₁ with the counters 0, v with the regions counted, x with the counters' starts. Assumes nothing.
 use Prim.Native.Nat.{ℕ, _+_, _-_, _≤_, _<_, _^_}
 use native.Mathlib.Omega.{arith}
-use mathlib.Core.Path.{_≡_, sym, ap, _∙_, subst}
+use mathlib.Core.Path.{_≡_, refl, sym, ap, _∙_, subst}
 use mathlib.Core.List.{List}
 use lib.ListN.{length, getD, drop, replicate, length-replicate}
-use borrow.Rule.Slice.PartMut.{midOf, putMid}
-use Rattle.arithmetic.specs.Seg.{seg}
+use Rattle.arithmetic.specs.Seg.{seg, put}
+use Rattle.arithmetic.specs.Seq.{tabulate, sum}
+use Rattle.arithmetic.proofs.SegLaws.{length-put, sums-are}
+use Rattle.arithmetic.proofs.SeqLaws.{tab-at, tab-length}
 use Rattle.labels.specs.Forest.{Forest}
 use Rattle.labels.specs.Bands.{marks, Treed}
-use Rattle.labels.specs.Numbering.{total, sizes, Counted, Tally}
+use Rattle.labels.specs.Numbering.{sizes, Counted, Tally}
 use Rattle.labels.specs.Sheet.{Counts}
-use Rattle.labels.proofs.FoldLaws.{totals}
-use Rattle.labels.proofs.SheetLaws.{counts-long, words-long, lent-counts, back-length, back-counts, back-others}
+use Rattle.labels.proofs.FoldLaws.{sizes-grow}
+use Rattle.labels.proofs.SheetLaws.{counts-long, words-long, count-at, put-counts, put-others}
 use Rattle.labels.proofs.GateLaws.{counts-both}
 
-module _ (u : List ℕ) (n : ℕ) (fits : n + n ≤ length u) (T : Tally (seg u 0 n) (seg u n n) (drop (n + n) u)) (ys : List ℕ) (clean : ys ≡ replicate (length (midOf (n + n) (length u - (n + n)) u)) 0) where
-  first : List ℕ
-  first = putMid (n + n) (length u - (n + n)) u ys
+module _ (u : List ℕ) (n : ℕ) (fits : n + n ≤ length u) (T : Tally (seg u 0 n) (seg u n n) (drop (n + n) u)) (u₁ : List ℕ) (clean : u₁ ≡ put u (n + n) (replicate (length u - (n + n)) 0)) where
+  long₁ : length u₁ ≡ length u
+  long₁ = ap length clean ∙ length-put u (n + n) (replicate (length u - (n + n)) 0)
 
-  ys-zero : ys ≡ replicate (length (drop (n + n) u)) 0
-  ys-zero = clean ∙ ap (λ (l : List ℕ). replicate (length l) 0) (lent-counts u n fits)
+  counts₁ : drop (n + n) u₁ ≡ replicate (length u - (n + n)) 0
+  counts₁ = ap (drop (n + n)) clean ∙ put-counts u n fits (replicate (length u - (n + n)) 0) (length-replicate (length u - (n + n)) 0)
 
-  ys-same : length ys ≡ length (drop (n + n) u)
-  ys-same = ap length ys-zero ∙ length-replicate (length (drop (n + n) u)) 0
+  others₁ : Counts u u₁ n
+  others₁ = subst (λ (l : List ℕ). Counts u l n) (sym clean) (put-others u n fits (replicate (length u - (n + n)) 0) (length-replicate (length u - (n + n)) 0))
 
-  ys-long : length ys ≡ length u - (n + n)
-  ys-long = ys-same ∙ counts-long u n fits
-
-  first-long : length first ≡ length u
-  unfolding first
-  first-long = back-length u n fits ys ys-long
-
-  first-counts : drop (n + n) first ≡ ys
-  unfolding first
-  first-counts = back-counts u n fits ys ys-long
-
-  first-others : Counts u first n
-  unfolding first
-  first-others = back-others u n fits ys ys-long
-
-  pub count-asks : Treed (seg (putMid (n + n) (length u - (n + n)) u ys) 0 n) (seg (putMid (n + n) (length u - (n + n)) u ys) n n)
-      × (((n + n ≤ length (putMid (n + n) (length u - (n + n)) u ys)) × ((i : ℕ) → getD (seg (putMid (n + n) (length u - (n + n)) u ys) 0 n) i 0 ≤ length (drop (n + n) (putMid (n + n) (length u - (n + n)) u ys))))
-      × (drop (n + n) (putMid (n + n) (length u - (n + n)) u ys) ≡ replicate (length (drop (n + n) (putMid (n + n) (length u - (n + n)) u ys))) 0))
-  unfolding first
+  pub count-asks : Treed (seg u₁ 0 n) (seg u₁ n n) × (((n + n ≤ length u₁) × ((i : ℕ) → getD (seg u₁ 0 n) i 0 ≤ length (drop (n + n) u₁))) × (drop (n + n) u₁ ≡ replicate (length (drop (n + n) u₁)) 0))
   count-asks =
-      let t : Treed (seg first 0 n) (seg first n n) = rw (first-others .bands, first-others .words) (T .treed) in
-      let b : (i : ℕ) → getD (seg first 0 n) i 0 ≤ length (drop (n + n) first) = λ i. rw (first-others .bands, first-counts) (omega (arith, T .band i, ys-same)) in
-      let z : drop (n + n) first ≡ replicate (length (drop (n + n) first)) 0 = rw first-counts (ys-zero ∙ ap (λ (k : ℕ). replicate k 0) (sym ys-same)) in
-      (t, ((omega (arith, first-long), b), z))
+      let l : length (drop (n + n) u₁) ≡ length u - (n + n) = counts-long u₁ n (omega (arith, long₁)) ∙ ap (λ (k : ℕ). k - (n + n)) long₁ in
+      let t : Treed (seg u₁ 0 n) (seg u₁ n n) = rw (others₁ .bands, others₁ .words) (T .treed) in
+      let b : (i : ℕ) → getD (seg u₁ 0 n) i 0 ≤ length (drop (n + n) u₁) = λ i. rw (others₁ .bands) (omega (arith, T .band i, counts-long u n fits)) in
+      (t, ((omega (arith, long₁), b), counts₁ ∙ ap (λ (k : ℕ). replicate k 0) (sym l)))
 
-  module _ (v : List ℕ) (kept : length v ≡ length (putMid (n + n) (length u - (n + n)) u ys)) (C : Counts (putMid (n + n) (length u - (n + n)) u ys) v n)
-      (E : (rs : List ℕ) → Forest (marks (seg (putMid (n + n) (length u - (n + n)) u ys) 0 n)) (seg (putMid (n + n) (length u - (n + n)) u ys) n n) rs → Counted (seg (putMid (n + n) (length u - (n + n)) u ys) 0 n) rs (drop (n + n) v) n) where
+  module _ (v : List ℕ) (kept : length v ≡ length u₁) (C : Counts u₁ v n) (E : (rs : List ℕ) → Forest (marks (seg u₁ 0 n)) (seg u₁ n n) rs → Counted (seg u₁ 0 n) rs (drop (n + n) v) n) where
     v-long : length v ≡ length u
-    unfolding first
-    v-long = kept ∙ first-long
+    v-long = kept ∙ long₁
 
-    v-fits : n + n ≤ length v
-    v-fits = omega (arith, v-long)
-
-    v-others : Counts u v n
-    unfolding first
-    v-others = counts-both u first v n first-others C
-
-    -- the counters lent again
-    pub mid : midOf (n + n) (length u - (n + n)) v ≡ drop (n + n) v
-    mid = ap (λ (k : ℕ). midOf (n + n) (k - (n + n)) v) (sym v-long) ∙ lent-counts v n v-fits
-
-    same : length (drop (n + n) v) ≡ length (drop (n + n) u)
-    same = counts-long v n v-fits ∙ ap (λ (k : ℕ). k - (n + n)) v-long ∙ sym (counts-long u n fits)
-
-    counted : (rs : List ℕ) → Forest (marks (seg u 0 n)) (seg u n n) rs → (j : ℕ) → j ≤ length (drop (n + n) v) → total (drop (n + n) v) j ≡ sizes (seg u 0 n) rs j
-    unfolding first
+    -- the sums of the counters
+    counted : (rs : List ℕ) → Forest (marks (seg u 0 n)) (seg u n n) rs → (j : ℕ) → j ≤ length u - (n + n) → sum (seg v (n + n) j) ≡ sizes (seg u 0 n) rs j
     counted rs F =
-        let E₂ : Counted (seg u 0 n) rs (drop (n + n) v) n = subst (λ (b : List ℕ). Counted b rs (drop (n + n) v) n) (first-others .bands) (E rs (rw (first-others .bands, first-others .words) F)) in
-        totals (seg u 0 n) (seg u n n) rs (drop (n + n) v) F (subst (Counted (seg u 0 n) rs (drop (n + n) v)) (sym (words-long u n fits)) E₂)
+        let E₂ : Counted (seg u 0 n) rs (drop (n + n) v) n = subst (λ (b : List ℕ). Counted b rs (drop (n + n) v) n) (others₁ .bands) (E rs (rw (others₁ .bands, others₁ .words) F)) in
+        sums-are v (n + n) (length u - (n + n)) (sizes (seg u 0 n) rs) (omega (arith, v-long)) (unfold sizes in refl)
+        (λ j h. sizes-grow (seg u 0 n) (seg u n n) rs (drop (n + n) v) F (subst (Counted (seg u 0 n) rs (drop (n + n) v)) (sym (words-long u n fits)) E₂) j (omega (arith, counts-long v n (omega (arith, v-long)), v-long))
+        ∙ ap (λ (x : ℕ). sizes (seg u 0 n) rs j + x) (count-at v n (omega (arith, v-long)) j))
 
-    pub starts-asks : total (midOf (n + n) (length u - (n + n)) v) (length (midOf (n + n) (length u - (n + n)) v)) < 2 ^ 32
-    starts-asks =
-        rw mid
-        (omega (arith, counted (T .treed .rs) (T .treed .forest) (length (drop (n + n) v)) (omega arith), ap (sizes (seg u 0 n) (T .treed .rs)) same, T .fits))
+    pub starts-asks : (n + n + (length u - (n + n)) ≤ length v) × (sum (seg v (n + n) (length u - (n + n))) < 2 ^ 32)
+    starts-asks = (omega (arith, v-long), omega (arith, counted (T .treed .rs) (T .treed .forest) (length u - (n + n)) (omega arith), ap (sizes (seg u 0 n) (T .treed .rs)) (counts-long u n fits), T .fits))
 
-    module _ (zs : List ℕ) (r : ℕ) (long : length zs ≡ length (midOf (n + n) (length u - (n + n)) v))
-        (S : (r ≡ total (midOf (n + n) (length u - (n + n)) v) (length (midOf (n + n) (length u - (n + n)) v))) × ((j : ℕ) → j < length (midOf (n + n) (length u - (n + n)) v) → getD zs j 0 ≡ total (midOf (n + n) (length u - (n + n)) v) j)) where
-      zs-long : length zs ≡ length v - (n + n)
-      zs-long = long ∙ ap length mid ∙ counts-long v n v-fits
-
-      last-is : putMid (n + n) (length u - (n + n)) v zs ≡ putMid (n + n) (length v - (n + n)) v zs
-      last-is = ap (λ (k : ℕ). putMid (n + n) (k - (n + n)) v zs) (sym v-long)
-
-      pub tallied : ((rs : List ℕ) → Forest (marks (seg u 0 n)) (seg u n n) rs → (r ≡ sizes (seg u 0 n) rs (length (drop (n + n) u))) × ((j : ℕ) → j < length (drop (n + n) u) → getD (drop (n + n) (putMid (n + n) (length u - (n + n)) v zs)) j 0 ≡ sizes (seg u 0 n) rs j))
-          × Counts u (putMid (n + n) (length u - (n + n)) v zs) n
-      tallied =
-          let S₂ : (r ≡ total (drop (n + n) v) (length (drop (n + n) v))) × ((j : ℕ) → j < length (drop (n + n) v) → getD zs j 0 ≡ total (drop (n + n) v) j) = rw mid at S in
-          let e : drop (n + n) (putMid (n + n) (length u - (n + n)) v zs) ≡ zs = ap (drop (n + n)) last-is ∙ back-counts v n v-fits zs zs-long in (
-            λ rs F. (S₂ .0 ∙ counted rs F (length (drop (n + n) v)) (omega arith) ∙ ap (sizes (seg u 0 n) rs) same, λ j q. ap (λ (l : List ℕ). getD l j 0) e ∙ S₂ .1 j (omega (arith, same)) ∙ counted rs F j (omega (arith, same))),
-            subst (λ (l : List ℕ). Counts u l n) (sym last-is) (counts-both u v (putMid (n + n) (length v - (n + n)) v zs) n v-others (back-others v n v-fits zs zs-long)),
-          )
+    pub tallied : (x : List ℕ) (r : ℕ) → r ≡ sum (seg v (n + n) (length u - (n + n))) → x ≡ put v (n + n) (tabulate (length u - (n + n)) (λ j. sum (seg v (n + n) j)))
+        → ((rs : List ℕ) → Forest (marks (seg u 0 n)) (seg u n n) rs → (r ≡ sizes (seg u 0 n) rs (length (drop (n + n) u))) × ((j : ℕ) → j < length (drop (n + n) u) → getD (drop (n + n) x) j 0 ≡ sizes (seg u 0 n) rs j)) × Counts u x n
+    tallied x r a b =
+        let S : List ℕ = tabulate (length u - (n + n)) (λ j. sum (seg v (n + n) j)) in
+        let lS : length S ≡ length v - (n + n) = tab-length (λ j. sum (seg v (n + n) j)) (length u - (n + n)) ∙ ap (λ (k : ℕ). k - (n + n)) (sym v-long) in
+        let z : drop (n + n) x ≡ S = ap (drop (n + n)) b ∙ put-counts v n (omega (arith, v-long)) S lS in (
+          λ rs F. (
+            a ∙ counted rs F (length u - (n + n)) (omega arith) ∙ ap (sizes (seg u 0 n) rs) (sym (counts-long u n fits)),
+            λ j q. let h : j < length u - (n + n) = omega (arith, counts-long u n fits) in
+                ap (λ (l : List ℕ). getD l j 0) z ∙ tab-at (λ j. sum (seg v (n + n) j)) (length u - (n + n)) j 0 h ∙ counted rs F j (omega arith),
+          ),
+          counts-both u v x n (counts-both u u₁ v n others₁ C) (subst (λ (l : List ℕ). Counts v l n) (sym b) (put-others v n (omega (arith, v-long)) S lS)),
+        )

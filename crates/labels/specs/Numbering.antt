@@ -9,11 +9,6 @@ use Rattle.labels.specs.Label.{firsts, rank}
 use Rattle.labels.specs.Forest.{Forest}
 use Rattle.labels.specs.Bands.{marks, part, Treed}
 
--- the sum of the first j
-unfoldable pub total : List ℕ → ℕ → ℕ
-total c zero = 0
-total c (suc j) = total c j + getD c j 0
-
 -- how many regions the first j bands have
 unfoldable pub sizes : List ℕ → List ℕ → ℕ → ℕ
 sizes iv rs zero = 0

@@ -6,10 +6,10 @@ ghost use mathlib.Core.Bool.{Bool};
 ghost use mathlib.Core.List.{List, foldl};
 ghost use Prim.Native.Nat.{ℕ, suc, _+_, _≤_, _<_, _^_};
 ghost use lib.ListN.{length, getD, replicate};
-ghost use Rattle.labels.specs.Label.{join, Link};
+ghost use Rattle.labels.specs.Label.{join};
 ghost use Rattle.labels.specs.Forest.{Forest, Some, Gate, Root};
 ghost use Rattle.labels.specs.Bands.{marks, aboveIn, beforeIn, linksIn, laterIn, Treed};
-ghost use Rattle.labels.specs.Numbering.{total, Counted, Numbering, Ahead, Ready};
+ghost use Rattle.labels.specs.Numbering.{Counted, Numbering, Ahead, Ready};
 ghost use Rattle.labels.specs.Sheet.{bandsOf, wordsOf, countsOf, Joins, Counts};
 
 // The first gate of the area of gate `start`. Halves the path there.
@@ -149,23 +149,6 @@ pub fn count(u: &mut [u32], n: usize)
         count_gate(u, n, g);
         g += 1;
     }
-}
-
-// From how many each has to how many those before it have; gives how many there are in all.
-pub fn starts(c: &mut [u32]) -> u32
-    requires { ⌜ total (now c) (length (now c)) < 2 ^ 32 ⌝ }
-    ensures { λ r. ⌜ (r ≡ total (now (c .entry)) (length (now (c .entry)))) × ((j : ℕ) → j < length (now (c .entry)) → getD (now (c .exit)) j 0 ≡ total (now (c .entry)) j) ⌝ }
-{
-    let n = c.len();
-    let mut s: u32 = 0;
-    let mut j = 0;
-    while j < n {
-        let t = c[j];
-        c[j] = s;
-        s = s + t;
-        j += 1;
-    }
-    s
 }
 
 // The label of gate `g` over its band, where all gates before have theirs.

@@ -7,8 +7,8 @@ ghost use mathlib.Core.List.{List, _++_};
 ghost use Prim.Native.Nat.{ℕ, suc, _+_, _*_, _-_, _≤_, _<_, _^_};
 ghost use lib.ListN.{length, getD, replicate};
 ghost use Rattle.arithmetic.specs.Asked.{Rising};
-ghost use Rattle.labels.specs.Label.{own, Found};
-ghost use Rattle.labels.specs.Regions.{within, regions, over, added, Interval};
+ghost use Rattle.labels.specs.Label.{own};
+ghost use Rattle.labels.specs.Regions.{within, regions, over, added};
 ghost use Rattle.labels.specs.Forest.{Forest};
 ghost use Rattle.labels.specs.Bands.{Band, Bands, marks, joint};
 ghost use Rattle.labels.specs.Numbering.{sizes, Tally};
@@ -100,18 +100,6 @@ pub fn prepare(gates: u32, velocity: &[f32], valid: &[u8], limits: &[f64], u: &m
     label::link_all(u, n, gates);
 }
 
-// All words 0.
-pub fn clear(w: &mut [u32])
-    ensures { λ _. ⌜ now (w .exit) ≡ replicate (length (now (w .entry))) 0 ⌝ }
-{
-    let n = w.len();
-    let mut i = 0;
-    while i < n {
-        w[i] = 0;
-        i += 1;
-    }
-}
-
 // How many regions the bands before each have, and how many there are.
 pub fn tally(u: &mut [u32], n: usize) -> u32
     requires { ⌜ n + n ≤ length (now u) ⌝ }
@@ -120,10 +108,10 @@ pub fn tally(u: &mut [u32], n: usize) -> u32
     ensures { λ _. ⌜ Counts (now (u .entry)) (now (u .exit)) n ⌝ }
 {
     let a = n + n;
-    let e = u.len();
-    clear(&mut u[a..e]);
+    let k = u.len() - a;
+    memory::words::fill(u, a, k, 0);
     label::count(u, n);
-    label::starts(&mut u[a..e])
+    memory::words::starts(u, a, k)
 }
 
 // The regions of all intervals at once: labels in the first n words.
@@ -216,8 +204,7 @@ pub fn blocks(
     requires { ⌜ Ample gates (now limits) (now u) n ⌝ }
     ensures { λ r. ⌜ record { labels = bandsOf (now (u .exit)) n; number = r } ≡ regions gates (now (velocity .entry)) (now (valid .entry)) (now (limits .entry)) ⌝ }
 {
-    let z = 0;
-    clear(&mut u[z..n]);
+    memory::words::fill(u, 0, n, 0);
     let m = limits.len();
     let mut k: u32 = 0;
     let mut i = 0;
@@ -275,8 +262,7 @@ pub fn find_regions(
     ensures { λ _. ⌜ now (u .exit) ≡ (regions gates (now (velocity .entry)) (now (valid .entry)) (now (limits .entry))) .labels ++ replicate (2 * length (now (velocity .entry)) + 64) 0 ⌝ }
 {
     let n = velocity.len();
-    let e = u.len();
     let r = label_gates(gates, velocity, valid, limits, u, n);
-    clear(&mut u[n..e]);
+    memory::words::fill(u, n, 2 * n + 64, 0);
     r
 }

@@ -1,8 +1,8 @@
 -- `labels::regions::find_regions` meets its contract. Assumes nothing.
-use Rattle.labels.proofs.PartLaws.{zeros-after}
 use Rattle.labels.specs.Regions.{regions}
+use Rattle.labels.proofs.PartLaws.{zeros-after}
 use native.Mathlib.Omega.{arith}
-use mathlib.Core.Path.{refl, sym}
+use mathlib.Core.Path.{refl}
 use Prim.Native.Nat.{_+_, _*_}
 use lib.ListN.{length}
 use borrow.Author.Needs.{needs}
@@ -13,39 +13,23 @@ label-gates-requires : tie.Need-label-gates-requires
 label-gates-requires c κs = let A = c .before .before .before .before .before .pre in
     (record { velocities = refl; masks = A .masks; small = A .small }, record { some-gates = A .some-gates; rising = A .rising; few-limits = A .few-limits; long = omega (arith, A .long) })
 
-mul-clear : tie.Need-mul-clear
-mul-clear c = omega arith
+mul-fill : tie.Need-mul-fill
+mul-fill c = search needs
 
-sub-clear : tie.Need-sub-clear
-sub-clear c = omega arith
+add-fill : tie.Need-add-fill
+add-fill c = search needs
 
-part-clear-start : tie.Need-part-clear-start
-part-clear-start c = omega arith
-
-part-clear-end : tie.Need-part-clear-end
-part-clear-end c = omega arith
-
-clear-requires : tie.Need-clear-requires
-clear-requires c κs = search needs
+fill-requires : tie.Need-fill-requires
+fill-requires c κs = omega (arith, c .before .before .before .before .before .before .before .before .before .pre .long, c .before .before .before .label-gates .kept .1 .1 .1 .1 .0)
 
 same-length : tie.Need-same-length
-same-length c = omega arith
+same-length c = search needs
 
 returns : tie.Need-returns
-returns c = let s = c .before .before .before .before .before .before .before .before .before .before .before .before in
-    let a = s .args in
-    let f = c .before .before .before .before .before .before .label-gates in
-    zeros-after (f .last .1 .1 .1 .1 .0) (c .before .before .clear .last .0) (length (a .velocity .now)) (2 * length (a .velocity .now) + 64) (length (a .u .now)) (regions (a .gates) (a .velocity .now) (a .valid .now) (a .limits .now)) (f .result) (sym (f .kept .1 .1 .1 .1 .0)) (omega (arith, s .pre .long)) (f .ensures) (c .before .before .clear .ensures)
+returns c =
+    let s = c .before .before .before .before .before .before .before .before .before .before .before .before in let a = s .args in let f = c .before .before .before .before .before .before .label-gates in let z = c .before .before .fill in
+    zeros-after (f .last .1 .1 .1 .1 .0) (z .last .0) (length (a .velocity .now)) (2 * length (a .velocity .now) + 64) (regions (a .gates) (a .velocity .now) (a .valid .now) (a .limits .now)) (f .result) (omega (arith, s .pre .long, f .kept .1 .1 .1 .1 .0)) (f .ensures) (z .ensures)
 
 pub find-regions-spec : {M : Type 1} → statement M
 find-regions-spec =
-    tie.close
-    (tie.spec
-    label-gates-requires
-    mul-clear
-    sub-clear
-    part-clear-start
-    part-clear-end
-    clear-requires
-    same-length
-    returns)
+    tie.close (tie.spec label-gates-requires mul-fill add-fill fill-requires same-length returns)
