@@ -1,5 +1,5 @@
 -- The pairs sorted by second label and then first, and runs of equal labels gathered. Definitions only.
-use Prim.Native.Nat.{ℕ, _+_}
+use Prim.Native.Nat.{ℕ}
 use mathlib.Core.Bool.{Bool, cond, _&&_}
 use mathlib.Core.List.{List, [], _∷_}
 use Rattle.arithmetic.specs.Seq.{upto, keep, each}
@@ -23,8 +23,3 @@ runsFrom r (p ∷ ps) = cond (alike r p) (runsFrom (plus r p) ps) (r ∷ runsFro
 unfoldable pub runs : List Pair → List EdgeRecord
 runs [] = []
 runs (p ∷ ps) = runsFrom (begun p) ps
-
--- the counts of all records
-unfoldable pub weigh : List EdgeRecord → ℕ
-weigh [] = 0
-weigh (r ∷ rs) = r .count + weigh rs

@@ -5,10 +5,10 @@ use mathlib.Core.List.{List, map}
 use lib.ListN.{length, getD}
 use lib.Ieee.{Float}
 use Rattle.arithmetic.specs.Seg.{seg}
+use Rattle.arithmetic.specs.Seq.{sum}
 use Rattle.edges.specs.declared.edges.Frame.{Frame}
 use Rattle.edges.specs.Edges.{difference}
 use Rattle.memory.specs.Layout.{orderAt, tallyAt, firstAt, secondAt, enextAt}
-use Rattle.edges.specs.Order.{weigh}
 use Rattle.edges.specs.declared.edges.EdgeRecord.{EdgeRecord}
 
 -- labels 0 to k in the first n words; room for the tables from t on
@@ -26,7 +26,7 @@ pub record Asked (f : Frame) (w : List ℕ) (d vel : List Float) (n k t : ℕ) :
 pub record Edged (wide : Float) (n : ℕ) (u v : List ℕ) (b : List Float) (t e : ℕ) (rs : List EdgeRecord) : Type 0 where
   pub count : e ≡ length rs
   pub few : e ≤ 4 * n
-  pub light : weigh rs ≤ 4 * n
+  pub light : sum (map (λ r. r .count) rs) ≤ 4 * n
   pub weight : seg v t e ≡ map (λ r. r .count) rs
   pub first : seg v (t + firstAt e) e ≡ map (λ r. r .one) rs
   pub second : seg v (t + secondAt e) e ≡ map (λ r. r .two) rs

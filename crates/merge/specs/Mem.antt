@@ -1,13 +1,14 @@
 -- The tables of the merging code as lists; Table says where each lies in the lent words. Definitions only.
 use mathlib.Core.Path.{_≡_}
-use mathlib.Core.Bool.{Bool, _||_, cond}
-use mathlib.Core.List.{List, [], _∷_}
+use mathlib.Core.Bool.{_||_, cond}
+use mathlib.Core.List.{List}
 use mathlib.Core.Option.{Option, none, some}
 use Prim.Native.Nat.{ℕ, _+_, _*_, _≤_, _<_, _^_}
 use lib.Dec.{T}
 use lib.Ieee.{binary32, fits, nan, Float}
 use lib.ListN.{length, getD, set}
 use Rattle.arithmetic.specs.Seg.{seg}
+use Rattle.arithmetic.specs.Seq.{sum}
 use Rattle.memory.specs.Tree.{Tree}
 use Rattle.memory.specs.Layout.{tableWords}
 use Rattle.merge.specs.Table.{Table, weight, first, second, enext, rnext, count, from, long, is}
@@ -28,10 +29,6 @@ pub record Room (m n : ℕ) (w : List ℕ) (d : List Float) : Type 0 where
   pub small : 2 * m + n < 2 ^ 32
   pub tree : Tree m w
 
-unfoldable pub total : List ℕ → ℕ
-total [] = 0
-total (x ∷ xs) = x + total xs
-
 -- what the words of a table stay below: numbers of nodes, numbers of slots, counts
 abbrev pub limit : Table → ℕ → ℕ → Option ℕ
 limit t m n = cond (is first t || is second t || is rnext t) (some n) (cond (is enext t) (some (2 * m + n)) (cond (is count t) (some 2001) none))
@@ -46,7 +43,7 @@ pub record Sound (m n : ℕ) (s : Mem) : Type 0 where
   pub l-diff : m ≤ length (s .diff)
   pub within : (t : Table) (j : ℕ) → j < long t m n → Below (limit t m n) (getD (s .at t) j 0)
   pub single : (j : ℕ) → j < m → T (fits binary32 (getD (s .diff) j nan))
-  pub light : total (s .at weight) < 2 ^ 32
+  pub light : sum (s .at weight) < 2 ^ 32
 
 -- table t with x at j
 unfoldable pub store : Table → Mem → ℕ → ℕ → Mem

@@ -8,8 +8,8 @@ use lib.IntN.{pos}
 use lib.Ieee.{nan, binary32, fits, Float}
 use lib.ListN.{length, getD}
 use Rattle.network.specs.Network.{Region, State, gatesOf}
-use Rattle.arithmetic.specs.Seq.{upto}
-use Rattle.merge.specs.Mem.{Mem, view, Room, total, store}
+use Rattle.arithmetic.specs.Seq.{upto, sum}
+use Rattle.merge.specs.Mem.{Mem, view, Room, store}
 use Rattle.merge.specs.Table.{is, weight, first, second, enext, rnext, stamp, size, elen, rlen, count}
 use Rattle.memory.specs.Layout.{tableWords}
 use Rattle.network.specs.Net.{rows, edgeOf}
@@ -58,7 +58,7 @@ pub record Raw (m n : ℕ) (s : Mem) : Type 0 where
   pub first-in : (j : ℕ) → j < m → getD (s .at first) j 0 < n
   pub second-in : (j : ℕ) → j < m → getD (s .at second) j 0 < n
   pub single : (j : ℕ) → j < m → T (fits binary32 (getD (s .diff) j nan))
-  pub light : total (s .at weight) < 2 ^ 32
+  pub light : sum (s .at weight) < 2 ^ 32
   pub gates : gatesOf (rows (rawRegion s) 0 n) < 2 ^ 32
   pub simple : Simple (rows (edgeOf s) 0 m)
 

@@ -11,14 +11,14 @@ use lib.Ieee.{Float}
 use lib.Seq.{ext-getD}
 use Rattle.arithmetic.specs.Seg.{seg, put}
 use Rattle.arithmetic.proofs.SegLaws.{length-seg, getD-seg, length-put, seg-put-below, seg-put-same}
-use Rattle.arithmetic.specs.Seq.{upto, each, All}
+use Rattle.arithmetic.specs.Seq.{upto, each, sum, All}
 use Rattle.arithmetic.proofs.SeqLaws.{upto-length}
 use Rattle.memory.specs.Sort.{pick, bucket, sorted}
 use Rattle.edges.specs.Edges.{Shape, left, right, top, bottom, sees, Pair, difference, pairs, used}
 use Rattle.edges.specs.declared.edges.Frame.{Frame}
 use Rattle.edges.specs.Sees.{shape}
 use Rattle.edges.specs.GatePairs.{GatePair, both, gatePairTo, gatePairsAt, gatePairs, pairOf, Adds, Sheet}
-use Rattle.edges.specs.Order.{ordered, runs, weigh}
+use Rattle.edges.specs.Order.{ordered, runs}
 use Rattle.edges.specs.Sorts.{labelsOf, Sorts, Sorted}
 use Rattle.edges.specs.Gather.{pairAt, later, Ready, tables, Gathers, Gathered}
 use Rattle.edges.specs.Whole.{Asked, Edged}
@@ -266,7 +266,7 @@ module _ (f : Frame) (u : List ℕ) (a vel : List Float) (n k t : ℕ) (q : Aske
             record {
               count = r .count ∙ ap length runs-are;
               few = omega arith;
-              light = omega (arith, sym (ap weigh runs-are) ∙ weights (later v vel n m 0), later-long, few);
+              light = omega (arith, sym (ap (λ (l : List EdgeRecord). sum (map (λ r. r .count) l)) runs-are) ∙ weights (later v vel n m 0), later-long, few);
               weight =
                   ap (λ (l : List ℕ). seg l t e) (r .words)
                   ∙ seg-put-below W2 (t + 4 * c) (map (λ r. r .two) R) t e (omega arith)

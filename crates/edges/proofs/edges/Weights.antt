@@ -1,16 +1,20 @@
 -- The weights of all edges sum to the number of the pairs. Assumes nothing.
-use Prim.Native.Nat.{suc, _+_}
+use Prim.Native.Nat.{ℕ, suc, _+_}
 use native.Mathlib.Omega.{arith}
 use mathlib.Core.Path.{_≡_, refl, _∙_}
 use mathlib.Core.Bool.{Bool, true, false, cond}
-use mathlib.Core.List.{List, [], _∷_}
+use mathlib.Core.List.{List, [], _∷_, map}
 use lib.ListN.{length}
+use Rattle.arithmetic.specs.Seq.{sum}
 use Rattle.edges.specs.Edges.{Pair, begun, plus}
-use Rattle.edges.specs.Order.{alike, runsFrom, runs, weigh}
+use Rattle.edges.specs.Order.{alike, runsFrom, runs}
 use Rattle.edges.specs.declared.edges.EdgeRecord.{EdgeRecord}
 
+abbrev weigh : List EdgeRecord → ℕ
+weigh rs = sum (map (λ r. r .count) rs)
+
 from : (r : EdgeRecord) (l : List Pair) → weigh (runsFrom r l) ≡ r .count + length l
-unfolding runsFrom plus begun weigh
+unfolding runsFrom plus begun sum
 from r [] = refl
 from r (p ∷ ps) = go (alike r p) (from (plus r p) ps) (from (begun p) ps)
   where
@@ -18,7 +22,7 @@ from r (p ∷ ps) = go (alike r p) (from (plus r p) ps) (from (begun p) ps)
     go true x y = omega (arith, x)
     go false x y = omega (arith, y)
 
-pub weights : (l : List Pair) → weigh (runs l) ≡ length l
-unfolding runs begun weigh
+pub weights : (l : List Pair) → sum (map (λ r. r .count) (runs l)) ≡ length l
+unfolding runs begun sum
 weights [] = refl
 weights (p ∷ ps) = from (begun p) ps ∙ omega arith

@@ -1,8 +1,8 @@
 -- The functions without loops, over plain values: the words they leave hold the tables that Steps.antt says. Assumes nothing.
 use mathlib.Core.Path.{_≡_, refl, sym, ap, _∙_}
 use mathlib.Core.Bool.{false}
-use mathlib.Core.List.{List, [], _∷_}
-use Prim.Native.Nat.{ℕ, zero, suc, _+_, _*_, _-_, _≤_, _<_}
+use mathlib.Core.List.{List}
+use Prim.Native.Nat.{ℕ, _+_, _*_, _≤_, _<_}
 use native.Mathlib.Omega.{arith}
 use lib.ListN.{length, getD, set, length-set}
 use lib.Seq.{getD-set-other}
@@ -12,7 +12,9 @@ use lib.Ieee.{nan, Float, neg, binary32, add}
 use Rattle.memory.specs.Tree.{Tree, Weighed}
 use Rattle.memory.proofs.tree.TreeLaws.{tree-set}
 use Rattle.memory.specs.Layout.{tableWords}
-use Rattle.merge.specs.Mem.{Mem, view, Room, Sound, total, store, diff-set}
+use Rattle.arithmetic.specs.Seq.{sum}
+use Rattle.arithmetic.proofs.SeqLaws.{sum-set, sum-one}
+use Rattle.merge.specs.Mem.{Mem, view, Room, Sound, store, diff-set}
 use Rattle.merge.specs.Table.{weight, first, second, stamp}
 use Rattle.merge.specs.Steps.{turnAt, turned, faceAt, joinsAt, absorbAt, attachAt}
 use Rattle.merge.specs.Does.{Does}
@@ -124,26 +126,14 @@ absorb-does m n w w₁ w₂ d q f x r hq hf a b =
     }
 
 -- ---- sums
-total-set : (l : List ℕ) (i v : ℕ) → i < length l → total (set l i v) + getD l i 0 ≡ total l + v
-unfolding total
-total-set [] i v h = absurd (omega arith)
-total-set (x ∷ l) zero v h = omega arith
-total-set (x ∷ l) (suc i) v h = omega (arith, total-set l i v (omega arith))
-
-total-one : (l : List ℕ) (i : ℕ) → getD l i 0 ≤ total l
-unfolding total
-total-one [] i = omega arith
-total-one (x ∷ l) zero = omega arith
-total-one (x ∷ l) (suc i) = omega (arith, total-one l i)
-
-pub total-two : (l : List ℕ) (i j : ℕ) → i < length l → j < length l → (i ≡ j → ⊥) → getD l i 0 + getD l j 0 ≤ total l
-total-two l i j hi hj n = omega (arith, total-set l i 0 hi, total-one (set l i 0) j, getD-set-other l i j 0 0 (λ e. n (sym e)))
+pub sum-two : (l : List ℕ) (i j : ℕ) → i < length l → j < length l → (i ≡ j → ⊥) → getD l i 0 + getD l j 0 ≤ sum l
+sum-two l i j hi hj n = omega (arith, sum-set l i 0 hi, sum-one (set l i 0) j, getD-set-other l i j 0 0 (λ e. n (sym e)))
 
 -- moving a weight keeps the sum
-pub total-move : (l : List ℕ) (i j : ℕ) → i < length l → j < length l → (i ≡ j → ⊥) → total (set (set l i (getD l i 0 + getD l j 0)) j 0) ≡ total l
-total-move l i j hi hj n =
+pub sum-move : (l : List ℕ) (i j : ℕ) → i < length l → j < length l → (i ≡ j → ⊥) → sum (set (set l i (getD l i 0 + getD l j 0)) j 0) ≡ sum l
+sum-move l i j hi hj n =
     let l' : List ℕ = set l i (getD l i 0 + getD l j 0) in
-    omega (arith, total-set l i (getD l i 0 + getD l j 0) hi, total-set l' j 0 (omega (arith, length-set l i (getD l i 0 + getD l j 0))), getD-set-other l i j (getD l i 0 + getD l j 0) 0 (λ e. n (sym e)))
+    omega (arith, sum-set l i (getD l i 0 + getD l j 0) hi, sum-set l' j 0 (omega (arith, length-set l i (getD l i 0 + getD l j 0))), getD-set-other l i j (getD l i 0 + getD l j 0) 0 (λ e. n (sym e)))
 
-pub total-less : (l : List ℕ) (i : ℕ) → i < length l → total (set l i 0) ≤ total l
-total-less l i h = omega (arith, total-set l i 0 h)
+pub sum-less : (l : List ℕ) (i : ℕ) → i < length l → sum (set l i 0) ≤ sum l
+sum-less l i h = omega (arith, sum-set l i 0 h)

@@ -8,11 +8,11 @@ use native.Mathlib.Omega.{arith}
 use lib.ListN.{length, getD, set, length-set}
 use Rattle.memory.specs.Tree.{Weighed}
 use Rattle.merge.specs.Mem.{Mem, view, Room, Sound, store}
-use Rattle.merge.specs.Table.{is, weight, first, second, enext, rnext, stamp, size, elen, rlen, count}
+use Rattle.merge.specs.Table.{is, weight, rnext, stamp, size, elen, rlen, count}
 use Rattle.merge.specs.Steps.{accepts, pruned, movedAll, walkRaise, splice, grow, handed, then, merged}
 use Rattle.merge.specs.Does.{Does, Raised, Gains, Fit}
 use Rattle.merge.proofs.merge.View.{weight-put, view-weighed}
-use Rattle.merge.proofs.merge.Leaf.{room-of, total-less}
+use Rattle.merge.proofs.merge.Leaf.{room-of, sum-less}
 use Rattle.merge.proofs.merge.SoundSet.{sound-weight, sound-store}
 use Rattle.merge.proofs.merge.Frames.{Frame, frame-moved-all, ofSlots, same-pruned}
 use Rattle.merge.proofs.merge.TableLaws.{Alike, alike-store}
@@ -102,7 +102,7 @@ module _ (m n b v g k e : ℕ) (w : List ℕ) (d : List Float) (r : Room m n w d
   tables₁ = view-weighed m n (set w e 0) w₁ d D₁ ∙ weight-put m n w d e 0 lt (r .words)
 
   sound₁ : Sound m n (store weight s e 0)
-  sound₁ = sound-weight m n s h e 0 (omega (arith, total-less (s .at weight) e (omega (arith, h .lengths weight)), h .light))
+  sound₁ = sound-weight m n s h e 0 (omega (arith, sum-less (s .at weight) e (omega (arith, h .lengths weight)), h .light))
 
   pub merge-stamp : Room m n w₁ d × (b < n)
   merge-stamp = (room-of m n w w₁ d d r len₁ refl (D₁ .tree), ok .b-in)

@@ -12,7 +12,8 @@ use lib.Ieee.{nan, binary32, fits, Float}
 use lib.ListN.{length, getD, set, length-set}
 use lib.Seq.{getD-set-same, getD-set-other}
 use Rattle.merge.specs.Table.{Table, weight, first, second, enext, rnext, count, long, is}
-use Rattle.merge.specs.Mem.{Mem, Sound, total, limit, Below, store, diff-set}
+use Rattle.arithmetic.specs.Seq.{sum}
+use Rattle.merge.specs.Mem.{Mem, Sound, limit, Below, store, diff-set}
 use Rattle.merge.proofs.merge.TableLaws.{same-table, length-store}
 
 pub eq-or-ne : (m n : ℕ) → (m ≡ n) ⊎ (m ≡ n → ⊥)
@@ -59,7 +60,7 @@ ranges-store t m n s h j x p = record { lengths = λ u. length-store t u s j x �
     within-of u true e = each-set (Below (limit u m n)) (s .at u) (long u m n) j x 0 (omega (arith, h .lengths u)) (subst (λ (y : Table). Below (limit y m n) x) (same-table t u e) p) (h .within u)
     within-of u false e = h .within u
 
-stored : (t : Table) (m n : ℕ) (s : Mem) → Sound m n s → (j x : ℕ) → Below (limit t m n) x → total (store t s j x .at weight) < 2 ^ 32 → Sound m n (store t s j x)
+stored : (t : Table) (m n : ℕ) (s : Mem) → Sound m n s → (j x : ℕ) → Below (limit t m n) x → sum (store t s j x .at weight) < 2 ^ 32 → Sound m n (store t s j x)
 stored t m n s h j x p l =
     let r : Ranges m n (store t s j x) = ranges-store t m n s (ranges-of m n s h) j x p in
     record { lengths = r .lengths; l-diff = unfold store in h .l-diff; within = r .within; single = unfold store in h .single; light = l }
@@ -68,7 +69,7 @@ stored t m n s h j x p l =
 pub sound-store : (t : Table) (m n : ℕ) (s : Mem) → Sound m n s → (j x : ℕ) → is t weight ≡ false → Below (limit t m n) x → Sound m n (store t s j x)
 sound-store t m n s h j x e p = stored t m n s h j x p (unfold store in rw e (h .light))
 
-pub sound-weight : (m n : ℕ) (s : Mem) → Sound m n s → (j x : ℕ) → total (set (s .at weight) j x) < 2 ^ 32 → Sound m n (store weight s j x)
+pub sound-weight : (m n : ℕ) (s : Mem) → Sound m n s → (j x : ℕ) → sum (set (s .at weight) j x) < 2 ^ 32 → Sound m n (store weight s j x)
 sound-weight m n s h j x q = stored weight m n s h j x tt (unfold store in q)
 
 pub sound-diff : (m n : ℕ) (s : Mem) → Sound m n s → (j : ℕ) (x : Float) → T (fits binary32 x) → Sound m n (diff-set s j x)

@@ -2,20 +2,21 @@
 use mathlib.Core.Path.{_≡_, refl, sym, _∙_, subst}
 use mathlib.Core.Logic.{⊎-elim}
 use mathlib.Core.Bool.{Bool, true, false, cond}
-use Prim.Native.Nat.{ℕ, _+_, _-_, _<_, _^_}
+use Prim.Native.Nat.{ℕ, _+_, _<_, _^_}
 use native.Mathlib.Omega.{arith}
 use lib.Dec.{T, eqb, ltb}
 use lib.Ieee.{nan, binary32, fits, Float, neg, add}
 use lib.Ieee.Fits as Fits
-use lib.ListN.{length, getD, set, length-set}
+use lib.ListN.{length, getD, set}
 use borrow.Author.Tests.{ltb-true, eqb-true, eqb-false}
-use Rattle.merge.specs.Mem.{Mem, Sound, total, store, diff-set}
+use Rattle.arithmetic.specs.Seq.{sum}
+use Rattle.merge.specs.Mem.{Mem, Sound, store, diff-set}
 use Rattle.merge.specs.Table.{weight, first, second}
 use Rattle.merge.specs.Steps.{unbias, turnAt, turned, faceAt, mate, absorbAt, attachAt, joinEdge, shift, movedEdge, takeEdge}
 use Rattle.merge.specs.Does.{Joins, Gains}
 use Rattle.merge.proofs.merge.SoundSet.{Ranges, ranges-of, ranges-store, sound-store, sound-diff}
 use Rattle.merge.proofs.merge.Mates.{Mate, mate-is}
-use Rattle.merge.proofs.merge.Leaf.{total-move}
+use Rattle.merge.proofs.merge.Leaf.{sum-move}
 use Rattle.arithmetic.specs.Rounding.{scale}
 
 -- what the sums and negations give fits an f32
@@ -56,10 +57,10 @@ sound-absorb m n s q f x h hq hf ne =
     let h₁ : Sound m n (diff-set s q (add binary32 (getD (s .diff) q nan) x)) = sound-diff m n s h q (add binary32 (getD (s .diff) q nan) x) (add-ok _ x) in
     let lq : q < length (s .at weight) = omega (arith, h .lengths weight) in
     let lf : f < length (s .at weight) = omega (arith, h .lengths weight) in
-    let t : total (set (set (s .at weight) q (getD (s .at weight) q 0 + getD (s .at weight) f 0)) f 0) ≡ total (s .at weight) = total-move (s .at weight) q f lq lf ne in
+    let t : sum (set (set (s .at weight) q (getD (s .at weight) q 0 + getD (s .at weight) f 0)) f 0) ≡ sum (s .at weight) = sum-move (s .at weight) q f lq lf ne in
     two m n (diff-set s q (add binary32 (getD (s .diff) q nan) x)) q f (getD (s .at weight) q 0 + getD (s .at weight) f 0) h₁ (omega (arith, h .light))
   where
-    two : (m n : ℕ) (u : Mem) (q f v : ℕ) → Sound m n u → total (set (set (u .at weight) q v) f 0) < 2 ^ 32 → Sound m n (store weight (store weight u q v) f 0)
+    two : (m n : ℕ) (u : Mem) (q f v : ℕ) → Sound m n u → sum (set (set (u .at weight) q v) f 0) < 2 ^ 32 → Sound m n (store weight (store weight u q v) f 0)
     two m n u q f v h k =
         let r : Ranges m n (store weight (store weight u q v) f 0) = ranges-store weight m n (store weight u q v) (ranges-store weight m n u (ranges-of m n u h) q v tt) f 0 tt in
         record { lengths = r .lengths; l-diff = h .l-diff; within = r .within; single = h .single; light = k }

@@ -2,7 +2,7 @@
 use Prim.Native.Nat.{ℕ, zero, suc, _+_, _*_, _≤_, _<_, _^_}
 use native.Mathlib.Omega.{arith}
 use mathlib.Core.Path.{_≡_, refl, sym, ap, _∙_, subst}
-use mathlib.Core.Logic.{_⊎_, inl, inr, ⊎-elim}
+use mathlib.Core.Logic.{inl, inr, ⊎-elim}
 use mathlib.Core.Bool.{Bool, true, false, not, cond}
 use mathlib.Core.List.{List, [], _∷_, map}
 use lib.Dec.{T, eqb}
@@ -11,7 +11,7 @@ use lib.ListN.{length, getD}
 use lib.Ieee.{Float, nan, inf, fin, binary32, fits}
 use lib.Ieee.Fits.{round-fits, nan-fits, inf-fits}
 use borrow.Author.Tests.{ne-eqb, eqb-true}
-use Rattle.arithmetic.specs.Seq.{tabulate, keep}
+use Rattle.arithmetic.specs.Seq.{tabulate, keep, sum}
 use Rattle.arithmetic.specs.Seg.{seg}
 use Rattle.arithmetic.specs.Rounding.{narrowed}
 use Rattle.arithmetic.proofs.SeqLaws.{tab-at}
@@ -21,8 +21,7 @@ use Rattle.edges.specs.Edges.{Pair, difference, used}
 use Rattle.network.specs.Network as Network
 use Rattle.network.specs.Network.{Edge, Region, numbered, sizeIn, gatesOf}
 use Rattle.network.specs.Simple.{Simple, Joined}
-use Rattle.edges.specs.Order.{weigh}
-use Rattle.merge.specs.Mem.{Mem, total}
+use Rattle.merge.specs.Mem.{Mem}
 use Rattle.merge.specs.Table.{weight, first, second, size}
 use Rattle.network.specs.Net.{rows, edgeOf}
 use Rattle.network.specs.Begin.{Raw, rawRegion}
@@ -181,11 +180,6 @@ module _ (wide : Float) (k m : ℕ) (L : List ℕ) (ps : List Pair) (s : Mem) (F
 
   -- ---- what merging asks
 
-  total-counts : (rs : List EdgeRecord) → total (map (λ r. r .count) rs) ≡ weigh rs
-  unfolding total weigh
-  total-counts [] = refl
-  total-counts (r ∷ rs) = ap (λ (x : ℕ). r .count + x) (total-counts rs)
-
   size-of : (l : ℕ) → l < k + 1 → getD (s .at size) l 0 ≡ sizeIn L l
   size-of l h = ap (λ (x : List ℕ). getD x l 0) (F .size) ∙ tab-at (sizeIn L) (k + 1) l 0 h
 
@@ -202,12 +196,12 @@ module _ (wide : Float) (k m : ℕ) (L : List ℕ) (ps : List Pair) (s : Mem) (F
   gates-few i zero = refl
   gates-few i (suc n) = ap (λ (x : ℕ). sizeIn L i + x) (gates-few (suc i) n)
 
-  pub raw : (n : ℕ) → weigh (used k ps) ≤ 4 * n → 4 * n < 2 ^ 32 → length L ≡ n → Raw m (k + 1) s
+  pub raw : (n : ℕ) → sum (map (λ r. r .count) (used k ps)) ≤ 4 * n → 4 * n < 2 ^ 32 → length L ≡ n → Raw m (k + 1) s
   raw n light small long = record {
     first-in = λ j h. omega (arith, first-of j h, good j h .high);
     second-in = λ j h. omega (arith, second-of j h, good j h .high, good j h .less);
     single = λ j h. subst (λ (x : Float). T (fits binary32 x)) (sym (diff-of j h)) (unfold difference in narrowed-fits _);
-    light = omega (arith, ap total (F .weight), total-counts (used k ps));
+    light = omega (arith, ap sum (F .weight));
     gates = omega (arith, ap gatesOf regions-are, gates-few 0 (k + 1), gates-most L 0 (k + 1));
     simple = tables-simple;
   }

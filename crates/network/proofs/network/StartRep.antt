@@ -11,11 +11,11 @@ use lib.Ieee.{nan, Float}
 use lib.ListN.{length, getD, List·getD-eq-default}
 use borrow.Author.Tests.{lt-ltb, le-ltb}
 use Rattle.network.specs.Network.{Edge, Region, State, sizeOf, gatesOf}
-use Rattle.arithmetic.specs.Seq.{upto}
+use Rattle.arithmetic.specs.Seq.{upto, sum}
 use Rattle.arithmetic.specs.Seg.{put}
 use Rattle.arithmetic.proofs.SeqLaws.{upto-at}
 use Rattle.memory.specs.Tree.{Weighed}
-use Rattle.merge.specs.Mem.{Mem, view, Room, Sound, total}
+use Rattle.merge.specs.Mem.{Mem, view, Room, Sound}
 use Rattle.merge.specs.Table.{Table, long, weight, first, second, enext, rnext, stamp, size, elen, rlen, count}
 use Rattle.merge.specs.Steps.{unbias, turned}
 use Rattle.merge.specs.Does.{Does}
@@ -180,7 +180,7 @@ module _ (m n : ℕ) (s : Mem) (lens₀ : Lengths m n s) (raw : Raw m n s) (smal
         (λ j h. omega (arith, rnext₃ j h))
         (λ j h. omega (arith, count₃ j h));
     single = subst (λ (l : List Float). (j : ℕ) → j < m → lib.Dec.T (lib.Ieee.fits lib.Ieee.binary32 (getD l j nan))) (sym (given₃ .diff)) (raw .single);
-    light = subst (λ (l : List ℕ). total l < 2 ^ 32) (sym (given₃ .tables .at weight)) (raw .light);
+    light = subst (λ (l : List ℕ). sum l < 2 ^ 32) (sym (given₃ .tables .at weight)) (raw .light);
   }
 
   pub rep₃ : Rep m n (gatesIn s₃) 0 s₃ (firstOf m n s₃)

@@ -18,7 +18,7 @@ use Rattle.merge.specs.Chain.{cur}
 use Rattle.network.specs.Rep.{Rep, Circled}
 use Rattle.merge.proofs.merge.SoundSet.{eq-or-ne, sound-weight, sound-store}
 use Rattle.merge.proofs.merge.SoundSteps.{sound-take}
-use Rattle.merge.proofs.merge.Leaf.{total-less}
+use Rattle.merge.proofs.merge.Leaf.{sum-less}
 use Rattle.merge.proofs.merge.Frames.{Frame, frame-moved-all, Same}
 use Rattle.merge.proofs.merge.TableLaws.{Alike, alike-store}
 use Rattle.network.proofs.network.TableEdges.{like-of, like-dead, like-then, like-at, live-word, word-dead}
@@ -119,7 +119,7 @@ module _ (m n : ℕ) (gates : ℕ → ℕ) (past : ℕ) (s : Mem) (t : State) (R
     s₁ = store weight s e 0
 
     pub sound₁ : Sound m n s₁
-    sound₁ = sound-weight m n s (R .sound) e 0 (omega (arith, total-less (s .at weight) e (omega (arith, R .sound .lengths weight)), R .sound .light))
+    sound₁ = sound-weight m n s (R .sound) e 0 (omega (arith, sum-less (s .at weight) e (omega (arith, R .sound .lengths weight)), R .sound .light))
 
     edge-is : pl .edge ≡ e
     unfolding plan planFor

@@ -5,11 +5,11 @@ use Rattle.merge.specs.Steps.{absorbAt}
 use Rattle.merge.proofs.merge.View.{weight-at}
 use Rattle.merge.specs.Mem.{view}
 use Rattle.merge.specs.Table.{weight}
-use Rattle.merge.proofs.merge.Leaf.{absorb-does, total-two}
+use Rattle.merge.proofs.merge.Leaf.{absorb-does, sum-two}
 use native.Mathlib.Omega.{arith}
 use mathlib.Core.Path.{sym}
 use mathlib.Core.List.{List}
-use Prim.Native.Nat.{ℕ, _-_}
+use Prim.Native.Nat.{ℕ}
 use lib.ListN.{set}
 use borrow.Author.Needs.{needs}
 use Rattle.merge.proofs.merge.absorb.Statement.{statement}
@@ -51,7 +51,7 @@ add-t c =
     let p = s .pre .1 .1 .0 in
     let h = s .pre .1 .0 in
     let l : List ℕ = view (a .m) (a .n) (a .w .now) (a .d .now) .at weight in
-    omega (arith, total-two l (a .q) (a .f) (omega (arith, h .lengths weight, p .q-in)) (omega (arith, h .lengths weight, p .f-in)) (p .apart), weight-at (a .m) (a .n) (a .w .now) (a .d .now) (a .q) (p .q-in), weight-at (a .m) (a .n) (a .w .now) (a .d .now) (a .f) (p .f-in), h .light)
+    omega (arith, sum-two l (a .q) (a .f) (omega (arith, h .lengths weight, p .q-in)) (omega (arith, h .lengths weight, p .f-in)) (p .apart), weight-at (a .m) (a .n) (a .w .now) (a .d .now) (a .q) (p .q-in), weight-at (a .m) (a .n) (a .w .now) (a .d .now) (a .f) (p .f-in), h .light)
 
 weigh-requires : tie.Need-weigh-requires
 weigh-requires c κs = search needs
