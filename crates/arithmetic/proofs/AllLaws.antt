@@ -4,11 +4,13 @@ use native.Mathlib.Omega.{arith}
 use mathlib.Core.Path.{_≡_, refl, sym, ap, _∙_}
 use mathlib.Core.Bool.{Bool, true, false, cond, not, _&&_, true≢false}
 use mathlib.Core.List.{List, [], _∷_, _++_, map}
+use mathlib.Core.Logic.{inl, inr, ⊎-elim}
 use lib.Dec.{eqb, ltb}
 use lib.ListN.{getD}
 use borrow.Author.Tests.{eqb-true, eqb-false, ltb-true, ltb-false}
-use Rattle.arithmetic.specs.Seq.{All, keep, each, upto, all, tabulate}
+use Rattle.arithmetic.specs.Seq.{All, Mem, keep, each, upto, all, tabulate}
 use Rattle.arithmetic.proofs.SeqLaws.{tab-at, tab-past}
+use Rattle.arithmetic.proofs.SegLaws.{eq-or-ne}
 
 -- both parts of a test that passes
 pub and-left : (b c : Bool) → (b && c) ≡ true → b ≡ true
@@ -63,6 +65,24 @@ pub all-each : {A B : Type 0} (P : B → Type 0) (f : A → List B) (l : List A)
 unfolding each
 all-each P f [] h = tt
 all-each P f (x ∷ l) h = all-append P (f x) (each f l) (h x) (all-each P f l h)
+
+-- ---- what f gives of the numbers from k on, n of them
+
+pub all-upto : {A : Type 0} (P : A → Type 0) (f : ℕ → A) (k n : ℕ) → ((i : ℕ) → k ≤ i → i < k + n → P (f i)) → All P (map f (upto n k))
+unfolding upto
+all-upto P f k zero h = tt
+all-upto P f k (suc n) h = (h k (omega arith) (omega arith), all-upto P f (suc k) n (λ i a b. h i (omega arith) (omega arith)))
+
+pub mem-upto : {A : Type 0} (f : ℕ → A) (k n i : ℕ) → k ≤ i → i < k + n → Mem (f i) (map f (upto n k))
+unfolding upto
+mem-upto f k zero i p q = absurd (omega arith)
+mem-upto f k (suc n) i p q = ⊎-elim (λ e. inl (ap f (sym e))) (λ e. inr (mem-upto f (suc k) n i (omega arith) (omega arith))) (eq-or-ne i k)
+
+pub upto-mem : {A : Type 0} (f : ℕ → A) (k n : ℕ) (a : A) → Mem a (map f (upto n k)) → (i : ℕ) × (k ≤ i) × (i < k + n) × (f i ≡ a)
+unfolding upto
+upto-mem f k zero a h = absurd h
+upto-mem f k (suc n) a (inl e) = (k, omega arith, omega arith, e)
+upto-mem f k (suc n) a (inr h) = let w : (i : ℕ) × (suc k ≤ i) × (i < suc k + n) × (f i ≡ a) = upto-mem f (suc k) n a h in (w .0, omega (arith, w .1), omega (arith, w .2), w .3)
 
 -- ---- tests of all numbers from k on, n of them
 

@@ -48,6 +48,9 @@ map-upto-past f zero k i d h = refl
 map-upto-past f (suc n) k zero d h = absurd (omega arith)
 map-upto-past f (suc n) k (suc i) d h = map-upto-past f n (suc k) i d (omega arith)
 
+pub map-upto-length : {A : Type 0} (f : ℕ → A) (n k : ℕ) → length (map f (upto n k)) ≡ n
+map-upto-length f n k = length-map (upto n k) f ∙ upto-length n k
+
 pub tab-at : {A : Type 0} (f : ℕ → A) (n i : ℕ) (d : A) → i < n → getD (tabulate n f) i d ≡ f i
 unfolding tabulate
 tab-at f n i d h = map-upto-at f n 0 i d h ∙ ap f (omega arith)
@@ -58,7 +61,7 @@ tab-past f n i d h = map-upto-past f n 0 i d h
 
 pub tab-length : {A : Type 0} (f : ℕ → A) (n : ℕ) → length (tabulate n f) ≡ n
 unfolding tabulate
-tab-length f n = length-map (upto n 0) f ∙ upto-length n 0
+tab-length f n = map-upto-length f n 0
 
 pub map-upto-same : {A : Type 0} (f g : ℕ → A) (n k : ℕ) → ((i : ℕ) → k ≤ i → i < n + k → f i ≡ g i) → map f (upto n k) ≡ map g (upto n k)
 unfolding upto

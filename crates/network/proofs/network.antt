@@ -1,4 +1,4 @@
-pub mod Rows
+pub mod Lookup
 pub mod TableEdges
 pub mod Facing
 pub mod Moved

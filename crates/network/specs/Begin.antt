@@ -1,7 +1,7 @@
 -- The tables before the first merge, from edges and sizes alone. Definitions only.
 use mathlib.Core.Path.{_≡_}
 use mathlib.Core.Bool.{cond}
-use mathlib.Core.List.{List}
+use mathlib.Core.List.{List, map}
 use Prim.Native.Nat.{ℕ, zero, suc, _+_, _*_, _≤_, _<_, _^_}
 use lib.Dec.{T}
 use lib.IntN.{pos}
@@ -12,7 +12,7 @@ use Rattle.arithmetic.specs.Seq.{upto, sum}
 use Rattle.merge.specs.Mem.{Mem, view, Room, store}
 use Rattle.merge.specs.Table.{is, weight, first, second, enext, rnext, stamp, size, elen, rlen, count}
 use Rattle.memory.specs.Layout.{tableWords}
-use Rattle.network.specs.Net.{rows, edgeOf}
+use Rattle.network.specs.Net.{edgeOf}
 use Rattle.network.specs.Rep.{Rep}
 use Rattle.network.specs.Settle.{settle}
 use Rattle.network.specs.declared.network.Ran.{Ran}
@@ -45,7 +45,7 @@ unfoldable pub rawRegion : Mem → ℕ → Region
 rawRegion s r = record { label = r; size = getD (s .at size) r 0; node = r; count = pos 0 }
 
 unfoldable pub rawNet : ℕ → ℕ → Mem → State
-rawNet m n s = record { edges = rows (edgeOf s) 0 m; regions = rows (rawRegion s) 0 n }
+rawNet m n s = record { edges = map (edgeOf s) (upto m 0); regions = map (rawRegion s) (upto n 0) }
 
 -- the words hold all tables
 pub record Space (m n : ℕ) (w : List ℕ) (d : List Float) : Type 0 where
@@ -59,8 +59,8 @@ pub record Raw (m n : ℕ) (s : Mem) : Type 0 where
   pub second-in : (j : ℕ) → j < m → getD (s .at second) j 0 < n
   pub single : (j : ℕ) → j < m → T (fits binary32 (getD (s .diff) j nan))
   pub light : sum (s .at weight) < 2 ^ 32
-  pub gates : gatesOf (rows (rawRegion s) 0 n) < 2 ^ 32
-  pub simple : Simple (rows (edgeOf s) 0 m)
+  pub gates : gatesOf (map (rawRegion s) (upto n 0)) < 2 ^ 32
+  pub simple : Simple (map (edgeOf s) (upto m 0))
 
 -- what is then known of the words
 pub record Begun (m n : ℕ) (s : Mem) (w : List ℕ) (d : List Float) : Type 0 where

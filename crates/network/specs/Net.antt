@@ -1,20 +1,16 @@
 -- The network that the tables stand for. Definitions only.
 use mathlib.Core.Path.{_≡_}
 use mathlib.Core.Bool.{true, not}
-use mathlib.Core.List.{List, [], _∷_}
-use Prim.Native.Nat.{ℕ, zero, suc}
+use mathlib.Core.List.{map}
+use Prim.Native.Nat.{ℕ}
 use lib.Dec.{eqb}
 use lib.Ieee.{nan}
 use lib.ListN.{getD}
+use Rattle.arithmetic.specs.Seq.{upto}
 use Rattle.network.specs.Network.{Edge, Region, State, turnIf}
 use Rattle.merge.specs.Mem.{Mem}
 use Rattle.merge.specs.Table.{weight, first, second, count}
 use Rattle.merge.specs.Steps.{unbias, turned}
-
--- f k, f (k + 1), .. of n numbers
-unfoldable pub rows : {A : Type 0} → (ℕ → A) → ℕ → ℕ → List A
-rows f k zero = []
-rows f k (suc n) = f k ∷ rows f (suc k) n
 
 -- edge j as it is stored: live where its weight is not 0
 unfoldable pub edgeOf : Mem → ℕ → Edge
@@ -35,7 +31,7 @@ unfoldable pub regionOf : (ℕ → ℕ) → (ℕ → ℕ) → Mem → ℕ → Re
 regionOf gates node s r = record { label = r; size = gates r; node = node r; count = unbias (getD (s .at count) r 0) }
 
 unfoldable pub stateOf : ℕ → ℕ → (ℕ → ℕ) → (ℕ → ℕ) → Mem → State
-stateOf m n gates node s = record { edges = rows (edgeOf s) 0 m; regions = rows (regionOf gates node s) 0 n }
+stateOf m n gates node s = record { edges = map (edgeOf s) (upto m 0); regions = map (regionOf gates node s) (upto n 0) }
 
 -- x stands for y: both dead, or equal
 pub record Like (x y : Edge) : Type 0 where

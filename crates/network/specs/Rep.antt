@@ -4,10 +4,12 @@ use mathlib.Core.Logic.{_⊎_}
 use mathlib.Core.Bool.{true}
 use Prim.Native.Nat.{ℕ, _+_, _*_, _≤_, _<_, _^_}
 use lib.ListN.{getD}
+use mathlib.Core.List.{map}
+use Rattle.arithmetic.specs.Seq.{upto}
 use Rattle.network.specs.Network.{Edge, State, sizeOf, gatesOf}
 use Rattle.merge.specs.Mem.{Mem, Sound}
 use Rattle.merge.specs.Table.{enext, rnext, stamp, size, elen, rlen}
-use Rattle.network.specs.Net.{rows, edgeNow, regionOf, Like}
+use Rattle.network.specs.Net.{edgeNow, regionOf, Like}
 use Rattle.merge.specs.Chain.{Chains}
 use Rattle.network.specs.Simple.{Simple}
 
@@ -35,16 +37,16 @@ pub record Rep (m n : ℕ) (gates : ℕ → ℕ) (k : ℕ) (s : Mem) (t : State)
   pub epos : ℕ → ℕ
   pub elens : ℕ → ℕ
   -- the network
-  pub edges : t .edges ≡ rows E 0 m
-  pub regions : t .regions ≡ rows (regionOf gates node s) 0 n
+  pub edges : t .edges ≡ map E (upto m 0)
+  pub regions : t .regions ≡ map (regionOf gates node s) (upto n 0)
   pub number : (j : ℕ) → E j .num ≡ j
-  pub simple : Simple (rows E 0 m)
-  pub light : gatesOf (rows (regionOf gates node s) 0 n) < 2 ^ 32
+  pub simple : Simple (map E (upto m 0))
+  pub light : gatesOf (map (regionOf gates node s) (upto n 0)) < 2 ^ 32
   -- the tables
   pub sound : Sound m n s
   pub small : 2 * m + n < 2 ^ 32
   pub like : (j : ℕ) → j < m → Like (edgeNow s j) (E j)
-  pub sizes : (x : ℕ) → x < n → node x ≡ x → getD (s .at size) x 0 ≡ sizeOf (rows (regionOf gates node s) 0 n) x
+  pub sizes : (x : ℕ) → x < n → node x ≡ x → getD (s .at size) x 0 ≡ sizeOf (map (regionOf gates node s) (upto n 0)) x
   -- the chains
   pub rchains : Chains (s .at rnext) n node rpos (λ x. getD (s .at rlen) x 0)
   pub circled : Circled m n node E s eown epos elens

@@ -1,11 +1,12 @@
 -- What a turn and a run of the code come to. Definitions only.
 use mathlib.Core.Path.{_≡_}
 use mathlib.Core.Bool.{true, false}
-use mathlib.Core.List.{List}
+use mathlib.Core.List.{List, map}
 use mathlib.Core.Option.{Option, none, some}
 use Prim.Native.Nat.{ℕ, _+_, _≤_, _<_}
 use lib.Ieee.{Float}
 use lib.ListN.{getD}
+use Rattle.arithmetic.specs.Seq.{upto}
 use Rattle.network.specs.Network.{Edge, State, event, step, choose, quot, inRange}
 use Rattle.memory.specs.Tree.{Tree}
 use Rattle.network.specs.declared.network.Turned.{Turned}
@@ -15,7 +16,7 @@ use Rattle.network.specs.declared.network.Ran.the-variants.{Settled, Den
 use Rattle.merge.specs.Mem.{Mem, view}
 use Rattle.merge.specs.Table.{weight, size, count}
 use Rattle.merge.specs.Steps.{numberOf}
-use Rattle.network.specs.Net.{rows, edgeNow, regionOf, stateOf}
+use Rattle.network.specs.Net.{edgeNow, regionOf, stateOf}
 use Rattle.network.specs.Settle.{Done}
 use Rattle.network.specs.Rep.{Rep}
 
@@ -61,4 +62,4 @@ firstOf m n s = stateOf m n (gatesIn s) (λ r. r) s
 -- the whole run: the number of merges, and the counts in their table; or a refusal
 unfoldable pub RanIs : ℕ → ℕ → (ℕ → ℕ) → Option Done → List ℕ → List Float → Ran → Type 0
 RanIs m n gates none w d r = r ≡ Denied
-RanIs m n gates (some o) w d r = (r ≡ Settled (o .merges)) × (node : ℕ → ℕ) × (o .last .regions ≡ rows (regionOf gates node (view m n w d)) 0 n) × ((j : ℕ) → j < n → getD (view m n w d .at count) j 0 ≤ 2000)
+RanIs m n gates (some o) w d r = (r ≡ Settled (o .merges)) × (node : ℕ → ℕ) × (o .last .regions ≡ map (regionOf gates node (view m n w d)) (upto n 0)) × ((j : ℕ) → j < n → getD (view m n w d .at count) j 0 ≤ 2000)

@@ -1,9 +1,9 @@
 -- The tables after the chains are joined, and chains of changed links. Assumes nothing.
 use mathlib.Core.Path.{_≡_, refl, sym, ap, _∙_, subst}
-use mathlib.Core.Logic.{_⊎_, ⊎-elim}
+use mathlib.Core.Logic.{⊎-elim}
 use mathlib.Core.Bool.{Bool, true, false, _&&_, cond}
-use mathlib.Core.List.{List, _∷_}
-use Prim.Native.Nat.{ℕ, zero, suc, _+_, _*_, _-_, _≤_, _<_}
+use mathlib.Core.List.{List, _∷_, map}
+use Prim.Native.Nat.{ℕ, zero, suc, _+_, _*_, _≤_, _<_}
 use native.Mathlib.Omega.{arith}
 use lib.IntN.{ℤ, _+ℤ_}
 use lib.ListN.{length, getD, set, length-set}
@@ -12,14 +12,14 @@ use Rattle.network.specs.Network.{Region, gather, raised, bounded}
 use Rattle.merge.specs.Mem.{Mem, Sound, store}
 use Rattle.merge.specs.Table.{enext, rnext, stamp, size, elen, rlen, count}
 use Rattle.merge.specs.Steps.{turned, splice, grow}
-use Rattle.network.specs.Net.{rows, edgeOf, edgeNow}
+use Rattle.network.specs.Net.{edgeOf, edgeNow}
 use Rattle.merge.specs.Chain.{cur, Chains, own-joined, pos-joined, len-joined}
 use Rattle.merge.proofs.merge.SoundSet.{eq-or-ne, sound-store}
 use Rattle.network.proofs.network.Circles.{joined}
 use Rattle.network.proofs.network.Moved.{same-no, same-yes}
 use lib.Dec.{eqb}
 use borrow.Author.Tests.{eqb-true}
-use Rattle.arithmetic.specs.Seq.{all}
+use Rattle.arithmetic.specs.Seq.{all, upto}
 
 -- ---- two links exchanged
 unfoldable pub swap : List ℕ → ℕ → ℕ → List ℕ
@@ -105,29 +105,29 @@ sum-there l n b v x e h = ⊎-elim
     (eq-or-ne x b)
 
 -- ---- question 9 of the moved node's counts
-pub all-yes : (f : ℕ → Region) (k : ℤ) (a i n : ℕ) → ((r : ℕ) → i ≤ r → r < i + n → f r .node ≡ a → bounded 1000 (f r .count +ℤ k) ≡ true) → all (bounded 1000) (raised k (rows f i n) a) ≡ true
-unfolding raised gather all rows
+pub all-yes : (f : ℕ → Region) (k : ℤ) (a i n : ℕ) → ((r : ℕ) → i ≤ r → r < i + n → f r .node ≡ a → bounded 1000 (f r .count +ℤ k) ≡ true) → all (bounded 1000) (raised k (map f (upto n i)) a) ≡ true
+unfolding raised gather all upto
 all-yes f k a i zero h = refl
 all-yes f k a i (suc n) h = go (eqb a (f i .node)) refl (all-yes f k a (suc i) n (λ r p q. h r (omega arith) (omega arith)))
   where
-    go : (x : Bool) → eqb a (f i .node) ≡ x → all (bounded 1000) (gather (λ r. r .count +ℤ k) (rows f (suc i) n) a) ≡ true
-        → all (bounded 1000) (cond x ((f i .count +ℤ k) ∷ gather (λ r. r .count +ℤ k) (rows f (suc i) n) a) (gather (λ r. r .count +ℤ k) (rows f (suc i) n) a)) ≡ true
+    go : (x : Bool) → eqb a (f i .node) ≡ x → all (bounded 1000) (gather (λ r. r .count +ℤ k) (map f (upto n (suc i))) a) ≡ true
+        → all (bounded 1000) (cond x ((f i .count +ℤ k) ∷ gather (λ r. r .count +ℤ k) (map f (upto n (suc i))) a) (gather (λ r. r .count +ℤ k) (map f (upto n (suc i))) a)) ≡ true
     go true e ih = rw (h i (omega arith) (omega arith) (sym (eqb-true a (f i .node) e)), ih) refl
     go false e ih = ih
 
-pub all-no : (f : ℕ → Region) (k : ℤ) (a i n r : ℕ) → i ≤ r → r < i + n → f r .node ≡ a → bounded 1000 (f r .count +ℤ k) ≡ false → all (bounded 1000) (raised k (rows f i n) a) ≡ false
-unfolding raised gather all rows
+pub all-no : (f : ℕ → Region) (k : ℤ) (a i n r : ℕ) → i ≤ r → r < i + n → f r .node ≡ a → bounded 1000 (f r .count +ℤ k) ≡ false → all (bounded 1000) (raised k (map f (upto n i)) a) ≡ false
+unfolding raised gather all upto
 all-no f k a i zero r p q e h = absurd (omega arith)
 all-no f k a i (suc n) r p q e h = ⊎-elim
     (λ w. here (subst (λ (y : ℕ). f y .node ≡ a) w e) (subst (λ (y : ℕ). bounded 1000 (f y .count +ℤ k) ≡ false) w h))
     (λ w. there (eqb a (f i .node)) (all-no f k a (suc i) n r (omega arith) (omega arith) e h))
     (eq-or-ne r i)
   where
-    here : f i .node ≡ a → bounded 1000 (f i .count +ℤ k) ≡ false → all (bounded 1000) (cond (eqb a (f i .node)) ((f i .count +ℤ k) ∷ gather (λ r. r .count +ℤ k) (rows f (suc i) n) a) (gather (λ r. r .count +ℤ k) (rows f (suc i) n) a)) ≡ false
+    here : f i .node ≡ a → bounded 1000 (f i .count +ℤ k) ≡ false → all (bounded 1000) (cond (eqb a (f i .node)) ((f i .count +ℤ k) ∷ gather (λ r. r .count +ℤ k) (map f (upto n (suc i))) a) (gather (λ r. r .count +ℤ k) (map f (upto n (suc i))) a)) ≡ false
     here a' b' = rw (same-yes a (f i .node) (sym a'), b') refl
 
-    there : (x : Bool) → all (bounded 1000) (gather (λ r. r .count +ℤ k) (rows f (suc i) n) a) ≡ false
-        → all (bounded 1000) (cond x ((f i .count +ℤ k) ∷ gather (λ r. r .count +ℤ k) (rows f (suc i) n) a) (gather (λ r. r .count +ℤ k) (rows f (suc i) n) a)) ≡ false
+    there : (x : Bool) → all (bounded 1000) (gather (λ r. r .count +ℤ k) (map f (upto n (suc i))) a) ≡ false
+        → all (bounded 1000) (cond x ((f i .count +ℤ k) ∷ gather (λ r. r .count +ℤ k) (map f (upto n (suc i))) a) (gather (λ r. r .count +ℤ k) (map f (upto n (suc i))) a)) ≡ false
     there true ih = rw ih (and-false (bounded 1000 (f i .count +ℤ k)))
       where
         and-false : (x : Bool) → (x && false) ≡ false

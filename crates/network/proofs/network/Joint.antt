@@ -11,10 +11,11 @@ use lib.ListN.{length, getD}
 use lib.Ieee.{Float, nan, inf, fin, binary32, fits}
 use lib.Ieee.Fits.{round-fits, nan-fits, inf-fits}
 use borrow.Author.Tests.{ne-eqb, eqb-true}
-use Rattle.arithmetic.specs.Seq.{tabulate, keep, sum}
+use Rattle.arithmetic.proofs.AllLaws.{upto-mem}
+use Rattle.arithmetic.specs.Seq.{tabulate, keep, sum, upto}
 use Rattle.arithmetic.specs.Seg.{seg}
 use Rattle.arithmetic.specs.Rounding.{narrowed}
-use Rattle.arithmetic.proofs.SeqLaws.{tab-at}
+use Rattle.arithmetic.proofs.SeqLaws.{tab-at, map-upto-same}
 use Rattle.arithmetic.proofs.SegLaws.{lt-or-le, getD-seg}
 use Rattle.edges.specs.declared.edges.EdgeRecord.{EdgeRecord}
 use Rattle.edges.specs.Edges.{Pair, difference, used}
@@ -23,11 +24,10 @@ use Rattle.network.specs.Network.{Edge, Region, numbered, sizeIn, gatesO
 use Rattle.network.specs.Simple.{Simple, Joined}
 use Rattle.merge.specs.Mem.{Mem}
 use Rattle.merge.specs.Table.{weight, first, second, size}
-use Rattle.network.specs.Net.{rows, edgeOf}
+use Rattle.network.specs.Net.{edgeOf}
 use Rattle.network.specs.Begin.{Raw, rawRegion}
 use Rattle.edges.proofs.edges.Assembly.{map-getD}
 use Rattle.edges.proofs.edges.RecordLaws.{Good, used-rise, used-good, all-place, rise-place}
-use Rattle.network.proofs.network.Rows.{rows-ext, rows-has}
 
 abbrev pub blank : EdgeRecord
 blank = record { one = 0; two = 0; count = 0; sum1 = nan; sum2 = nan }
@@ -49,13 +49,13 @@ narrowed-fits nan = nan-fits binary32
 narrowed-fits (inf s) = inf-fits binary32 s
 narrowed-fits (fin s m e) = round-fits binary32 s _ _
 
-rows-numbered : (wide : Float) (f : ℕ → Edge) (rs : List EdgeRecord) (k : ℕ) → ((j : ℕ) → j < length rs → f (k + j) ≡ Network.edgeOf wide (k + j) (getD rs j blank)) → rows f k (length rs) ≡ numbered wide k rs
-unfolding rows numbered
-rows-numbered wide f [] k h = refl
-rows-numbered wide f (r ∷ rs) k h =
+upto-numbered : (wide : Float) (f : ℕ → Edge) (rs : List EdgeRecord) (k : ℕ) → ((j : ℕ) → j < length rs → f (k + j) ≡ Network.edgeOf wide (k + j) (getD rs j blank)) → map f (upto (length rs) k) ≡ numbered wide k rs
+unfolding upto numbered
+upto-numbered wide f [] k h = refl
+upto-numbered wide f (r ∷ rs) k h =
     let z : k + 0 ≡ k = omega arith in
     let a : f k ≡ Network.edgeOf wide k r = subst (λ (i : ℕ). f i ≡ Network.edgeOf wide i r) z (h 0 (omega arith)) in
-    rw (a, rows-numbered wide f rs (suc k) (λ j l. let y : suc k + j ≡ k + suc j = omega arith in subst (λ (i : ℕ). f i ≡ Network.edgeOf wide i (getD rs j blank)) (sym y) (h (suc j) (omega arith)))) refl
+    rw (a, upto-numbered wide f rs (suc k) (λ j l. let y : suc k + j ≡ k + suc j = omega arith in subst (λ (i : ℕ). f i ≡ Network.edgeOf wide i (getD rs j blank)) (sym y) (h (suc j) (omega arith)))) refl
 
 -- ---- the gates of labels i to i + n - 1
 
@@ -135,10 +135,10 @@ module _ (wide : Float) (k m : ℕ) (L : List ℕ) (ps : List Pair) (s : Mem) (F
       let live : not (eqb (getD (s .at weight) j 0) 0) ≡ true = ap (λ (b : Bool). not b) (ne-eqb (getD (s .at weight) j 0) 0 (λ e. omega (arith, weight-of j h, good j h .some))) in
       λ i. record { num = j; live = live i; first = first-of j h i; second = second-of j h i; link = record { weight = weight-of j h i; diff = diff-of j h i } }
 
-  pub edges-are : rows (edgeOf s) 0 m ≡ numbered wide 0 (used k ps)
+  pub edges-are : map (edgeOf s) (upto m 0) ≡ numbered wide 0 (used k ps)
   edges-are =
-      ap (rows (edgeOf s) 0) (F .count)
-      ∙ rows-numbered wide (edgeOf s) (used k ps) 0 (λ j h. let z : 0 + j ≡ j = omega arith in subst (λ (i : ℕ). edgeOf s i ≡ Network.edgeOf wide i (getD (used k ps) j blank)) (sym z) (edge-of j (omega (arith, F .count))))
+      ap (λ (x : ℕ). map (edgeOf s) (upto x 0)) (F .count)
+      ∙ upto-numbered wide (edgeOf s) (used k ps) 0 (λ j h. let z : 0 + j ≡ j = omega arith in subst (λ (i : ℕ). edgeOf s i ≡ Network.edgeOf wide i (getD (used k ps) j blank)) (sym z) (edge-of j (omega (arith, F .count))))
 
   -- ---- the network is simple
 
@@ -160,14 +160,14 @@ module _ (wide : Float) (k m : ℕ) (L : List ℕ) (ps : List Pair) (s : Mem) (F
       (λ h. ⊎-elim (λ g. absurd (not-joined j i g a (joined-back i j e))) (λ g. omega arith) (lt-or-le j i))
       (lt-or-le i j)
 
-  pub tables-simple : Simple (rows (edgeOf s) 0 m)
+  pub tables-simple : Simple (map (edgeOf s) (upto m 0))
   tables-simple = record {
     proper = λ e x l r.
-        let w : (i : ℕ) × (0 ≤ i) × (i < 0 + m) × (edgeOf s i ≡ e) = rows-has (edgeOf s) 0 m e x in
+        let w : (i : ℕ) × (0 ≤ i) × (i < 0 + m) × (edgeOf s i ≡ e) = upto-mem (edgeOf s) 0 m e x in
         own (w .0) (omega (arith, w .2)) (ap (λ (f : Edge). f .first) (w .3) ∙ r ∙ sym (ap (λ (f : Edge). f .second) (w .3)));
     single = λ e f x y l₁ l₂ j.
-        let w : (i : ℕ) × (0 ≤ i) × (i < 0 + m) × (edgeOf s i ≡ e) = rows-has (edgeOf s) 0 m e x in
-        let v : (i : ℕ) × (0 ≤ i) × (i < 0 + m) × (edgeOf s i ≡ f) = rows-has (edgeOf s) 0 m f y in
+        let w : (i : ℕ) × (0 ≤ i) × (i < 0 + m) × (edgeOf s i ≡ e) = upto-mem (edgeOf s) 0 m e x in
+        let v : (i : ℕ) × (0 ≤ i) × (i < 0 + m) × (edgeOf s i ≡ f) = upto-mem (edgeOf s) 0 m f y in
         let q : Joined (edgeOf s (w .0)) (edgeOf s (v .0)) = rw (w .3, v .3) j in
         sym (ap (λ (z : Edge). z .num) (w .3)) ∙ number-is (w .0) (v .0) (one-joined (w .0) (v .0) (omega (arith, w .2)) (omega (arith, v .2)) q) ∙ ap (λ (z : Edge). z .num) (v .3);
   }
@@ -187,12 +187,12 @@ module _ (wide : Float) (k m : ℕ) (L : List ℕ) (ps : List Pair) (s : Mem) (F
   unfoldable pub region : ℕ → Region
   region l = record { label = l; size = sizeIn L l; node = l; count = pos 0 }
 
-  pub regions-are : rows (rawRegion s) 0 (k + 1) ≡ rows region 0 (k + 1)
+  pub regions-are : map (rawRegion s) (upto (k + 1) 0) ≡ map region (upto (k + 1) 0)
   unfolding rawRegion region
-  regions-are = rows-ext (rawRegion s) region 0 (k + 1) (λ l a b. λ i. record { label = l; size = size-of l (omega arith) i; node = l; count = pos 0 })
+  regions-are = map-upto-same (rawRegion s) region (k + 1) 0 (λ l a b. λ i. record { label = l; size = size-of l (omega arith) i; node = l; count = pos 0 })
 
-  gates-few : (i n : ℕ) → gatesOf (rows region i n) ≡ gatesFrom L i n
-  unfolding gatesOf rows region gatesFrom
+  gates-few : (i n : ℕ) → gatesOf (map region (upto n i)) ≡ gatesFrom L i n
+  unfolding gatesOf upto region gatesFrom
   gates-few i zero = refl
   gates-few i (suc n) = ap (λ (x : ℕ). sizeIn L i + x) (gates-few (suc i) n)
 

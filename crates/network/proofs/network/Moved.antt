@@ -2,7 +2,7 @@
 use mathlib.Core.Path.{_≡_, refl, sym, ap, _∙_}
 use mathlib.Core.Logic.{_⊎_, inl, inr, ⊎-elim}
 use mathlib.Core.Bool.{Bool, true, false, _&&_, _||_, cond, true≢false}
-use mathlib.Core.List.{List}
+use mathlib.Core.List.{List, map}
 use mathlib.Core.Option.{Option, none, some}
 use Prim.Native.Nat.{ℕ, zero, suc, _+_, _*_, _-_, _/_, _≤_, _<_}
 use native.Mathlib.Omega.{arith}
@@ -11,6 +11,7 @@ use lib.IntN.{pos}
 use lib.Ieee.{Float, neg, binary32, add}
 use lib.ListN.{getD}
 use borrow.Author.Tests.{eqb-true, eq-eqb, ne-eqb}
+use Rattle.arithmetic.specs.Seq.{upto}
 use Rattle.network.specs.Network.{Edge, Link, find, absorb, hand, turn, turnIf, adjust, shifted, isZero}
 use Rattle.arithmetic.specs.Rounding.{scale}
 use Rattle.network.proofs.SimpleLaws.{Turned}
@@ -18,10 +19,10 @@ use Rattle.merge.specs.Mem.{Mem}
 use Rattle.merge.specs.Table.{enext, stamp, elen}
 use Rattle.merge.specs.Steps.{unbias, joinEdge, shift, movedEdge}
 use Rattle.merge.specs.Chain.{cur}
-use Rattle.network.specs.Net.{rows, edgeOf, edgeNow, Like}
+use Rattle.network.specs.Net.{edgeOf, edgeNow, Like}
 use Rattle.merge.proofs.merge.Bias.{lt-or-le, unbias-up, unbias-down}
 use Rattle.merge.proofs.merge.SoundSet.{eq-or-ne}
-use Rattle.network.proofs.network.Rows.{hits, hit, Hit, hit-is, find-one, find-no, find-like}
+use Rattle.network.proofs.network.Lookup.{hits, hit, Hit, hit-is, find-one, find-no, find-like}
 use Rattle.network.proofs.network.TableEdges.{Words, words, moved-one, moved-two}
 use Rattle.arithmetic.proofs.SeqLaws.{eqb-refl}
 
@@ -75,8 +76,8 @@ only P done i = record { num = P i .num; live = P i .live && done i; first = P i
 -- the edges in the middle of the walk
 unfoldable pub mid : ℕ → ℕ → ℕ → (ℕ → Edge) → (ℕ → Edge) → (ℕ → Bool) → ℕ → Edge
 mid m b v P Q done j =
-    cond (eqb b (P j .first)) (absorb (find (rows (only P done) 0 m) v (P j .second)) (P j))
-    (cond (eqb v (P j .first)) (cond (done j) (hand b (find (rows P 0 m) b (P j .second)) (P j)) (Q j)) (P j))
+    cond (eqb b (P j .first)) (absorb (find (map (only P done) (upto m 0)) v (P j .second)) (P j))
+    (cond (eqb v (P j .first)) (cond (done j) (hand b (find (map P (upto m 0)) b (P j .second)) (P j)) (Q j)) (P j))
 
 -- the tables in the middle of the walk: links N, lengths L and stamps T stay
 pub record Middle (m b v : ℕ) (P Q : ℕ → Edge) (N L T : List ℕ) (done : ℕ → Bool) (s : Mem) : Type 0 where
@@ -115,11 +116,11 @@ also-else done f j h = rw (same-no f j (λ e. h (sym e))) (or-false (done j))
 
 module _ (m b v g : ℕ) (P Q : ℕ → Edge) (S : Setting m b v g P Q) where
   -- ---- mid by kinds of edges
-  pub mid-base : (done : ℕ → Bool) (j : ℕ) → P j .first ≡ b → mid m b v P Q done j ≡ absorb (find (rows (only P done) 0 m) v (P j .second)) (P j)
+  pub mid-base : (done : ℕ → Bool) (j : ℕ) → P j .first ≡ b → mid m b v P Q done j ≡ absorb (find (map (only P done) (upto m 0)) v (P j .second)) (P j)
   unfolding mid
   mid-base done j e = rw (e, eqb-refl b) refl
 
-  pub mid-moved : (done : ℕ → Bool) (j : ℕ) (x : Bool) → P j .first ≡ v → done j ≡ x → mid m b v P Q done j ≡ cond x (hand b (find (rows P 0 m) b (P j .second)) (P j)) (Q j)
+  pub mid-moved : (done : ℕ → Bool) (j : ℕ) (x : Bool) → P j .first ≡ v → done j ≡ x → mid m b v P Q done j ≡ cond x (hand b (find (map P (upto m 0)) b (P j .second)) (P j)) (Q j)
   unfolding mid
   mid-moved done j x e h = rw (e, same-no b v (S .apart), eqb-refl v, h) refl
 
@@ -151,7 +152,7 @@ module _ (m b v g : ℕ) (P Q : ℕ → Edge) (S : Setting m b v g P Q) where
   unfolding mid hand
   mid-dead done j h = go (eqb b (P j .first)) (eqb v (P j .first)) (done j)
     where
-      go : (x y z : Bool) → cond x (absorb (find (rows (only P done) 0 m) v (P j .second)) (P j)) (cond y (cond z (hand b (find (rows P 0 m) b (P j .second)) (P j)) (Q j)) (P j)) .live ≡ false
+      go : (x y z : Bool) → cond x (absorb (find (map (only P done) (upto m 0)) v (P j .second)) (P j)) (cond y (cond z (hand b (find (map P (upto m 0)) b (P j .second)) (P j)) (Q j)) (P j)) .live ≡ false
       go true y z = absorb-live _ (P j) ∙ h
       go false true true = rw h refl
       go false true false = S .alike j ∙ h
@@ -212,14 +213,14 @@ module _ (m b v g : ℕ) (P Q : ℕ → Edge) (S : Setting m b v g P Q) where
   pub alone : (x c i j : ℕ) → i < m → j < m → Hit x c (P i) → Hit x c (P j) → i ≡ j
   alone x c i j p q a d = S .single i j p q (a .live) (d .live) (a .first ∙ sym (d .first)) (a .second ∙ sym (d .second))
 
-  pub none-yet : (done : ℕ → Bool) (f : ℕ) → f < m → P f .live ≡ true → P f .first ≡ v → done f ≡ false → find (rows (only P done) 0 m) v (P f .second) ≡ none
+  pub none-yet : (done : ℕ → Bool) (f : ℕ) → f < m → P f .live ≡ true → P f .first ≡ v → done f ≡ false → find (map (only P done) (upto m 0)) v (P f .second) ≡ none
   none-yet done f lt l e d = find-no (only P done) v (P f .second) 0 m
       (λ j a c h.
       let w : Hit v (P f .second) (P j) × (done j ≡ true) = hit-only done v (P f .second) j h in
       let same-j : j ≡ f = alone v (P f .second) j f (omega arith) lt (w .0) (record { live = l; first = e; second = refl }) in
       true≢false (sym (w .1) ∙ ap done same-j ∙ d))
 
-  pub found-now : (done : ℕ → Bool) (f : ℕ) → f < m → P f .live ≡ true → P f .first ≡ v → done f ≡ true → find (rows (only P done) 0 m) v (P f .second) ≡ some (P f .link)
+  pub found-now : (done : ℕ → Bool) (f : ℕ) → f < m → P f .live ≡ true → P f .first ≡ v → done f ≡ true → find (map (only P done) (upto m 0)) v (P f .second) ≡ some (P f .link)
   unfolding only
   found-now done f lt l e d =
       find-one (only P done) v (P f .second) 0 m f (omega arith) (omega arith) (hit v (P f .second) (only P done f) (rw (l, d) refl) e refl)
@@ -227,7 +228,7 @@ module _ (m b v g : ℕ) (P Q : ℕ → Edge) (S : Setting m b v g P Q) where
       alone v (P f .second) j f (omega arith) lt (w .0) (record { live = l; first = e; second = refl }))
 
   -- another neighbour's is as it was
-  pub found-else : (done : ℕ → Bool) (f c : ℕ) → (P f .second ≡ c → ⊥) → find (rows (only P (also done f)) 0 m) v c ≡ find (rows (only P done) 0 m) v c
+  pub found-else : (done : ℕ → Bool) (f c : ℕ) → (P f .second ≡ c → ⊥) → find (map (only P (also done f)) (upto m 0)) v c ≡ find (map (only P done) (upto m 0)) v c
   unfolding only
   found-else done f c ne = find-like (only P (also done f)) (only P done) v c 0 m (λ j p q. ⊎-elim (here j) (there j) (eq-or-ne j f))
     where

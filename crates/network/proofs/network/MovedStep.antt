@@ -2,7 +2,7 @@
 use mathlib.Core.Path.{_≡_, refl, sym, ap, _∙_, subst}
 use mathlib.Core.Logic.{_⊎_, inl, inr, ⊎-elim}
 use mathlib.Core.Bool.{Bool, true, false, not, _&&_, cond, true≢false}
-use mathlib.Core.List.{List}
+use mathlib.Core.List.{List, map}
 use mathlib.Core.Option.{Option, none, some}
 use Prim.Native.Nat.{ℕ, _+_, _*_, _-_, _/_, _≤_, _<_}
 use native.Mathlib.Omega.{arith}
@@ -10,17 +10,18 @@ use lib.Dec.{eqb, ltb}
 use lib.Ieee.{Float, binary32, add}
 use lib.ListN.{getD}
 use borrow.Author.Tests.{eqb-true, eqb-false, ne-eqb, lt-ltb, ltb-true, ltb-false}
+use Rattle.arithmetic.specs.Seq.{upto}
 use Rattle.network.specs.Network.{Edge, Link, find, absorb, absent, hand}
 use Rattle.merge.specs.Mem.{Mem, Sound}
 use Rattle.merge.specs.Table.{weight, enext, stamp, elen}
 use Rattle.merge.specs.Steps.{turned, faceAt, mate, absorbAt, attachAt, joinEdge, movedEdge, takeEdge}
 use Rattle.merge.specs.Chain.{cur}
-use Rattle.network.specs.Net.{rows, edgeOf, edgeNow, Like}
+use Rattle.network.specs.Net.{edgeOf, edgeNow, Like}
 use Rattle.merge.proofs.merge.SoundSet.{eq-or-ne}
 use Rattle.merge.proofs.merge.SoundSteps.{sound-face}
 use Rattle.merge.proofs.merge.Mates.{Mate, mate-is, mate-finds}
 use Rattle.merge.proofs.merge.Frames.{frame-face, frame-absorb, frame-attach}
-use Rattle.network.proofs.network.Rows.{hit, Hit, hit-is, find-one, find-no}
+use Rattle.network.proofs.network.Lookup.{hit, Hit, hit-is, find-one, find-no}
 use Rattle.network.proofs.network.TableEdges.{like-of, like-dead, like-then, like-at, word-live, dead-word, Words, words, moved-none, moved-else, absorb-gone, absorb-kept, absorb-grown, attach-kept, attach-new}
 use Rattle.network.proofs.network.Facing.{now-live, now-straight, now-by, Stands, stands, face-now, face-straight, mate-now, absorb-turned, attach-turned, attach-straight}
 use Rattle.network.proofs.network.Moved.{Setting, Middle, Grounds, only, mid, also, also-old, also-new, also-else, mid-base, mid-moved, mid-else, mid-dead, absorb-live, absorb-first, absorb-second, absorb-none, before, moved-is, alone, none-yet, found-now, found-else}
@@ -85,14 +86,14 @@ module _ (m b v g : ℕ) (P Q : ℕ → Edge) (S : Setting m b v g P Q) (N L T :
         go x xe y ye z ze false ue = absurd (true≢false (sym mid-alive ∙ mid-dead m b v g P Q S done q ue))
         go true xe y ye z ze true ue =
             let fb : P q .first ≡ b = sym (eqb-true b (P q .first) xe) in
-            let mb : mid m b v P Q done q ≡ absorb (find (rows (only P done) 0 m) v (P q .second)) (P q) = mid-base m b v g P Q S done q fb in
+            let mb : mid m b v P Q done q ≡ absorb (find (map (only P done) (upto m 0)) v (P q .second)) (P q) = mid-base m b v g P Q S done q fb in
             let sc : P q .second ≡ c₀ = sym (absorb-second m b v g P Q S _ (P q)) ∙ sym (ap (λ (x : Edge). x .second) mb) ∙ second-c in
-            let no : find (rows (only P done) 0 m) v (P q .second) ≡ none = ap (find (rows (only P done) 0 m) v) sc ∙ none-yet m b v g P Q S done f lt l e todo in
+            let no : find (map (only P done) (upto m 0)) v (P q .second) ≡ none = ap (find (map (only P done) (upto m 0)) v) sc ∙ none-yet m b v g P Q S done f lt l e todo in
             record { q-live = ue; q-first = fb; q-second = sc; q-now = is ∙ mb ∙ absorb-none m b v g P Q S _ (P q) no }
         go false xe true ye true ze true ue =
             let fv : P q .first ≡ v = sym (eqb-true v (P q .first) ye) in
-            let mv : mid m b v P Q done q ≡ hand b (find (rows P 0 m) b (P q .second)) (P q) = mid-moved m b v g P Q S done q true fv ze in
-            let hs : hand b (find (rows P 0 m) b (P q .second)) (P q) .second ≡ P q .second = unfold hand in refl in
+            let mv : mid m b v P Q done q ≡ hand b (find (map P (upto m 0)) b (P q .second)) (P q) = mid-moved m b v g P Q S done q true fv ze in
+            let hs : hand b (find (map P (upto m 0)) b (P q .second)) (P q) .second ≡ P q .second = unfold hand in refl in
             let sc : P q .second ≡ c₀ = sym hs ∙ sym (ap (λ (x : Edge). x .second) mv) ∙ second-c in
             absurd (true≢false (sym ze ∙ ap done (alone m b v g P Q S v c₀ q f hq lt (record { live = ue; first = fv; second = sc }) me) ∙ todo))
         go false xe true ye false ze true ue =
@@ -129,7 +130,7 @@ module _ (m b v g : ℕ) (P Q : ℕ → Edge) (S : Setting m b v g P Q) (N L T :
       qf : q ≡ f → ⊥
       qf w = S .apart (sym (pq .q-first) ∙ ap (λ (i : ℕ). P i .first) w ∙ e)
 
-      taken : find (rows P 0 m) b c₀ ≡ some (P q .link)
+      taken : find (map P (upto m 0)) b c₀ ≡ some (P q .link)
       taken = find-one P b c₀ 0 m q (omega arith) (omega arith) (hit b c₀ (P q) (pq .q-live) (pq .q-first) (pq .q-second))
           (λ j a c h. alone m b v g P Q S b c₀ j q (omega arith) hq (hit-is b c₀ (P j) h) (record { live = pq .q-live; first = pq .q-first; second = pq .q-second }))
 
@@ -153,7 +154,7 @@ module _ (m b v g : ℕ) (P Q : ℕ → Edge) (S : Setting m b v g P Q) (N L T :
               diff = ap (λ (x : Float). add binary32 x (P f .link .diff)) (w .diff-is) i;
             };
           })
-          ∙ sym (mid-base m b v g P Q S (also done f) q (pq .q-first) ∙ ap (λ (o : Option Link). absorb o (P q)) (ap (find (rows (only P (also done f)) 0 m) v) (pq .q-second) ∙ found-now m b v g P Q S (also done f) f lt l e (also-new done f)))
+          ∙ sym (mid-base m b v g P Q S (also done f) q (pq .q-first) ∙ ap (λ (o : Option Link). absorb o (P q)) (ap (find (map (only P (also done f)) (upto m 0)) v) (pq .q-second) ∙ found-now m b v g P Q S (also done f) f lt l e (also-new done f)))
 
       gone : mid m b v P Q (also done f) f .live ≡ false
       unfolding hand absent
@@ -182,7 +183,7 @@ module _ (m b v g : ℕ) (P Q : ℕ → Edge) (S : Setting m b v g P Q) (N L T :
     module _ (far : m ≤ mate m b s c₀) where
       nobody : (j : ℕ) → j < m → Hit b c₀ (P j) → ⊥
       nobody j hj h =
-          let mb : mid m b v P Q done j ≡ absorb (find (rows (only P done) 0 m) v (P j .second)) (P j) = mid-base m b v g P Q S done j (h .first) in
+          let mb : mid m b v P Q done j ≡ absorb (find (map (only P done) (upto m 0)) v (P j .second)) (P j) = mid-base m b v g P Q S done j (h .first) in
           let ml : mid m b v P Q done j .live ≡ true = ap (λ (x : Edge). x .live) mb ∙ absorb-live m b v g P Q S _ (P j) ∙ h .live in
           let w : Stands s j (mid m b v P Q done j) = stands s j (mid m b v P Q done j) (I .like j hj .whole ml) ml in
           let fb : mid m b v P Q done j .first ≡ b = ap (λ (x : Edge). x .first) mb ∙ absorb-first m b v g P Q S _ (P j) ∙ h .first in
@@ -196,7 +197,7 @@ module _ (m b v g : ℕ) (P Q : ℕ → Edge) (S : Setting m b v g P Q) (N L T :
               subst (λ (t : List ℕ). (i : ℕ) × (i < getD (s .at elen) x 0 - 1) × (cur t (getD t (2 * m + x) 0) i / 2 ≡ j)) (sym (I .links))
               (subst (λ (t : List ℕ). (i : ℕ) × (i < getD t x 0 - 1) × (cur N (getD N (2 * m + x) 0) i / 2 ≡ j)) (sym (I .lens)) (G .reach j x hj k d))
 
-      free : find (rows P 0 m) b c₀ ≡ none
+      free : find (map P (upto m 0)) b c₀ ≡ none
       free = find-no P b c₀ 0 m (λ j a c h. nobody j (omega arith) (hit-is b c₀ (P j) h))
 
       abbrev s'' : Mem
@@ -267,7 +268,7 @@ module _ (m b v g : ℕ) (P Q : ℕ → Edge) (S : Setting m b v g P Q) (N L T :
       go false ue x xe y ye z ze = still (λ l. absurd (true≢false (sym l ∙ ue))) (dead (I .like f lt .live ∙ mid-dead m b v g P Q S done f ue))
       go true ue true xe y ye z ze =
           let fb : P f .first ≡ b = sym (eqb-true b (P f .first) xe) in
-          let mb : mid m b v P Q done f ≡ absorb (find (rows (only P done) 0 m) v (P f .second)) (P f) = mid-base m b v g P Q S done f fb in
+          let mb : mid m b v P Q done f ≡ absorb (find (map (only P done) (upto m 0)) v (P f .second)) (P f) = mid-base m b v g P Q S done f fb in
           let ml : mid m b v P Q done f .live ≡ true = ap (λ (x : Edge). x .live) mb ∙ absorb-live m b v g P Q S _ (P f) ∙ ue in
           still (λ l w. absurd (S .apart (sym fb ∙ w)))
           (far (mid m b v P Q done f) (I .like f lt .whole ml) ml
@@ -281,9 +282,9 @@ module _ (m b v g : ℕ) (P Q : ℕ → Edge) (S : Setting m b v g P Q) (N L T :
           still (λ l w. absurd (fv w)) (far (P f) (I .like f lt .whole ml ∙ mo) ue fv (S .turned f lt ue .1))
       go true ue false xe true ye true ze =
           let fv : P f .first ≡ v = sym (eqb-true v (P f .first) ye) in
-          let mv : mid m b v P Q done f ≡ hand b (find (rows P 0 m) b (P f .second)) (P f) = mid-moved m b v g P Q S done f true fv ze in
-          let hs : hand b (find (rows P 0 m) b (P f .second)) (P f) .second ≡ P f .second = unfold hand in refl in
-          let hf : hand b (find (rows P 0 m) b (P f .second)) (P f) .first ≡ b = unfold hand in refl in
+          let mv : mid m b v P Q done f ≡ hand b (find (map P (upto m 0)) b (P f .second)) (P f) = mid-moved m b v g P Q S done f true fv ze in
+          let hs : hand b (find (map P (upto m 0)) b (P f .second)) (P f) .second ≡ P f .second = unfold hand in refl in
+          let hf : hand b (find (map P (upto m 0)) b (P f .second)) (P f) .first ≡ b = unfold hand in refl in
           still (λ l w. ze) (done-edge (mid m b v P Q done f .live) refl
           (λ r. S .apart (sym (ap (λ (x : Edge). x .first) mv ∙ hf) ∙ r)) (λ r. S .turned f lt ue .1 (sym (ap (λ (x : Edge). x .second) mv ∙ hs) ∙ r)))
         where

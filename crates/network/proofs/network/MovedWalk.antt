@@ -1,12 +1,13 @@
 -- The whole walk along the moved node's edges, from its start to its end. Assumes nothing.
 use mathlib.Core.Path.{_≡_, refl, sym, ap, _∙_, subst}
-use mathlib.Core.Logic.{_⊎_, ⊎-elim}
+use mathlib.Core.Logic.{⊎-elim}
 use mathlib.Core.Bool.{Bool, true, false, _&&_, cond, true≢false}
-use mathlib.Core.List.{List}
+use mathlib.Core.List.{List, map}
 use mathlib.Core.Option.{Option, none}
-use Prim.Native.Nat.{ℕ, zero, suc, _-_, _/_, _≤_, _<_}
+use Prim.Native.Nat.{ℕ, zero, suc, _/_, _≤_, _<_}
 use native.Mathlib.Omega.{arith}
 use borrow.Author.Tests.{le-ltb, eqb-true, eqb-false}
+use Rattle.arithmetic.specs.Seq.{upto}
 use Rattle.merge.proofs.merge.Bias.{lt-or-le}
 use lib.ListN.{getD}
 use Rattle.network.specs.Network.{Edge, Link, find, absorb, hand, combine, turn, turnIf, adjust, shifted, isZero}
@@ -14,10 +15,10 @@ use Rattle.merge.specs.Mem.{Mem, Sound}
 use Rattle.merge.specs.Table.{enext, stamp, elen}
 use Rattle.merge.specs.Steps.{unbias, takeEdge, walkMoved}
 use Rattle.merge.specs.Does.{Gains}
-use Rattle.network.specs.Net.{rows, edgeNow, Like}
+use Rattle.network.specs.Net.{edgeNow, Like}
 use Rattle.merge.specs.Chain.{cur}
 use Rattle.merge.proofs.merge.SoundSteps.{sound-take}
-use Rattle.network.proofs.network.Rows.{hits, find-no, find-like}
+use Rattle.network.proofs.network.Lookup.{hits, find-no, find-like}
 use Rattle.network.proofs.network.TableEdges.{like-dead, like-then}
 use Rattle.network.proofs.network.Moved.{Setting, only, mid, Middle, Grounds, mid-base, mid-moved, mid-else, mid-dead, hit-only, absorb-none}
 use Rattle.network.proofs.network.MovedStep.{Next, any-step}
@@ -44,7 +45,7 @@ module _ (m b v g : ℕ) (P Q : ℕ → Edge) (S : Setting m b v g P Q) where
   abbrev nothing : ℕ → Bool
   nothing j = false
 
-  none-done : (x c : ℕ) → find (rows (only P nothing) 0 m) x c ≡ none
+  none-done : (x c : ℕ) → find (map (only P nothing) (upto m 0)) x c ≡ none
   none-done x c = find-no (only P nothing) x c 0 m (λ j a d h. true≢false (sym (hit-only m b v g P Q S nothing x c j h .1)))
 
   pub begin : (s : Mem) → ((j : ℕ) → j < m → Like (edgeNow s j) (Q j)) → Middle m b v P Q (s .at enext) (s .at elen) (s .at stamp) nothing s
@@ -104,11 +105,11 @@ module _ (m b v g : ℕ) (P Q : ℕ → Edge) (S : Setting m b v g P Q) where
         elim-seen d a c (suc i) p = c i (omega arith)
 
   -- ---- the end
-  pub finish : (N L T : List ℕ) (s : Mem) (done : ℕ → Bool) → Middle m b v P Q N L T done s → ((j : ℕ) → j < m → P j .live ≡ true → P j .first ≡ v → done j ≡ true) → (j : ℕ) → j < m → Like (edgeNow s j) (combine (rows P 0 m) b v (P j))
+  pub finish : (N L T : List ℕ) (s : Mem) (done : ℕ → Bool) → Middle m b v P Q N L T done s → ((j : ℕ) → j < m → P j .live ≡ true → P j .first ≡ v → done j ≡ true) → (j : ℕ) → j < m → Like (edgeNow s j) (combine (map P (upto m 0)) b v (P j))
   unfolding combine only
   finish N L T s done I all j hj = go (P j .live) refl (eqb b (P j .first)) refl (eqb v (P j .first)) refl
     where
-      every : (c : ℕ) → find (rows (only P done) 0 m) v c ≡ find (rows P 0 m) v c
+      every : (c : ℕ) → find (map (only P done) (upto m 0)) v c ≡ find (map P (upto m 0)) v c
       every c = find-like (only P done) P v c 0 m (λ i p q. (one i (omega arith) (P i .live) refl (eqb v (P i .first)) refl, λ t. refl))
         where
           one : (i : ℕ) → i < m → (x : Bool) → P i .live ≡ x → (y : Bool) → eqb v (P i .first) ≡ y → hits v c (only P done i) ≡ hits v c (P i)
@@ -121,7 +122,7 @@ module _ (m b v g : ℕ) (P Q : ℕ → Edge) (S : Setting m b v g P Q) where
           one i lt false xe y ye = rw xe refl
 
       go : (u : Bool) → P j .live ≡ u → (x : Bool) → eqb b (P j .first) ≡ x → (y : Bool) → eqb v (P j .first) ≡ y
-          → Like (edgeNow s j) (cond x (absorb (find (rows P 0 m) v (P j .second)) (P j)) (cond y (hand b (find (rows P 0 m) b (P j .second)) (P j)) (P j)))
+          → Like (edgeNow s j) (cond x (absorb (find (map P (upto m 0)) v (P j .second)) (P j)) (cond y (hand b (find (map P (upto m 0)) b (P j .second)) (P j)) (P j)))
       go u ue true xe y ye =
           like-then _ _ _ (I .like j hj) (mid-base m b v g P Q S done j (sym (eqb-true b (P j .first) xe)) ∙ ap (λ (o : Option Link). absorb o (P j)) (every (P j .second)))
       go true ue false xe true ye =

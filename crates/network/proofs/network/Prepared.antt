@@ -1,36 +1,35 @@
 -- The edges of a simple network before and after the network prepares them for a merge: the setting of the walks. Assumes nothing.
 use mathlib.Core.Path.{_≡_, refl, sym, ap, _∙_, subst}
-use mathlib.Core.Logic.{_⊎_, inl, ⊎-elim}
+use mathlib.Core.Logic.{inl, ⊎-elim}
 use mathlib.Core.Bool.{Bool, true, false, not, _&&_, cond, true≢false}
-use mathlib.Core.List.{List, map}
+use mathlib.Core.List.{List, map, map-map}
 use mathlib.Core.Option.{Option, some}
 use Prim.Native.Nat.{ℕ, zero, suc, _+_, _≤_, _<_}
 use native.Mathlib.Omega.{arith}
 use lib.Dec.{ltb, eqb}
 use lib.IntN.{ℤ}
+use Rattle.arithmetic.proofs.AllLaws.{mem-upto}
 use Rattle.network.specs.Network.{Edge, Region, Plan, sizeOf, at, plan, planFor, kill, adjust, shifted, isZero, turn, turnIf, prepare}
 use Rattle.network.proofs.Restrict.{prepare-num}
 use Rattle.network.proofs.Ends.{prepare-live}
 use Rattle.network.proofs.SimpleLaws.{prepared-simple, prepared-turned, ends-apart}
 use Rattle.merge.specs.Steps.{unbias}
-use Rattle.network.specs.Net.{rows}
 use Rattle.merge.proofs.merge.SoundSet.{eq-or-ne}
-use Rattle.network.proofs.network.Rows.{map-rows, has-rows}
 use Rattle.network.proofs.network.Moved.{Setting, same-no, same-yes}
 use lib.Ieee.{Float}
 use borrow.Author.Tests.{eqb-true, eqb-false}
 use Rattle.network.specs.Simple.{Simple}
-use Rattle.arithmetic.specs.Seq.{Mem as Has}
+use Rattle.arithmetic.specs.Seq.{Mem as Has, upto}
 
-pub at-rows : (E : ℕ → Edge) → ((j : ℕ) → E j .num ≡ j) → (k n i : ℕ) → k ≤ i → i < k + n → E i .live ≡ true → at (rows E k n) i ≡ some (E i)
-unfolding at rows
-at-rows E num k zero i p q l = absurd (omega arith)
-at-rows E num k (suc n) i p q l = ⊎-elim
+pub at-upto : (E : ℕ → Edge) → ((j : ℕ) → E j .num ≡ j) → (k n i : ℕ) → k ≤ i → i < k + n → E i .live ≡ true → at (map E (upto n k)) i ≡ some (E i)
+unfolding at upto
+at-upto E num k zero i p q l = absurd (omega arith)
+at-upto E num k (suc n) i p q l = ⊎-elim
     (λ e. let z : eqb i (E k .num) ≡ true = same-yes i (E k .num) (e ∙ sym (num k)) in
     let lk : E k .live ≡ true = ap (λ (y : ℕ). E y .live) (sym e) ∙ l in
-    pass (E k .live) (eqb i (E k .num)) (some (E k)) (at (rows E (suc k) n) i) lk z ∙ ap (λ (y : ℕ). some (E y)) (sym e))
+    pass (E k .live) (eqb i (E k .num)) (some (E k)) (at (map E (upto n (suc k))) i) lk z ∙ ap (λ (y : ℕ). some (E y)) (sym e))
     (λ e. let z : eqb i (E k .num) ≡ false = ap (eqb i) (num k) ∙ same-no i k e in
-    rw z (skip (E k .live) (some (E k)) (at-rows E num (suc k) n i (omega arith) (omega arith) l)))
+    rw z (skip (E k .live) (some (E k)) (at-upto E num (suc k) n i (omega arith) (omega arith) l)))
     (eq-or-ne i k)
   where
     pass : (b c : Bool) (x y : Option Edge) → b ≡ true → c ≡ true → cond (b && c) x y ≡ x
@@ -59,15 +58,15 @@ commute b v k e n h = go (eqb b (e .second)) refl (eqb v (e .first)) refl (eqb v
         let d₂ : shifted (isZero k) (eqb v (e .second)) (eqb v (e .first)) k (e .link .weight) (lib.Ieee.neg (e .link .diff)) ≡ lib.Ieee.neg (e .link .diff) = rw (xe, ye) (fixed (isZero k) (e .link .weight) (lib.Ieee.neg (e .link .diff))) in
         λ i. record { num = e .num; live = e .live; first = e .second; second = e .first; link = record { weight = e .link .weight; diff = (ap (λ (z : Float). lib.Ieee.neg z) d₁ ∙ sym d₂) i } }
 
-module _ (m : ℕ) (E : ℕ → Edge) (num : (j : ℕ) → E j .num ≡ j) (simple : Simple (rows E 0 m)) (e : ℕ) (lt : e < m) (l : E e .live ≡ true) (rs : List Region) where
+module _ (m : ℕ) (E : ℕ → Edge) (num : (j : ℕ) → E j .num ≡ j) (simple : Simple (map E (upto m 0))) (e : ℕ) (lt : e < m) (l : E e .live ≡ true) (rs : List Region) where
   abbrev pl : Plan
   pl = plan rs (E e)
 
-  found : at (rows E 0 m) e ≡ some (E e)
-  found = at-rows E num 0 m e (omega arith) (omega arith) l
+  found : at (map E (upto m 0)) e ≡ some (E e)
+  found = at-upto E num 0 m e (omega arith) (omega arith) l
 
-  has : (j : ℕ) → j < m → Has (E j) (rows E 0 m)
-  has j h = has-rows E 0 m j (omega arith) (omega arith)
+  has : (j : ℕ) → j < m → Has (E j) (map E (upto m 0))
+  has j h = mem-upto E 0 m j (omega arith) (omega arith)
 
   abbrev pub killed : ℕ → Edge
   killed j = kill (pl .edge) (E j)
@@ -98,8 +97,8 @@ module _ (m : ℕ) (E : ℕ → Edge) (num : (j : ℕ) → E j .num ≡ j) (simp
       go true w = clash w
       go false w = clash (sym w)
 
-  has-prep : (j : ℕ) → j < m → Has (prep j) (map (prepare pl) (rows E 0 m))
-  has-prep j h = subst (Has (prep j)) (sym (map-rows (prepare pl) E 0 m)) (has-rows prep 0 m j (omega arith) (omega arith))
+  has-prep : (j : ℕ) → j < m → Has (prep j) (map (prepare pl) (map E (upto m 0)))
+  has-prep j h = subst (Has (prep j)) (sym (map-map (prepare pl) E (upto m 0))) (mem-upto prep 0 m j (omega arith) (omega arith))
 
   prep-live : (j : ℕ) → prep j .live ≡ killed j .live
   unfolding kill
@@ -110,9 +109,9 @@ module _ (m : ℕ) (E : ℕ → Edge) (num : (j : ℕ) → E j .num ≡ j) (simp
   setting g w = record {
     apart = nodes-apart;
     number = λ j. prepare-num pl (E j) ∙ num j;
-    turned = λ j h k. prepared-turned (rows E 0 m) simple e (E e) found rs (prep j) (has-prep j h) k;
+    turned = λ j h k. prepared-turned (map E (upto m 0)) simple e (E e) found rs (prep j) (has-prep j h) k;
     single = λ i j hi hj ki kj a c. sym (prepare-num pl (E i) ∙ num i)
-        ∙ prepared-simple (rows E 0 m) simple e (E e) found rs .single (prep i) (prep j) (has-prep i hi) (has-prep j hj) ki kj (inl (a, c)) ∙ prepare-num pl (E j) ∙ num j;
+        ∙ prepared-simple (map E (upto m 0)) simple e (E e) found rs .single (prep i) (prep j) (has-prep i hi) (has-prep j hj) ki kj (inl (a, c)) ∙ prepare-num pl (E j) ∙ num j;
     prepared = λ j h k.
         let kl : (E j .live ≡ true) × (E e .num ≡ E j .num → ⊥) = killed-live j (sym (prep-live j) ∙ k) in
         ap (turn (pl .moved)) (commute (pl .base) (pl .moved) (pl .gain) (killed j) nodes-apart (λ t. clash j h kl t)) ∙ ap (λ (z : ℤ). turn (pl .moved) (adjust (pl .moved) z (ready j))) (sym w);
@@ -123,4 +122,4 @@ module _ (m : ℕ) (E : ℕ → Edge) (num : (j : ℕ) → E j .num ≡ j) (simp
       turn-live j = unfold turn turnIf in refl
 
       clash : (j : ℕ) → j < m → (E j .live ≡ true) × (E e .num ≡ E j .num → ⊥) → (killed j .first ≡ pl .moved) × (killed j .second ≡ pl .base) → ⊥
-      clash j h kl = unfold kill in λ t. ends-apart (rows E 0 m) simple e (E e) found rs (E j) (has j h) (kl .0) (kl .1) .1 t
+      clash j h kl = unfold kill in λ t. ends-apart (map E (upto m 0)) simple e (E e) found rs (E j) (has j h) (kl .0) (kl .1) .1 t

@@ -6,10 +6,10 @@ use mathlib.Core.Option.{Option, none, some}
 use Prim.Native.Nat.{ℕ, zero, suc, _+_}
 use native.Mathlib.Omega.{arith}
 use lib.ListN.{length}
+use Rattle.arithmetic.proofs.SeqLaws.{map-upto-length}
 use Rattle.network.specs.Network.{Edge, State, event, step, choose, follow, run, merges, trace, replay, inRange}
 use Rattle.network.specs.Net.{stateOf}
 use Rattle.network.specs.Settle.{Done, onward, settle}
-use Rattle.network.proofs.network.Rows.{length-rows}
 use Rattle.arithmetic.specs.Seq.{all}
 
 -- accepted exactly if every event of the merge list is, with the replay's last state
@@ -37,4 +37,4 @@ settle-run (suc f) t k = go (choose (t .edges)) (settle-run f)
 
 pub settle-merges : (m n : ℕ) (gates node : ℕ → ℕ) (s : Rattle.merge.specs.Mem.Mem) → settle m (stateOf m n gates node s) 0 ≡ outcome (stateOf m n gates node s) (merges (stateOf m n gates node s)) 0
 unfolding merges stateOf
-settle-merges m n gates node s = settle-run m (stateOf m n gates node s) 0 ∙ ap (λ (x : ℕ). outcome (stateOf m n gates node s) (run x (stateOf m n gates node s)) 0) (sym (length-rows (Rattle.network.specs.Net.edgeOf s) 0 m))
+settle-merges m n gates node s = settle-run m (stateOf m n gates node s) 0 ∙ ap (λ (x : ℕ). outcome (stateOf m n gates node s) (run x (stateOf m n gates node s)) 0) (sym (map-upto-length (Rattle.network.specs.Net.edgeOf s) m 0))

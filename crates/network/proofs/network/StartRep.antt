@@ -2,7 +2,7 @@
 use mathlib.Core.Path.{_≡_, refl, sym, ap, _∙_, subst, fun-ext}
 use mathlib.Core.Logic.{inl, ⊎-elim}
 use mathlib.Core.Bool.{Bool, true, false, cond}
-use mathlib.Core.List.{List}
+use mathlib.Core.List.{List, map}
 use Prim.Native.Nat.{ℕ, zero, suc, _+_, _*_, _-_, _≤_, _<_, _^_}
 use native.Mathlib.Omega.{arith}
 use lib.Dec.{eqb}
@@ -13,13 +13,13 @@ use borrow.Author.Tests.{lt-ltb, le-ltb}
 use Rattle.network.specs.Network.{Edge, Region, State, sizeOf, gatesOf}
 use Rattle.arithmetic.specs.Seq.{upto, sum}
 use Rattle.arithmetic.specs.Seg.{put}
-use Rattle.arithmetic.proofs.SeqLaws.{upto-at}
+use Rattle.arithmetic.proofs.SeqLaws.{upto-at, map-upto-same}
 use Rattle.memory.specs.Tree.{Weighed}
 use Rattle.merge.specs.Mem.{Mem, view, Room, Sound}
 use Rattle.merge.specs.Table.{Table, long, weight, first, second, enext, rnext, stamp, size, elen, rlen, count}
 use Rattle.merge.specs.Steps.{unbias, turned}
 use Rattle.merge.specs.Does.{Does}
-use Rattle.network.specs.Net.{rows, edgeOf, regionOf, stateOf}
+use Rattle.network.specs.Net.{edgeOf, regionOf, stateOf}
 use Rattle.network.specs.Rep.{Rep, Circled}
 use Rattle.network.specs.TurnIs.{gatesIn, firstOf, RanIs}
 use Rattle.network.specs.Begin.{slots, regionsFrom, linkFrom, rawRegion, rawNet, Space, Raw, Begun, Linkable, AllIs}
@@ -30,7 +30,6 @@ use Rattle.merge.proofs.merge.Leaf.{room-of}
 use Rattle.merge.proofs.merge.Bias.{lt-or-le, unbias-up}
 use Rattle.merge.proofs.merge.SoundSet.{eq-or-ne, within-all}
 use Rattle.merge.proofs.merge.Frames.{Same}
-use Rattle.network.proofs.network.Rows.{rows-ext}
 use Rattle.network.proofs.network.TableEdges.{like-of}
 use Rattle.network.proofs.network.Facing.{now-straight}
 use Rattle.network.proofs.network.Moved.{same-no, same-yes}
@@ -39,25 +38,25 @@ use Rattle.network.proofs.network.BeginDoes.{slots-does}
 use Rattle.network.proofs.network.StartLinks.{Given, given-then, given-same, given-slots, slots-long, Regions, given-regions, regions-are, ones, next-in, lens, Linked, range-of, linked-all, linked-long}
 
 -- ---- sizes of single regions
-size-none : (f : ℕ → Region) → ((r : ℕ) → f r .node ≡ r) → (k n x : ℕ) → x < k → sizeOf (rows f k n) x ≡ 0
-unfolding sizeOf rows
+size-none : (f : ℕ → Region) → ((r : ℕ) → f r .node ≡ r) → (k n x : ℕ) → x < k → sizeOf (map f (upto n k)) x ≡ 0
+unfolding sizeOf upto
 size-none f e k zero x h = refl
 size-none f e k (suc n) x h =
     let no : eqb x (f k .node) ≡ false = ap (eqb x) (e k) ∙ same-no x k (λ q. omega arith) in
-    let ih : sizeOf (rows f (suc k) n) x ≡ 0 = size-none f e (suc k) n x (omega arith) in
-    ap (λ (b : Bool). cond b (f k .size) 0 + sizeOf (rows f (suc k) n) x) no ∙ omega arith
+    let ih : sizeOf (map f (upto n (suc k))) x ≡ 0 = size-none f e (suc k) n x (omega arith) in
+    ap (λ (b : Bool). cond b (f k .size) 0 + sizeOf (map f (upto n (suc k))) x) no ∙ omega arith
 
-size-one : (f : ℕ → Region) → ((r : ℕ) → f r .node ≡ r) → (k n x : ℕ) → k ≤ x → x < k + n → sizeOf (rows f k n) x ≡ f x .size
-unfolding sizeOf rows
+size-one : (f : ℕ → Region) → ((r : ℕ) → f r .node ≡ r) → (k n x : ℕ) → k ≤ x → x < k + n → sizeOf (map f (upto n k)) x ≡ f x .size
+unfolding sizeOf upto
 size-one f e k zero x p q = absurd (omega arith)
 size-one f e k (suc n) x p q = ⊎-elim
     (λ w. let yes : eqb x (f k .node) ≡ true = same-yes x (f k .node) (w ∙ sym (e k)) in
-    let z : sizeOf (rows f (suc k) n) x ≡ 0 = size-none f e (suc k) n x (omega arith) in
+    let z : sizeOf (map f (upto n (suc k))) x ≡ 0 = size-none f e (suc k) n x (omega arith) in
     let zx : f x .size ≡ f k .size = ap (λ (y : ℕ). f y .size) w in
-    ap (λ (b : Bool). cond b (f k .size) 0 + sizeOf (rows f (suc k) n) x) yes ∙ omega arith)
+    ap (λ (b : Bool). cond b (f k .size) 0 + sizeOf (map f (upto n (suc k))) x) yes ∙ omega arith)
     (λ w. let no : eqb x (f k .node) ≡ false = ap (eqb x) (e k) ∙ same-no x k w in
-    let z : sizeOf (rows f (suc k) n) x ≡ f x .size = size-one f e (suc k) n x (omega arith) (omega arith) in
-    ap (λ (b : Bool). cond b (f k .size) 0 + sizeOf (rows f (suc k) n) x) no ∙ omega arith)
+    let z : sizeOf (map f (upto n (suc k))) x ≡ f x .size = size-one f e (suc k) n x (omega arith) (omega arith) in
+    ap (λ (b : Bool). cond b (f k .size) 0 + sizeOf (map f (upto n (suc k))) x) no ∙ omega arith)
     (eq-or-ne x k)
 
 -- ---- the lengths of the tables in the words
@@ -151,8 +150,8 @@ module _ (m n : ℕ) (s : Mem) (lens₀ : Lengths m n s) (raw : Raw m n s) (smal
   unfolding edgeOf
   edge₃ j = rw (given₃ .tables .at weight, given₃ .tables .at first, given₃ .tables .at second, given₃ .diff) refl
 
-  edges₃ : rows (edgeOf s₃) 0 m ≡ rows (edgeOf s) 0 m
-  edges₃ = rows-ext (edgeOf s₃) (edgeOf s) 0 m (λ j p q. edge₃ j)
+  edges₃ : map (edgeOf s₃) (upto m 0) ≡ map (edgeOf s) (upto m 0)
+  edges₃ = map-upto-same (edgeOf s₃) (edgeOf s) m 0 (λ j p q. edge₃ j)
 
   region₃ : (r : ℕ) → r < n → regionOf (gatesIn s₃) (λ x. x) s₃ r ≡ rawRegion s r
   unfolding regionOf rawRegion gatesIn
@@ -160,8 +159,8 @@ module _ (m n : ℕ) (s : Mem) (lens₀ : Lengths m n s) (raw : Raw m n s) (smal
       let c : unbias (getD (s₃ .at count) r 0) ≡ pos 0 = ap unbias (count₃ r h) ∙ unbias-up 1000 (omega arith) in
       λ i. record { label = r; size = ap (λ (l : List ℕ). getD l r 0) (given₃ .tables .at size) i; node = r; count = c i }
 
-  regions₃ : rows (regionOf (gatesIn s₃) (λ x. x) s₃) 0 n ≡ rows (rawRegion s) 0 n
-  regions₃ = rows-ext (regionOf (gatesIn s₃) (λ x. x) s₃) (rawRegion s) 0 n (λ r p q. region₃ r (omega arith))
+  regions₃ : map (regionOf (gatesIn s₃) (λ x. x) s₃) (upto n 0) ≡ map (rawRegion s) (upto n 0)
+  regions₃ = map-upto-same (regionOf (gatesIn s₃) (λ x. x) s₃) (rawRegion s) n 0 (λ r p q. region₃ r (omega arith))
 
   pub net₃ : firstOf m n s₃ ≡ rawNet m n s
   unfolding firstOf stateOf rawNet

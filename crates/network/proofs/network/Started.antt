@@ -12,13 +12,15 @@ use lib.IntN.{pos}
 use lib.ListN.{length, getD}
 use lib.Ieee.{Float}
 use borrow.Author.Tests.{ne-eqb, eqb-true}
+use Rattle.arithmetic.proofs.AllLaws.{all-upto}
+use Rattle.arithmetic.proofs.SeqLaws.{map-upto-length}
 use Rattle.arithmetic.specs.Seq.{All, upto, keep, all}
 use Rattle.edges.specs.Edges.{Pair, used}
 use Rattle.network.specs.Network.{Region, State, Event, alone, start, sizeIn, merges, run, trace, replay, inRange, countOf}
 use Rattle.merge.specs.Mem.{Mem, view}
 use Rattle.merge.specs.Table.{count, first, second}
 use Rattle.merge.specs.Steps.{unbias}
-use Rattle.network.specs.Net.{rows, edgeOf, regionOf}
+use Rattle.network.specs.Net.{edgeOf, regionOf}
 use Rattle.network.specs.Settle.{Done, settle}
 use Rattle.network.specs.TurnIs.{gatesIn, RanIs}
 use Rattle.network.specs.Begin.{rawRegion, rawNet, AllIs}
@@ -26,34 +28,28 @@ use Rattle.network.specs.declared.network.Ran.{Ran}
 use Rattle.network.specs.declared.network.Ran.the-variants.{Settled, Denied}
 use Rattle.network.proofs.Restrict.{edgeIn, regionIn, restrict, OkE, OkR, Closed, eventIn, trace-in}
 use Rattle.network.proofs.Own.{merges-in, final-in}
-use Rattle.network.proofs.network.Rows.{length-rows}
 use Rattle.network.proofs.network.Settles.{outcome, settle-run}
 use Rattle.network.proofs.network.Joint.{Filled, good, first-of, second-of, edges-are, region, regions-are}
 
--- ---- lists given row by row
+-- ---- what f gives of numbers in order
 
-all-rows : {A : Type 0} (P : A → Type 0) (f : ℕ → A) (k n : ℕ) → ((i : ℕ) → k ≤ i → i < k + n → P (f i)) → All P (rows f k n)
-unfolding rows
-all-rows P f k zero h = tt
-all-rows P f k (suc n) h = (h k (omega arith) (omega arith), all-rows P f (suc k) n (λ i a b. h i (omega arith) (omega arith)))
-
-keep-rows : {A : Type 0} (t : A → Bool) (f : ℕ → A) (k n : ℕ) → ((i : ℕ) → k ≤ i → t (f i) ≡ true) → keep t (rows f k n) ≡ rows f k n
-unfolding rows keep
-keep-rows t f k zero h = refl
-keep-rows t f k (suc n) h = rw (h k (omega arith), keep-rows t f (suc k) n (λ i a. h i (omega arith))) refl
+keep-upto : {A : Type 0} (t : A → Bool) (f : ℕ → A) (k n : ℕ) → ((i : ℕ) → k ≤ i → t (f i) ≡ true) → keep t (map f (upto n k)) ≡ map f (upto n k)
+unfolding upto keep
+keep-upto t f k zero h = refl
+keep-upto t f k (suc n) h = rw (h k (omega arith), keep-upto t f (suc k) n (λ i a. h i (omega arith))) refl
 
 keep-every : {A : Type 0} (t : A → Bool) (l : List A) → ((x : A) → t x ≡ true) → keep t l ≡ l
 unfolding keep
 keep-every t [] h = refl
 keep-every t (x ∷ l) h = rw (h x, keep-every t l h) refl
 
--- the count of a region by its row
-count-row : (f : ℕ → Region) (k n l : ℕ) → ((i : ℕ) → f i .label ≡ i) → k ≤ l → l < k + n → countOf (rows f k n) l ≡ f l .count
-unfolding countOf rows
-count-row f k zero l h a b = absurd (omega arith)
-count-row f k (suc n) l h a b = go (eqb l (f k .label)) refl (λ c. count-row f (suc k) n l h c (omega arith))
+-- the count of region l
+count-upto : (f : ℕ → Region) (k n l : ℕ) → ((i : ℕ) → f i .label ≡ i) → k ≤ l → l < k + n → countOf (map f (upto n k)) l ≡ f l .count
+unfolding countOf upto
+count-upto f k zero l h a b = absurd (omega arith)
+count-upto f k (suc n) l h a b = go (eqb l (f k .label)) refl (λ c. count-upto f (suc k) n l h c (omega arith))
   where
-    go : (t : Bool) → eqb l (f k .label) ≡ t → (suc k ≤ l → countOf (rows f (suc k) n) l ≡ f l .count) → cond t (f k .count) (countOf (rows f (suc k) n) l) ≡ f l .count
+    go : (t : Bool) → eqb l (f k .label) ≡ t → (suc k ≤ l → countOf (map f (upto n (suc k))) l ≡ f l .count) → cond t (f k .count) (countOf (map f (upto n (suc k))) l) ≡ f l .count
     go true e ih = ap (λ (i : ℕ). f i .count) (sym (eqb-true l (f k .label) e ∙ h k))
     go false e ih = ih (omega (arith, borrow.Author.Tests.eqb-false l (f k .label) e, h k))
 
@@ -75,8 +71,8 @@ module _ (wide : Float) (k m : ℕ) (L : List ℕ) (ps : List Pair) (s : Mem) (F
   unfoldable pub network : State
   network = start wide (used k ps) (map (sizeIn L) (upto k 1))
 
-  edges-ok : All (OkE some-label any-edge) (rows (edgeOf s) 0 m)
-  edges-ok = all-rows (OkE some-label any-edge) (edgeOf s) 0 m (λ j a b.
+  edges-ok : All (OkE some-label any-edge) (map (edgeOf s) (upto m 0))
+  edges-ok = all-upto (OkE some-label any-edge) (edgeOf s) 0 m (λ j a b.
       let h : j < m = omega arith in
       let g = good wide k m L ps s F j h in
       unfold edgeOf in (label-ok (getD (s .at first) j 0) (omega (arith, first-of wide k m L ps s F j h, g .low, g .less)), label-ok (getD (s .at second) j 0) (omega (arith, second-of wide k m L ps s F j h, g .low))))
@@ -85,11 +81,11 @@ module _ (wide : Float) (k m : ℕ) (L : List ℕ) (ps : List Pair) (s : Mem) (F
   unfolding tables rawNet
   closed = record {
     edges-ok = edges-ok;
-    regions-ok = all-rows (OkR some-label any-edge) (rawRegion s) 0 (k + 1) (λ i a b. unfold rawRegion in refl);
+    regions-ok = all-upto (OkR some-label any-edge) (rawRegion s) 0 (k + 1) (λ i a b. unfold rawRegion in refl);
   }
 
-  regions-from : (i n : ℕ) → rows (region wide k m L ps s F) i n ≡ alone i (map (sizeIn L) (upto n i))
-  unfolding rows alone upto region
+  regions-from : (i n : ℕ) → map (region wide k m L ps s F) (upto n i) ≡ alone i (map (sizeIn L) (upto n i))
+  unfolding upto alone region
   regions-from i zero = refl
   regions-from i (suc n) = ap (λ (l : List Region). record { label = i; size = sizeIn L i; node = i; count = pos 0 } ∷ l) (regions-from (suc i) n)
 
@@ -97,20 +93,20 @@ module _ (wide : Float) (k m : ℕ) (L : List ℕ) (ps : List Pair) (s : Mem) (F
   unfolding restrict tables rawNet network start
   restricted = λ i. record { edges = es i; regions = rs i }
     where
-      es : keep (edgeIn some-label any-edge) (rows (edgeOf s) 0 m) ≡ Rattle.network.specs.Network.numbered wide 0 (used k ps)
-      es = keep-every (edgeIn some-label any-edge) (rows (edgeOf s) 0 m) (λ e. unfold edgeIn in refl) ∙ edges-are wide k m L ps s F
+      es : keep (edgeIn some-label any-edge) (map (edgeOf s) (upto m 0)) ≡ Rattle.network.specs.Network.numbered wide 0 (used k ps)
+      es = keep-every (edgeIn some-label any-edge) (map (edgeOf s) (upto m 0)) (λ e. unfold edgeIn in refl) ∙ edges-are wide k m L ps s F
 
       named : (i : ℕ) → 1 ≤ i → regionIn some-label any-edge (region wide k m L ps s F i) ≡ true
       named i h = unfold regionIn region in label-ok i h
 
-      without-0 : keep (regionIn some-label any-edge) (rows (region wide k m L ps s F) 0 (suc k)) ≡ keep (regionIn some-label any-edge) (rows (region wide k m L ps s F) 1 k)
-      without-0 = unfold rows keep regionIn region in refl
+      without-0 : keep (regionIn some-label any-edge) (map (region wide k m L ps s F) (upto (suc k) 0)) ≡ keep (regionIn some-label any-edge) (map (region wide k m L ps s F) (upto k 1))
+      without-0 = unfold upto keep region regionIn in refl
 
-      rs : keep (regionIn some-label any-edge) (rows (rawRegion s) 0 (k + 1)) ≡ alone 1 (map (sizeIn L) (upto k 1))
+      rs : keep (regionIn some-label any-edge) (map (rawRegion s) (upto (k + 1) 0)) ≡ alone 1 (map (sizeIn L) (upto k 1))
       rs =
-          ap (keep (regionIn some-label any-edge)) (regions-are wide k m L ps s F ∙ ap (rows (region wide k m L ps s F) 0) (add-one k))
+          ap (keep (regionIn some-label any-edge)) (regions-are wide k m L ps s F ∙ ap (λ (x : ℕ). map (region wide k m L ps s F) (upto x 0)) (add-one k))
           ∙ without-0
-          ∙ keep-rows (regionIn some-label any-edge) (region wide k m L ps s F) 1 k named
+          ∙ keep-upto (regionIn some-label any-edge) (region wide k m L ps s F) 1 k named
           ∙ regions-from 1 k
 
   -- ---- so the two runs are one
@@ -157,7 +153,7 @@ module _ (wide : Float) (k m : ℕ) (L : List ℕ) (ps : List Pair) (s : Mem) (F
       ∙ ap (λ (x : ℕ). cond (all inRange (trace network (merges network))) (some (record { last = replay tables (merges tables); merges = x })) none) (omega (arith, ap length merges-are))
     where
       edge-number : length (tables .edges) ≡ m
-      edge-number = unfold tables rawNet in length-rows (edgeOf s) 0 m
+      edge-number = unfold tables rawNet in map-upto-length (edgeOf s) m 0
 
   -- ---- what the run of the tables leaves
 
@@ -179,20 +175,20 @@ module _ (wide : Float) (k m : ℕ) (L : List ℕ) (ps : List Pair) (s : Mem) (F
     unfolding regionIn regionOf
     named node i a = label-ok i a
 
-    without : (node : ℕ → ℕ) → keep (regionIn some-label any-edge) (rows (regionOf (gatesIn s) node (view m (k + 1) w d)) 0 (suc k)) ≡ keep (regionIn some-label any-edge) (rows (regionOf (gatesIn s) node (view m (k + 1) w d)) 1 k)
-    unfolding rows keep regionIn regionOf
+    without : (node : ℕ → ℕ) → keep (regionIn some-label any-edge) (map (regionOf (gatesIn s) node (view m (k + 1) w d)) (upto (suc k) 0)) ≡ keep (regionIn some-label any-edge) (map (regionOf (gatesIn s) node (view m (k + 1) w d)) (upto k 1))
+    unfolding upto keep regionIn regionOf
     without node = refl
 
-    last-regions : (node : ℕ → ℕ) → replay tables (merges tables) .regions ≡ rows (regionOf (gatesIn s) node (view m (k + 1) w d)) 0 (k + 1)
-        → replay network (merges network) .regions ≡ rows (regionOf (gatesIn s) node (view m (k + 1) w d)) 1 k
+    last-regions : (node : ℕ → ℕ) → replay tables (merges tables) .regions ≡ map (regionOf (gatesIn s) node (view m (k + 1) w d)) (upto (k + 1) 0)
+        → replay network (merges network) .regions ≡ map (regionOf (gatesIn s) node (view m (k + 1) w d)) (upto k 1)
     last-regions node e =
         sym (ap (λ (t : State). t .regions) final-is)
         ∙ side
         ∙ without node
-        ∙ keep-rows (regionIn some-label any-edge) (regionOf (gatesIn s) node (view m (k + 1) w d)) 1 k (named node)
+        ∙ keep-upto (regionIn some-label any-edge) (regionOf (gatesIn s) node (view m (k + 1) w d)) 1 k (named node)
       where
-        side : restrict some-label any-edge (replay tables (merges tables)) .regions ≡ keep (regionIn some-label any-edge) (rows (regionOf (gatesIn s) node (view m (k + 1) w d)) 0 (suc k))
-        side = unfold restrict in ap (keep (regionIn some-label any-edge)) (e ∙ ap (rows (regionOf (gatesIn s) node (view m (k + 1) w d)) 0) (add-one k))
+        side : restrict some-label any-edge (replay tables (merges tables)) .regions ≡ keep (regionIn some-label any-edge) (map (regionOf (gatesIn s) node (view m (k + 1) w d)) (upto (suc k) 0))
+        side = unfold restrict in ap (keep (regionIn some-label any-edge)) (e ∙ ap (λ (x : ℕ). map (regionOf (gatesIn s) node (view m (k + 1) w d)) (upto x 0)) (add-one k))
 
     count-of : (node : ℕ → ℕ) (l : ℕ) → regionOf (gatesIn s) node (view m (k + 1) w d) l .count ≡ unbias (getD (view m (k + 1) w d .at count) l 0)
     unfolding regionOf
@@ -206,7 +202,7 @@ module _ (wide : Float) (k m : ℕ) (L : List ℕ) (ps : List Pair) (s : Mem) (F
           settled = R .0;
           counts = λ l a b.
               sym (ap (λ (x : List Region). countOf x l) (last-regions (R .1) (R .2))
-              ∙ count-row (regionOf (gatesIn s) (R .1) (view m (k + 1) w d)) 1 k l (λ i. unfold regionOf in refl) a (omega arith)
+              ∙ count-upto (regionOf (gatesIn s) (R .1) (view m (k + 1) w d)) 1 k l (λ i. unfold regionOf in refl) a (omega arith)
               ∙ count-of (R .1) l);
           most = λ l b. R .3 l (omega arith);
         }

@@ -2,18 +2,20 @@
 use mathlib.Core.Path.{_≡_, refl, sym, ap, _∙_, subst}
 use mathlib.Core.Logic.{_⊎_, inl, inr, ⊎-elim}
 use mathlib.Core.Bool.{Bool, true, false, not, _&&_, cond, true≢false}
-use mathlib.Core.List.{List}
+use mathlib.Core.List.{List, map}
 use Prim.Native.Nat.{ℕ, zero, suc, _+_, _*_, _-_, _/_, _≤_, _<_}
 use native.Mathlib.Omega.{arith}
 use lib.Dec.{eqb, ltb}
 use lib.ListN.{getD}
 use lib.Seq.{getD-set-same, getD-set-other}
+use Rattle.arithmetic.proofs.AllLaws.{mem-upto}
+use Rattle.arithmetic.specs.Seq.{upto}
 use Rattle.network.specs.Network.{Edge, Region, State, Plan, sizeOf, plan, planFor, kill, turn, turnIf, adjust, prepare, combine}
 use Rattle.merge.specs.Mem.{Mem, Sound, store}
 use Rattle.merge.specs.Table.{is, weight, first, second, enext, rnext, stamp, size, elen, rlen, count}
 use Rattle.merge.specs.Steps.{unbias, turned, pruned, takeEdge, walkMoved, movedAll}
 use Rattle.merge.specs.Does.{Gains}
-use Rattle.network.specs.Net.{rows, edgeOf, edgeNow, regionOf, Like}
+use Rattle.network.specs.Net.{edgeOf, edgeNow, regionOf, Like}
 use Rattle.merge.specs.Chain.{cur}
 use Rattle.network.specs.Rep.{Rep, Circled}
 use Rattle.merge.proofs.merge.SoundSet.{eq-or-ne, sound-weight, sound-store}
@@ -23,7 +25,6 @@ use Rattle.merge.proofs.merge.Frames.{Frame, frame-moved-all, Same}
 use Rattle.merge.proofs.merge.TableLaws.{Alike, alike-store}
 use Rattle.network.proofs.network.TableEdges.{like-of, like-dead, like-then, like-at, live-word, word-dead}
 use Rattle.network.proofs.network.Facing.{now-live, Stands, stands, stands-in, stamp-newest, stamp-most, stamp-now}
-use Rattle.network.proofs.network.Rows.{has-rows}
 use Rattle.network.proofs.network.Chained.{circled-by, circled-less, at-end, met}
 use Rattle.network.proofs.network.Dropping.{Pruned, prune-is}
 use Rattle.network.proofs.network.Moved.{same-no, same-yes, Setting, Middle, Grounds}
@@ -79,7 +80,7 @@ module _ (m n : ℕ) (gates : ℕ → ℕ) (past : ℕ) (s : Mem) (t : State) (R
 
   module _ (e : ℕ) (lt : e < m) (l : R .E e .live ≡ true) where
     abbrev pub rs : List Region
-    rs = rows (regionOf gates (R .node) s) 0 n
+    rs = map (regionOf gates (R .node) s) (upto n 0)
 
     abbrev pub pl : Plan
     pl = plan rs (R .E e)
@@ -188,7 +189,7 @@ module _ (m n : ℕ) (gates : ℕ → ℕ) (past : ℕ) (s : Mem) (t : State) (R
 
     proper : (j : ℕ) → j < m → killed j .live ≡ true → killed j .first ≡ killed j .second → ⊥
     proper j h k w = let q : (R .E j .live ≡ true) × (killed j ≡ R .E j) = lived j k in
-        R .simple .proper (R .E j) (has-rows (R .E) 0 m j (omega arith) (omega arith)) (q .0) (sym (ap (λ (x : Edge). x .first) (q .1)) ∙ w ∙ ap (λ (x : Edge). x .second) (q .1))
+        R .simple .proper (R .E j) (mem-upto (R .E) 0 m j (omega arith) (omega arith)) (q .0) (sym (ap (λ (x : Edge). x .first) (q .1)) ∙ w ∙ ap (λ (x : Edge). x .second) (q .1))
 
     like₂ : (j : ℕ) → j < m → Like (edgeNow s₂ j) (turn (pl .base) (killed j))
     like₂ j h = go (killed j .live) refl
@@ -303,7 +304,7 @@ module _ (m n : ℕ) (gates : ℕ → ℕ) (past : ℕ) (s : Mem) (t : State) (R
           ap (walked .done') (sym (u .2)) ∙ walked .seen (u .0) (u .1) (subst (λ (y : ℕ). y < m) (sym (u .2)) h)
           (ap (λ (y : ℕ). prep y .live) (u .2) ∙ k) (ap (λ (y : ℕ). prep y .first) (u .2) ∙ w)
 
-      pub like₄ : (j : ℕ) → j < m → Like (edgeNow s₄ j) (combine (rows prep 0 m) (pl .base) (pl .moved) (prep j))
+      pub like₄ : (j : ℕ) → j < m → Like (edgeNow s₄ j) (combine (map prep (upto m 0)) (pl .base) (pl .moved) (prep j))
       like₄ = finish m (pl .base) (pl .moved) g prep ready S (sₚ .at enext) (sₚ .at elen) (sₚ .at stamp) s₄ (walked .done') (walked .middle) all-done
 
       pub stamps₄ : (x : ℕ) → getD (s₄ .at stamp) x 0 ≤ past + 1

@@ -2,7 +2,7 @@
 use mathlib.Core.Path.{_≡_, refl, sym, ap, _∙_, subst}
 use mathlib.Core.Logic.{_⊎_, inl, inr, ⊎-elim}
 use mathlib.Core.Bool.{Bool, true, false, _&&_, cond}
-use mathlib.Core.List.{List, map}
+use mathlib.Core.List.{List, map, map-map}
 use mathlib.Core.Option.{Option, none, some}
 use Prim.Native.Nat.{ℕ, _+_, _*_, _-_, _≤_, _<_, _^_}
 use native.Mathlib.Omega.{arith}
@@ -16,21 +16,21 @@ use Rattle.network.proofs.SimpleLaws.{Turned, step-simple}
 use Rattle.merge.specs.Mem.{Mem, Sound, store}
 use Rattle.merge.specs.Table.{weight, enext, rnext, stamp, size, elen, rlen, count}
 use Rattle.merge.specs.Steps.{unbias, accepts, walkRaise, pruned, movedAll, handed, then, merged}
-use Rattle.network.specs.Net.{rows, regionOf}
+use Rattle.network.specs.Net.{regionOf}
 use Rattle.merge.specs.Chain.{cur, Chains, own-joined, pos-joined, len-joined}
 use Rattle.network.specs.Rep.{Rep, Circled, Ends}
 use Rattle.merge.proofs.merge.SoundSet.{eq-or-ne}
-use Rattle.network.proofs.network.Rows.{map-rows, rows-ext}
 use Rattle.network.proofs.network.TableEdges.{like-at}
 use Rattle.network.proofs.network.Moved.{same-no, same-yes}
 use Rattle.merge.proofs.merge.Counts.{Gained, Gives, raise}
 use Rattle.network.proofs.network.Sums.{accepts-is, accepted-sum, size-else, gates-move}
 use Rattle.network.proofs.network.After.{swap, swapped, chains-len, after, after-edges, after-stamp, after-count, after-rnext, after-enext, after-size, after-elen, after-rlen, sound-after, sum-there, all-yes, all-no}
-use Rattle.network.proofs.network.Prepared.{at-rows, setting}
+use Rattle.network.proofs.network.Prepared.{at-upto, setting}
 use Rattle.network.proofs.network.StepEdges.{prep-ends, prep-live, base-in, moved-in, base-leads, moved-leads, apart, beside₂, sound₂, same₁, beside₄, o₄, q₄, l₄, circled₄, sound₄, like₄, stamps₄}
 use lib.Dec.{eqb}
 use borrow.Author.Tests.{eqb-true}
-use Rattle.arithmetic.specs.Seq.{all}
+use Rattle.arithmetic.specs.Seq.{all, upto}
+use Rattle.arithmetic.proofs.SeqLaws.{map-upto-same}
 use Rattle.network.specs.Simple.{Simple}
 
 -- a node's new name
@@ -63,7 +63,7 @@ combine-ends es b v e ns = go (eqb b (e .first)) refl (eqb v (e .first)) refl (f
 
 module _ (m n : ℕ) (gates : ℕ → ℕ) (past : ℕ) (s : Mem) (t : State) (R : Rep m n gates past s t) (e : ℕ) (lt : e < m) (l : R .E e .live ≡ true) where
   abbrev rs : List Region
-  rs = rows (regionOf gates (R .node) s) 0 n
+  rs = map (regionOf gates (R .node) s) (upto n 0)
 
   abbrev pl : Plan
   pl = plan rs (R .E e)
@@ -78,7 +78,7 @@ module _ (m n : ℕ) (gates : ℕ → ℕ) (past : ℕ) (s : Mem) (t : State) (R
   prep j = prepare pl (R .E j)
 
   abbrev E' : ℕ → Edge
-  E' j = combine (rows prep 0 m) b v (prep j)
+  E' j = combine (map prep (upto m 0)) b v (prep j)
 
   abbrev node' : ℕ → ℕ
   node' = own-joined (R .node) b v
@@ -119,14 +119,14 @@ module _ (m n : ℕ) (gates : ℕ → ℕ) (past : ℕ) (s : Mem) (t : State) (R
   merges : step t e ≡ merge pl t
   unfolding step stepTo
   merges =
-      let f : at (t .edges) e ≡ some (R .E e) = ap (λ (x : List Edge). at x e) (R .edges) ∙ at-rows (R .E) (R .number) 0 m e (omega arith) (omega arith) l in
+      let f : at (t .edges) e ≡ some (R .E e) = ap (λ (x : List Edge). at x e) (R .edges) ∙ at-upto (R .E) (R .number) 0 m e (omega arith) (omega arith) l in
       ap (λ (o : Option Edge). stepTo o t) f ∙ ap (λ (x : List Region). merge (plan x (R .E e)) t) (R .regions)
 
-  edges' : step t e .edges ≡ rows E' 0 m
+  edges' : step t e .edges ≡ map E' (upto m 0)
   unfolding merge mergeEdges joinAll
   edges' =
       ap (λ (x : State). x .edges) merges ∙ ap (mergeEdges pl) (R .edges)
-      ∙ ap (λ (x : List Edge). map (combine x b v) x) (map-rows (prepare pl) (R .E) 0 m) ∙ map-rows (combine (rows prep 0 m) b v) prep 0 m
+      ∙ ap (λ (x : List Edge). map (combine x b v) x) (map-map (prepare pl) (R .E) (upto m 0)) ∙ map-map (combine (map prep (upto m 0)) b v) prep (upto m 0)
 
   -- ---- the counts
   module _ (g : ℕ) (gain : unbias g ≡ pl .gain) (g-in : g ≤ 2000) (s₃ : Mem) (G : Gained g (s .at rnext) v (getD (s .at rlen) v 0) n s₂ s₃) where
@@ -190,12 +190,12 @@ module _ (m n : ℕ) (gates : ℕ → ℕ) (past : ℕ) (s : Mem) (t : State) (R
             ap (λ (x : Bool). cond x (unbias (getD (s .at count) r 0) +ℤ pl .gain) (unbias (getD (s .at count) r 0))) no ∙ ap unbias (sym (other-count r w)) ∙ ap unbias (sym c₆) in
             λ i. record { label = r; size = gates r; node = cond (eqb v (R .node r)) b (R .node r); count = c i }
 
-    moved-rows : map (move pl) rs ≡ rows (regionOf gates node' s₆) 0 n
-    moved-rows = map-rows (move pl) (regionOf gates (R .node) s) 0 n ∙ rows-ext (λ r. move pl (regionOf gates (R .node) s r)) (regionOf gates node' s₆) 0 n (λ r p q. region' r (omega arith))
+    moved-regions : map (move pl) rs ≡ map (regionOf gates node' s₆) (upto n 0)
+    moved-regions = map-map (move pl) (regionOf gates (R .node) s) (upto n 0) ∙ map-upto-same (λ r. move pl (regionOf gates (R .node) s r)) (regionOf gates node' s₆) n 0 (λ r p q. region' r (omega arith))
 
-    regions' : step t e .regions ≡ rows (regionOf gates node' s₆) 0 n
+    regions' : step t e .regions ≡ map (regionOf gates node' s₆) (upto n 0)
     unfolding merge
-    regions' = ap (λ (x : State). x .regions) merges ∙ ap (map (move pl)) (R .regions) ∙ moved-rows
+    regions' = ap (λ (x : State). x .regions) merges ∙ ap (map (move pl)) (R .regions) ∙ moved-regions
 
     -- ---- the chains
     rchains' : Chains (s₆ .at rnext) n node' (pos-joined (R .node) (R .rpos) (λ x. getD (s .at rlen) x 0) b v) (λ x. getD (s₆ .at rlen) x 0)
@@ -263,7 +263,7 @@ module _ (m n : ℕ) (gates : ℕ → ℕ) (past : ℕ) (s : Mem) (t : State) (R
     prepared-second j h k = setting m (R .E) (R .number) (R .simple) e lt l rs g gain .turned j h k
 
     lived : (j : ℕ) → E' j .live ≡ true → prep j .live ≡ true
-    lived j k = combine-live (rows prep 0 m) b v (prep j) k
+    lived j k = combine-live (map prep (upto m 0)) b v (prep j) k
 
     was-live : (j : ℕ) → prep j .live ≡ true → R .E j .live ≡ true
     was-live j k = unfold kill in left (R .E j .live) _ (sym (prep-live pl (R .E j)) ∙ k)
@@ -277,7 +277,7 @@ module _ (m n : ℕ) (gates : ℕ → ℕ) (past : ℕ) (s : Mem) (t : State) (R
     ends' j h k = go (prep-ends pl (R .E j)) (C .ends j h (sym (prep-live pl (R .E j)) ∙ lived j k))
       where
         c : (E' j .first ≡ to b v (prep j .first)) × (E' j .second ≡ to b v (prep j .second))
-        c = combine-ends (rows prep 0 m) b v (prep j) (prepared-second j h (lived j k) .1)
+        c = combine-ends (map prep (upto m 0)) b v (prep j) (prepared-second j h (lived j k) .1)
 
         slot-to : (i x y : ℕ) → o i ≡ 2 * m + x → y ≡ to b v x → eown' i ≡ 2 * m + y
         slot-to i x y p q = eown-to i x p ∙ ap (λ (z : ℕ). 2 * m + z) (sym q)
@@ -299,7 +299,7 @@ module _ (m n : ℕ) (gates : ℕ → ℕ) (past : ℕ) (s : Mem) (t : State) (R
     leading' j h k = go (prep-ends pl (R .E j)) (R .leading j h (was-live j (lived j k)))
       where
         c : (E' j .first ≡ to b v (prep j .first)) × (E' j .second ≡ to b v (prep j .second))
-        c = combine-ends (rows prep 0 m) b v (prep j) (prepared-second j h (lived j k) .1)
+        c = combine-ends (map prep (upto m 0)) b v (prep j) (prepared-second j h (lived j k) .1)
 
         end-to : (x y z : ℕ) → z ≡ to b v x → x ≡ y → R .node y ≡ y → node' z ≡ z
         end-to x y z p q w = subst (λ (i : ℕ). node' i ≡ i) (sym (p ∙ ap (to b v) q)) (leads-to y w)
@@ -313,10 +313,10 @@ module _ (m n : ℕ) (gates : ℕ → ℕ) (past : ℕ) (s : Mem) (t : State) (R
     stamps' x = subst (λ (y : List ℕ). getD y x 0 ≤ past + 1) (sym (after-stamp m b v s₄)) (stamps₄ m n gates past s t R e lt l g gain g-in s₃ (G .else) sound₃ x)
 
     -- ---- the sizes
-    sizes' : (x : ℕ) → x < n → node' x ≡ x → getD (s₆ .at size) x 0 ≡ sizeOf (rows (regionOf gates node' s₆) 0 n) x
+    sizes' : (x : ℕ) → x < n → node' x ≡ x → getD (s₆ .at size) x 0 ≡ sizeOf (map (regionOf gates node' s₆) (upto n 0)) x
     sizes' x h w =
         ap (λ (y : List ℕ). getD y x 0) (after-size m b v s₄ ∙ ap (λ (y : List ℕ). set y b (getD y b 0 + getD y v 0)) size₄) ∙ sum-there (s .at size) n b v x (R .sound .lengths size) hb
-        ∙ ⊎-elim grown kept (eq-or-ne x b) ∙ ap (λ (y : List Region). sizeOf y x) moved-rows
+        ∙ ⊎-elim grown kept (eq-or-ne x b) ∙ ap (λ (y : List Region). sizeOf y x) moved-regions
       where
         grown : x ≡ b → cond (eqb b x) (getD (s .at size) b 0 + getD (s .at size) v 0) (getD (s .at size) x 0) ≡ sizeOf (map (move pl) rs) x
         grown q =
@@ -341,9 +341,9 @@ module _ (m n : ℕ) (gates : ℕ → ℕ) (past : ℕ) (s : Mem) (t : State) (R
       elens = len-joined len (2 * m + b) (2 * m + v);
       edges = edges';
       regions = regions';
-      number = λ j. combine-num (rows prep 0 m) b v (prep j) ∙ prepare-num pl (R .E j) ∙ R .number j;
+      number = λ j. combine-num (map prep (upto m 0)) b v (prep j) ∙ prepare-num pl (R .E j) ∙ R .number j;
       simple = subst (λ (x : List Edge). Simple x) edges' (step-simple t e (subst (λ (x : List Edge). Simple x) (sym (R .edges)) (R .simple)));
-      light = subst (λ (x : ℕ). x < 2 ^ 32) (sym (gates-move pl rs) ∙ ap gatesOf moved-rows) (R .light);
+      light = subst (λ (x : ℕ). x < 2 ^ 32) (sym (gates-move pl rs) ∙ ap gatesOf moved-regions) (R .light);
       sound = sound-after m b v s₄ n hb hv (sound₄ m n gates past s t R e lt l g gain g-in s₃ (G .else) sound₃);
       small = R .small;
       like = λ j h. like-at _ _ _ (after-edges m b v s₄ j) (like₄ m n gates past s t R e lt l g gain g-in s₃ (G .else) sound₃ j h);

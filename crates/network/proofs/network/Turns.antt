@@ -1,7 +1,7 @@
 -- `choose_base`, `turn` and `run` over plain values. Assumes nothing.
 use mathlib.Core.Path.{_≡_, refl, sym, ap, _∙_, subst}
 use mathlib.Core.Bool.{Bool, true, false, _&&_, cond}
-use mathlib.Core.List.{List}
+use mathlib.Core.List.{List, map}
 use mathlib.Core.Option.{Option, none, some}
 use Prim.Native.Nat.{ℕ, zero, suc, _+_, _*_, _-_, _≤_, _<_}
 use native.Mathlib.Omega.{arith}
@@ -9,6 +9,8 @@ use lib.IntN.{pos, negℤ}
 use lib.Ieee.{nan, Float, neg, binary64, div}
 use lib.ListN.{length, getD}
 use borrow.Author.Tests.{lt-ltb, le-ltb}
+use Rattle.arithmetic.proofs.AllLaws.{mem-upto}
+use Rattle.arithmetic.proofs.SeqLaws.{map-upto-length, map-upto-at}
 use Rattle.network.specs.Network.{Edge, Region, State, Plan, sizeOf, at, turnIf, plan, planFor, eventOf, event, step, raised, better, choose, quot, bounded, inRange, whole}
 use Rattle.network.proofs.Choice.{Best as Heaviest, best-chosen}
 use Rattle.memory.specs.Tree.{Tree, Best}
@@ -16,7 +18,7 @@ use Rattle.merge.specs.Mem.{Mem, view, Room, Sound}
 use Rattle.merge.specs.Table.{count, weight, first, second, enext, rnext, size, rlen}
 use Rattle.merge.specs.Steps.{unbias, turned, merged, numberOf}
 use Rattle.merge.specs.Does.{Does, Raised, Gains, Fit}
-use Rattle.network.specs.Net.{rows, edgeOf, edgeNow, regionOf}
+use Rattle.network.specs.Net.{edgeOf, edgeNow, regionOf}
 use Rattle.network.specs.Rep.{Rep}
 use Rattle.network.specs.Settle.{Done, onward, settle}
 use Rattle.network.specs.TurnIs.{TurnIs, Chosen, PickIs, gatesIn, firstOf, RanIs}
@@ -25,17 +27,16 @@ use Rattle.network.specs.declared.network.Turned.the-variants.{Merged, E
 use Rattle.network.specs.declared.network.Ran.the-variants.{Settled, Denied}
 use Rattle.merge.proofs.merge.View.{weight-at, read}
 use Rattle.merge.proofs.merge.Leaf.{turned-words}
-use Rattle.network.proofs.network.Rows.{length-rows, getD-rows, has-rows}
 use Rattle.network.proofs.network.TableEdges.{word-live}
 use Rattle.network.proofs.network.Facing.{now-live, Stands, stands}
 use Rattle.network.proofs.network.Pigeon.{two-circles}
 use Rattle.network.proofs.network.Sums.{size-two}
-use Rattle.network.proofs.network.Prepared.{at-rows}
+use Rattle.network.proofs.network.Prepared.{at-upto}
 use Rattle.network.proofs.network.StepEdges.{ends-in}
 use Rattle.network.proofs.network.StepRep.{MergeIs, merge-is}
 use Rattle.merge.proofs.merge.MergeDoes.{raised-true, raised-false}
 use Rattle.network.proofs.network.NumberIs.{Numbered, number-in, number-out, opposite}
-use Rattle.arithmetic.specs.Seq.{all}
+use Rattle.arithmetic.specs.Seq.{all, upto}
 use Rattle.arithmetic.specs.Rounding.{real, roundEven}
 use Rattle.network.specs.Popped.{popped, Takes, Pops}
 use Rattle.network.specs.declared.network.Popped.{Popped}
@@ -43,8 +44,8 @@ use Rattle.network.specs.declared.network.PoppedEdge.{PoppedEdge}
 use Rattle.network.specs.declared.network.Popped.the-variants.{Edge as Taken, Nothing}
 
 -- ---- the choice
-choose-dead : (E : ℕ → Edge) (k n : ℕ) → ((j : ℕ) → k ≤ j → j < k + n → E j .live ≡ false) → choose (rows E k n) ≡ none
-unfolding choose better rows
+choose-dead : (E : ℕ → Edge) (k n : ℕ) → ((j : ℕ) → k ≤ j → j < k + n → E j .live ≡ false) → choose (map E (upto n k)) ≡ none
+unfolding choose better upto
 choose-dead E k zero h = refl
 choose-dead E k (suc n) h = ap (better (E k)) (choose-dead E (suc k) n (λ j p q. h j (omega arith) (omega arith))) ∙ (rw (h k (omega arith) (omega arith)) refl)
 
@@ -71,32 +72,32 @@ module _ (m n : ℕ) (gates : ℕ → ℕ) (past : ℕ) (w : List ℕ) (d : List
       weighs j h l = sym (weight-at m n w d j h) ∙ stands s j (R .E j) (R .like j h .whole l) l .weight-is
 
       pub choose-some : choose (t .edges) ≡ some (R .E e)
-      choose-some = ap choose (R .edges) ∙ best-chosen (R .E 0) (rows (R .E) 0 m) e heaviest ∙ ap some (row e (B .within))
+      choose-some = ap choose (R .edges) ∙ best-chosen (R .E 0) (map (R .E) (upto m 0)) e heaviest ∙ ap some (row e (B .within))
         where
-          row : (j : ℕ) → j < m → getD (rows (R .E) 0 m) j (R .E 0) ≡ R .E j
-          row j h = let z : 0 + j ≡ j = omega arith in getD-rows (R .E) (R .E 0) 0 m j h ∙ ap (R .E) z
+          row : (j : ℕ) → j < m → getD (map (R .E) (upto m 0)) j (R .E 0) ≡ R .E j
+          row j h = let z : 0 + j ≡ j = omega arith in map-upto-at (R .E) m 0 j (R .E 0) h ∙ ap (R .E) z
 
-          lives : (j : ℕ) → j < m → getD (rows (R .E) 0 m) j (R .E 0) .live ≡ true → R .E j .live ≡ true
+          lives : (j : ℕ) → j < m → getD (map (R .E) (upto m 0)) j (R .E 0) .live ≡ true → R .E j .live ≡ true
           lives j h l = sym (ap (λ (x : Edge). x .live) (row j h)) ∙ l
 
-          heavy : (j : ℕ) → j < m → R .E j .live ≡ true → getD (rows (R .E) 0 m) j (R .E 0) .link .weight ≡ getD w j 0
+          heavy : (j : ℕ) → j < m → R .E j .live ≡ true → getD (map (R .E) (upto m 0)) j (R .E 0) .link .weight ≡ getD w j 0
           heavy j h l = ap (λ (x : Edge). x .link .weight) (row j h) ∙ sym (weighs j h l)
 
-          heaviest : Heaviest (R .E 0) (rows (R .E) 0 m) e
+          heaviest : Heaviest (R .E 0) (map (R .E) (upto m 0)) e
           heaviest = record {
-            within = omega (arith, length-rows (R .E) 0 m, B .within);
+            within = omega (arith, map-upto-length (R .E) m 0, B .within);
             live = ap (λ (x : Edge). x .live) (row e (B .within)) ∙ best-live;
-            heaviest = λ j h l. let p : j < m = omega (arith, length-rows (R .E) 0 m) in omega (arith, heavy j p (lives j p l), heavy e (B .within) best-live, B .beats j p .heavy);
+            heaviest = λ j h l. let p : j < m = omega (arith, map-upto-length (R .E) m 0) in omega (arith, heavy j p (lives j p l), heavy e (B .within) best-live, B .beats j p .heavy);
             earliest = λ j h l. let p : j < m = omega (arith, B .within) in omega (arith, heavy j p (lives j p l), heavy e (B .within) best-live, B .beats j p .early h);
           }
 
   -- ---- the merge of a live edge
   module _ (e : ℕ) (lt : e < m) (l : R .E e .live ≡ true) where
     abbrev rs : List Region
-    rs = rows (regionOf gates (R .node) s) 0 n
+    rs = map (regionOf gates (R .node) s) (upto n 0)
 
     found : at (t .edges) e ≡ some (R .E e)
-    found = ap (λ (x : List Edge). at x e) (R .edges) ∙ at-rows (R .E) (R .number) 0 m e (omega arith) (omega arith) l
+    found = ap (λ (x : List Edge). at x e) (R .edges) ∙ at-upto (R .E) (R .number) 0 m e (omega arith) (omega arith) l
 
     range-is : inRange (event t e) ≡ (bounded 1000 (quot (R .E e .link .diff) (R .E e .link .weight)) && all (bounded 1000) (raised (plan rs (R .E e) .gain) rs (plan rs (R .E e) .moved)))
     unfolding event eventOf inRange
@@ -112,7 +113,7 @@ module _ (m n : ℕ) (gates : ℕ → ℕ) (past : ℕ) (w : List ℕ) (d : List
       ends-words = (is-p, is-q, ends-in m n gates past s t R e lt l .0, ends-in m n gates past s t R e lt l .1)
 
       proper : R .E e .first ≡ R .E e .second → ⊥
-      proper = R .simple .proper (R .E e) (has-rows (R .E) 0 m e (omega arith) (omega arith)) l
+      proper = R .simple .proper (R .E e) (mem-upto (R .E) 0 m e (omega arith) (omega arith)) l
 
       leads-first : R .node (R .E e .first) ≡ R .E e .first
       leads-first = R .leading e lt l .0
