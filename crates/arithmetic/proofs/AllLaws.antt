@@ -6,7 +6,7 @@ use mathlib.Core.Bool.{Bool, true, false, cond, not, _&&_, true≢false}
 use mathlib.Core.List.{List, [], _∷_, _++_, map}
 use mathlib.Core.Logic.{inl, inr, ⊎-elim}
 use lib.Dec.{eqb, ltb}
-use lib.ListN.{getD}
+use lib.ListN.{length, getD}
 use borrow.Author.Tests.{eqb-true, eqb-false, ltb-true, ltb-false}
 use Rattle.arithmetic.specs.Seq.{All, Mem, keep, each, upto, all, tabulate}
 use Rattle.arithmetic.proofs.SeqLaws.{tab-at, tab-past}
@@ -36,6 +36,16 @@ module _ {A : Type 0} where
   all-append P [] m t u = u
   all-append P (x ∷ l) m t u = (t .0, all-append P l m (t .1) u)
 
+  -- by index
+  pub all-index : (P : A → Type 0) (l : List A) (d : A) → All P l → (i : ℕ) → i < length l → P (getD l i d)
+  all-index P [] d t i h = absurd (omega arith)
+  all-index P (x ∷ l) d t zero h = t .0
+  all-index P (x ∷ l) d t (suc i) h = all-index P l d (t .1) i (omega arith)
+
+  pub index-all : (P : A → Type 0) (l : List A) (d : A) → ((i : ℕ) → i < length l → P (getD l i d)) → All P l
+  index-all P [] d h = tt
+  index-all P (x ∷ l) d h = (h 0 (omega arith), index-all P l d (λ i p. h (suc i) (omega arith)))
+
   -- one element or none
   pub all-cond : (P : A → Type 0) (b : Bool) (x : A) → (b ≡ true → P x) → All P (cond b (x ∷ []) [])
   all-cond P true x h = (h refl, tt)
@@ -49,6 +59,11 @@ module _ {A : Type 0} where
       go : (b : Bool) → All P (keep f xs) → All P (cond b (x ∷ keep f xs) (keep f xs))
       go true u = (t .0, u)
       go false u = u
+
+  pub keep-all : (f : A → Bool) (l : List A) → All (λ x. f x ≡ true) l → keep f l ≡ l
+  unfolding keep
+  keep-all f [] t = refl
+  keep-all f (x ∷ xs) t = rw (t .0, keep-all f xs (t .1)) refl
 
   -- what holds of those that pass a test and of those that don't holds of all
   pub all-both : (P : A → Type 0) (f : A → Bool) (l : List A) → All P (keep f l) → All P (keep (λ x. not (f x)) l) → All P l

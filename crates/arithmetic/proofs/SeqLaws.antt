@@ -4,7 +4,7 @@ use native.Mathlib.Omega.{arith}
 use native.Mathlib.Numerals.{add-one}
 use mathlib.Core.Path.{_≡_, refl, sym, ap, _∙_}
 use mathlib.Core.Bool.{Bool, true, false, cond, _&&_}
-use mathlib.Core.List.{List, [], _∷_, _++_, map}
+use mathlib.Core.List.{List, [], _∷_, _++_, map, append-assoc, append-nil}
 use lib.Dec.{eqb}
 use lib.ListN.{length, getD, set, length-map}
 use borrow.Author.Tests.{eqb-true, eqb-false, ne-eqb, eq-eqb}
@@ -104,6 +104,20 @@ unfolding keep
 keep-none t [] h = refl
 keep-none t (x ∷ xs) h = rw (h x) (keep-none t xs h)
 
+pub keep-every : {A : Type 0} (t : A → Bool) (l : List A) → ((x : A) → t x ≡ true) → keep t l ≡ l
+unfolding keep
+keep-every t [] h = refl
+keep-every t (x ∷ xs) h = rw (h x, keep-every t xs h) refl
+
+pub keep-most : {A : Type 0} (t : A → Bool) (l : List A) → length (keep t l) ≤ length l
+unfolding keep
+keep-most t [] = omega arith
+keep-most t (x ∷ xs) = go (t x) (keep-most t xs)
+  where
+    go : (b : Bool) → length (keep t xs) ≤ length xs → length (cond b (x ∷ keep t xs) (keep t xs)) ≤ suc (length xs)
+    go true h = omega arith
+    go false h = omega arith
+
 pub keep-append : {A : Type 0} (t : A → Bool) (l m : List A) → keep t (l ++ m) ≡ keep t l ++ keep t m
 unfolding keep
 keep-append t [] m = refl
@@ -128,6 +142,16 @@ keep-same s t [] h = refl
 keep-same s t (x ∷ xs) h = rw (h x, keep-same s t xs h) refl
 
 -- ---- each
+
+pub each-append : {A B : Type 0} (f : A → List B) (l m : List A) → each f (l ++ m) ≡ each f l ++ each f m
+unfolding each
+each-append f [] m = refl
+each-append f (x ∷ xs) m = ap (λ (t : List _). f x ++ t) (each-append f xs m) ∙ sym (append-assoc (f x) (each f xs) (each f m))
+
+-- one more number
+pub each-snoc : {B : Type 0} (f : ℕ → List B) (k : ℕ) → each f (upto (suc k) 0) ≡ each f (upto k 0) ++ f k
+unfolding each
+each-snoc f k = ap (each f) (upto-snoc k 0) ∙ each-append f (upto k 0) ((k + 0) ∷ []) ∙ ap (λ (l : List _). each f (upto k 0) ++ l) (append-nil (f (k + 0)) ∙ ap f (omega arith))
 
 pub each-map : {A B C : Type 0} (g : A → B) (f : B → List C) (l : List A) → each f (map g l) ≡ each (λ x. f (g x)) l
 unfolding each

@@ -11,6 +11,7 @@ use lib.ListN.{length, getD, length-append}
 use lib.Ieee.{Float, nan}
 use borrow.Author.Tests.{eqb-true, ne-eqb}
 use Rattle.arithmetic.specs.Seq.{upto, each, keep}
+use Rattle.arithmetic.proofs.SeqLaws.{keep-most}
 use Rattle.edges.specs.Edges.{Shape, Direction, left, right, top, bottom, sees, Pair, pairTo, pairsAt, pairs, gathered, firstIs, secondIs, recordsOf, records, greaterFirst, used}
 use Rattle.network.specs.Network.{State, Edge, choose, follow, step, run, merges, start, numbered, networkBy}
 use Rattle.edges.specs.declared.edges.EdgeRecord.{EdgeRecord}
@@ -87,15 +88,6 @@ each-most : {A B : Type 0} (f : A → List B) (m : ℕ) (l : List A) → ((a : A
 unfolding each
 each-most f m [] h = omega arith
 each-most f m (x ∷ l) h = omega (arith, length-append (f x) (each f l), h x, each-most f m l h, suc-mul (length l) m)
-
-keep-most : {A : Type 0} (p : A → Bool) (l : List A) → length (keep p l) ≤ length l
-unfolding keep
-keep-most p [] = omega arith
-keep-most p (x ∷ l) = go (p x) (keep-most p l)
-  where
-    go : (b : Bool) → length (keep p l) ≤ length l → length (cond b (x ∷ keep p l) (keep p l)) ≤ suc (length l)
-    go true h = omega arith
-    go false h = omega arith
 
 -- ---- edges
 

@@ -12,8 +12,9 @@ use lib.Seq.{ext-getD}
 use Rattle.arithmetic.specs.Seg.{seg, put}
 use Rattle.arithmetic.proofs.SegLaws.{length-seg, getD-seg, length-put, seg-put-below, seg-put-same}
 use Rattle.arithmetic.specs.Seq.{upto, each, sum, All}
-use Rattle.arithmetic.proofs.SeqLaws.{upto-length}
-use Rattle.memory.specs.Sort.{pick, bucket, sorted}
+use Rattle.arithmetic.proofs.SeqLaws.{upto-length, upto-at}
+use Rattle.memory.specs.Sort.{sorted}
+use Rattle.memory.proofs.sort.SortLaws.{all-sorted}
 use Rattle.edges.specs.Edges.{Shape, left, right, top, bottom, sees, Pair, difference, pairs, used}
 use Rattle.edges.specs.declared.edges.Frame.{Frame}
 use Rattle.edges.specs.Sees.{shape}
@@ -22,7 +23,7 @@ use Rattle.edges.specs.Order.{ordered, runs}
 use Rattle.edges.specs.Sorts.{labelsOf, Sorts, Sorted}
 use Rattle.edges.specs.Gather.{pairAt, later, Ready, tables, Gathers, Gathered}
 use Rattle.edges.specs.Whole.{Asked, Edged}
-use Rattle.arithmetic.proofs.AllLaws.{all-append, all-each}
+use Rattle.arithmetic.proofs.AllLaws.{all-append, all-each, all-index, index-all}
 use Rattle.edges.proofs.edges.Stored.{gates, fars, adds-labels, adds-length, adds-gates, adds-fars}
 use Rattle.edges.proofs.edges.GatePairLaws.{sees-in}
 use Rattle.edges.proofs.edges.PairTurn.{label-at}
@@ -31,34 +32,6 @@ use Rattle.edges.proofs.edges.RunCount.{runs-few}
 use Rattle.edges.proofs.edges.Weights.{weights}
 use Rattle.edges.proofs.edges.GatherLaws.{tables-labels}
 use Rattle.edges.specs.declared.edges.EdgeRecord.{EdgeRecord}
-
--- ---- what holds of each
-
-module _ {A : Type 0} (P : A → Type 0) where
-  all-at : (l : List A) (d : A) → All P l → (i : ℕ) → i < length l → P (getD l i d)
-  all-at [] d s i h = absurd (omega arith)
-  all-at (x ∷ xs) d s zero h = s .0
-  all-at (x ∷ xs) d s (suc i) h = all-at xs d (s .1) i (omega arith)
-
-module _ (P : ℕ → Type 0) where
-  all-bucket : (K : List ℕ) (v : ℕ) (S : List ℕ) → All P S → All P (bucket K v S)
-  unfolding bucket pick
-  all-bucket K v [] s = tt
-  all-bucket K v (x ∷ S) s = go (eqb (getD K x 0) v) (all-bucket K v S (s .1))
-    where
-      go : (b : Bool) → All P (bucket K v S) → All P (pick b x (bucket K v S))
-      go true r = (s .0, r)
-      go false r = r
-
-  all-sorted : (K : List ℕ) (k : ℕ) (S : List ℕ) → All P S → All P (sorted K k S)
-  unfolding sorted
-  all-sorted K zero S s = tt
-  all-sorted K (suc k) S s = all-append P (sorted K k S) (bucket K k S) (all-sorted K k S s) (all-bucket K k S s)
-
-  all-upto : (m k : ℕ) → ((x : ℕ) → k ≤ x → x < k + m → P x) → All P (upto m k)
-  unfolding upto
-  all-upto zero k h = tt
-  all-upto (suc m) k h = (h k (omega arith) (omega arith), all-upto m (suc k) (λ x a b. h x (omega arith) (omega arith)))
 
 -- ---- the gatePairs' gates
 
@@ -144,7 +117,7 @@ module _ (f : Frame) (u : List ℕ) (a vel : List Float) (n k t : ℕ) (q : Aske
     far-at i h = sym (getD-seg w (5 * n) m i 0 h) ∙ ap (λ (l : List ℕ). getD l i 0) fars-w ∙ map-getD (λ (x : GatePair). x .far) (gatePairs (shape f) (seg u 0 n)) i (both 0 0) 0 (omega (arith, ms))
 
     within-at : (i : ℕ) → i < m → Within n (getD (gatePairs (shape f) (seg u 0 n)) i (both 0 0))
-    within-at i h = all-at (Within n) (gatePairs (shape f) (seg u 0 n)) (both 0 0) inside i (omega (arith, ms))
+    within-at i h = all-index (Within n) (gatePairs (shape f) (seg u 0 n)) (both 0 0) inside i (omega (arith, ms))
 
     pub sorts : Sorts w n m (k + 1)
     sorts = record {
@@ -179,8 +152,8 @@ module _ (f : Frame) (u : List ℕ) (a vel : List Float) (n k t : ℕ) (q : Aske
 
       number-lt : (i : ℕ) → i < m → getD (seg v (9 * n) m) i 0 < m
       number-lt i h =
-          let s : All (λ x. x < m) (seg v (9 * n) m) = rw (o .order) (all-sorted (λ x. x < m) (labelsOf w (5 * n) m) (k + 1) (sorted (labelsOf w n m) (k + 1) (upto m 0)) (all-sorted (λ x. x < m) (labelsOf w n m) (k + 1) (upto m 0) (all-upto (λ x. x < m) m 0 (λ x a b. omega arith)))) in
-          all-at (λ x. x < m) (seg v (9 * n) m) 0 s i (omega (arith, numbers))
+          let s : All (λ x. x < m) (seg v (9 * n) m) = rw (o .order) (all-sorted (labelsOf w (5 * n) m) (λ x. x < m) (k + 1) (sorted (labelsOf w n m) (k + 1) (upto m 0)) (all-sorted (labelsOf w n m) (λ x. x < m) (k + 1) (upto m 0) (index-all (λ x. x < m) (upto m 0) 0 (λ i q. omega (arith, upto-length m 0, upto-at m 0 i (omega (arith, upto-length m 0))))))) in
+          all-index (λ x. x < m) (seg v (9 * n) m) 0 s i (omega (arith, numbers))
 
       labels-v : seg v 0 n ≡ seg u 0 n
       labels-v =

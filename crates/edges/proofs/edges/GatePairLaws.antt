@@ -1,35 +1,19 @@
 -- The pairs of gates against the definition's pairs. Assumes nothing.
-use Prim.Native.Nat.{ℕ, zero, suc, _+_, _*_, _≤_, _<_}
+use Prim.Native.Nat.{ℕ, zero, suc, _*_, _≤_, _<_}
 use native.Mathlib.Omega.{arith}
 use mathlib.Core.Path.{_≡_, refl, sym, ap, _∙_}
 use mathlib.Core.Bool.{Bool, true, false, cond}
-use mathlib.Core.List.{List, [], _∷_, _++_, map, append-assoc, append-nil}
+use mathlib.Core.List.{List, [], _∷_, map}
 use mathlib.Core.Option.{Option, none, some, Option·none-ne-some, Option·some-injective}
 use lib.Dec.{ltb, eqb}
 use lib.ListN.{length, getD}
 use lib.Ieee.{Float}
 use borrow.Author.Tests.{le-ltb, eqb-true}
 use Rattle.arithmetic.specs.Seq.{upto, keep, each}
-use Rattle.arithmetic.proofs.SeqLaws.{upto-snoc, keep-each, map-each, each-same}
+use Rattle.arithmetic.proofs.SeqLaws.{keep-each, map-each, each-same}
 use Rattle.edges.specs.Edges.{Shape, Direction, left, right, top, bottom, next, look, sees, skip, pairTo, pairsAt, pairs}
 use Rattle.edges.specs.GatePairs.{both, gatePairTo, gatePairsAt, gatePairs, pairOf, greater}
 use Rattle.edges.proofs.edges.Next.{next-in}
-
--- ---- each, over numbers in order
-
-pub each-append : {A B : Type 0} (f : A → List B) (l m : List A) → each f (l ++ m) ≡ each f l ++ each f m
-unfolding each
-each-append f [] m = refl
-each-append f (x ∷ xs) m = ap (λ (t : List _). f x ++ t) (each-append f xs m) ∙ sym (append-assoc (f x) (each f xs) (each f m))
-
-pub each-one : {A B : Type 0} (f : A → List B) (x : A) → each f (x ∷ []) ≡ f x
-unfolding each
-each-one f x = append-nil (f x)
-
-pub each-snoc : {B : Type 0} (f : ℕ → List B) (k : ℕ) → each f (upto (k + 1) 0) ≡ each f (upto k 0) ++ f k
-each-snoc f k =
-    ap (λ (x : ℕ). each f (upto x 0)) (omega arith) ∙ ap (each f) (upto-snoc k 0) ∙ each-append f (upto k 0) ((k + 0) ∷ [])
-    ∙ ap (λ (l : List _). each f (upto k 0) ++ l) (each-one f (k + 0) ∙ ap f (omega arith))
 
 -- ---- a look's gate
 

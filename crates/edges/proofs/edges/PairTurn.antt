@@ -1,6 +1,7 @@
 -- One look's pair, and the four of a gate, over plain values. Assumes nothing.
-use Prim.Native.Nat.{ℕ, suc, _+_, _-_, _*_, _≤_, _<_}
+use Prim.Native.Nat.{ℕ, suc, _+_, _*_, _≤_, _<_}
 use native.Mathlib.Omega.{arith}
+use native.Mathlib.Numerals.{add-one}
 use mathlib.Core.Path.{_≡_, refl, sym, ap, _∙_}
 use mathlib.Core.Bool.{Bool, true, false, cond}
 use mathlib.Core.List.{List, [], _∷_, _++_}
@@ -16,7 +17,8 @@ use Rattle.edges.specs.declared.edges.Frame.{Frame}
 use Rattle.edges.specs.Sees.{shape}
 use Rattle.edges.specs.GatePairs.{GatePair, gatePairTo, gatePairsAt, gatePairs, Adds, Place, Sheet}
 use Rattle.edges.proofs.edges.Stored.{adds-none, adds-one, adds-then, adds-labels, adds-length}
-use Rattle.edges.proofs.edges.GatePairLaws.{linkTo-most, each-snoc, sees-in}
+use Rattle.arithmetic.proofs.SeqLaws.{each-snoc}
+use Rattle.edges.proofs.edges.GatePairLaws.{linkTo-most, sees-in}
 
 pub label-at : (w : List ℕ) (n j : ℕ) → j < n → getD (seg w 0 n) j 0 ≡ getD w j 0
 label-at w n j h = getD-seg w 0 n j 0 h ∙ ap (λ (x : ℕ). getD w x 0) (omega arith)
@@ -131,7 +133,7 @@ module _ (f : Frame) (n : ℕ) (u : List ℕ) (lay : Sheet f n u) where
   scan-on w v g c e p m h q =
       let l : seg w 0 n ≡ seg u 0 n = adds-labels n u w 0 c (upTo g) p in
       let q′ : Adds n w v c e (gatePairsAt (shape f) (seg u 0 n) g) = rw l at q in
-      rw (each-snoc (gatePairsAt (shape f) (seg u 0 n)) g) (adds-then n u w v 0 c e (upTo g) (gatePairsAt (shape f) (seg u 0 n) g) p q′ (omega (arith, q′ .count, gate-most (shape f) (seg u 0 n) g)))
+      rw (add-one g, each-snoc (gatePairsAt (shape f) (seg u 0 n)) g) (adds-then n u w v 0 c e (upTo g) (gatePairsAt (shape f) (seg u 0 n) g) p q′ (omega (arith, q′ .count, gate-most (shape f) (seg u 0 n) g)))
 
   pub scan-most : (w v : List ℕ) (g c e : ℕ) → c ≤ 4 * g → Adds n w v c e (gatePairsAt (shape f) (seg w 0 n) g) → e ≤ 4 * (g + 1)
   scan-most w v g c e m q = omega (arith, q .count, gate-most (shape f) (seg w 0 n) g)

@@ -1,12 +1,12 @@
 -- Runs of sorted pairs are the definition's records. Assumes nothing.
-use Prim.Native.Nat.{ℕ, zero, suc, _+_, _-_, _≤_, _<_}
+use Prim.Native.Nat.{ℕ, zero, suc, _≤_, _<_}
 use native.Mathlib.Omega.{arith}
 use mathlib.Core.Path.{_≡_, refl, sym, ap, _∙_}
 use mathlib.Core.Bool.{Bool, true, false, cond, _&&_}
 use mathlib.Core.List.{List, [], _∷_, _++_, foldl}
 use lib.Dec.{ltb, eqb}
 use Rattle.arithmetic.specs.Seq.{upto, keep, each, All}
-use Rattle.arithmetic.proofs.AllLaws.{all-append, all-weaker, all-keep}
+use Rattle.arithmetic.proofs.AllLaws.{all-append, all-weaker, all-keep, keep-all}
 use Rattle.arithmetic.proofs.SeqLaws.{keep-each, each-same, keep-swap}
 use Rattle.edges.specs.Edges.{Pair, begun, plus, gathered, firstIs, secondIs, recordsOf, records, greaterFirst, used}
 use Rattle.edges.specs.GatePairs.{greater}
@@ -116,11 +116,6 @@ keep-nothing : {A : Type 0} (t : A → Bool) (l : List A) → All (λ x. t x ≡
 unfolding keep
 keep-nothing t [] h = refl
 keep-nothing t (x ∷ xs) h = rw (h .0) (keep-nothing t xs (h .1))
-
-keep-all : {A : Type 0} (t : A → Bool) (l : List A) → All (λ x. t x ≡ true) l → keep t l ≡ l
-unfolding keep
-keep-all t [] h = refl
-keep-all t (x ∷ xs) h = rw (h .0, keep-all t xs (h .1)) refl
 
 module _ (ps : List Pair) where
   block : ℕ → ℕ → List Pair

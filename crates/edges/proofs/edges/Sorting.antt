@@ -1,5 +1,5 @@
 -- Indices sorted by two passes are the pairs in the definition's order; and what the gatePairs are. Assumes nothing.
-use Prim.Native.Nat.{ℕ, zero, suc, _+_, _-_}
+use Prim.Native.Nat.{ℕ, zero, suc, _+_}
 use native.Mathlib.Omega.{arith}
 use mathlib.Core.Path.{_≡_, refl, sym, ap, _∙_}
 use mathlib.Core.Bool.{Bool, true, false, cond}
@@ -10,12 +10,12 @@ use lib.Ieee.{Float, nan}
 use lib.ListN.{length, getD}
 use borrow.Author.Tests.{ltb-true}
 use Rattle.arithmetic.specs.Seq.{upto, keep, each, All}
-use Rattle.arithmetic.proofs.SeqLaws.{keep-each, each-same, keep-swap, map-append}
-use Rattle.memory.specs.Sort.{pick, bucket, sorted}
+use Rattle.arithmetic.proofs.SeqLaws.{keep-each, keep-of-map, keep-same, map-each, each-same, keep-swap}
+use Rattle.memory.specs.Sort.{keyIs, sorted}
 use Rattle.edges.specs.Edges.{Shape, Direction, left, right, top, bottom, sees, skip, Pair, firstIs, secondIs, pairs, records, used}
 use Rattle.edges.specs.GatePairs.{GatePair, both, gatePairTo, gatePairsAt, gatePairs, pairOf}
 use Rattle.edges.specs.Order.{ordered, runs}
-use Rattle.edges.proofs.edges.GatePairLaws.{each-snoc, look-labelled, links-same}
+use Rattle.edges.proofs.edges.GatePairLaws.{look-labelled, links-same}
 use Rattle.edges.proofs.edges.Runs.{Labelled, runs-records, used-records}
 
 -- no pair
@@ -35,26 +35,13 @@ map-from qs (p ∷ ps) k h = rw (ap (λ (x : ℕ). getD qs x blank) {x = k} {y =
 all-of : (ps : List Pair) → map (λ i. getD ps i blank) (upto (length ps) 0) ≡ ps
 all-of ps = map-from ps ps 0 (λ i. ap (λ (x : ℕ). getD ps x blank) (omega arith))
 
-picked : {A : Type 0} (f : ℕ → A) (b : Bool) (x : ℕ) (l : List ℕ) (m : List A) → map f l ≡ m → map f (pick b x l) ≡ cond b (f x ∷ m) m
-unfolding pick
-picked f true x l m e = rw e refl
-picked f false x l m e = e
-
-module _ (key : Pair → ℕ) (z : key blank ≡ 0) (ps : List Pair) where
-  map-bucket : (v : ℕ) (S : List ℕ) → map (λ i. getD ps i blank) (bucket (map key ps) v S) ≡ keep (λ p. eqb (key p) v) (map (λ i. getD ps i blank) S)
-  unfolding bucket keep
-  map-bucket v [] = refl
-  map-bucket v (x ∷ S) = rw (key-at key z ps x) (picked (λ i. getD ps i blank) (eqb (key (getD ps x blank)) v) x (bucket (map key ps) v S) (keep (λ p. eqb (key p) v) (map (λ i. getD ps i blank) S)) (map-bucket v S))
-
-  map-sorted : (k : ℕ) (S : List ℕ) → map (λ i. getD ps i blank) (sorted (map key ps) k S) ≡ each (λ v. keep (λ p. eqb (key p) v) (map (λ i. getD ps i blank) S)) (upto k 0)
-  unfolding sorted each upto
-  map-sorted zero S = refl
-  map-sorted (suc k) S =
-      map-append (λ i. getD ps i blank) (sorted (map key ps) k S) (bucket (map key ps) k S)
-      ∙ ap (λ (l : List Pair). l ++ map (λ i. getD ps i blank) (bucket (map key ps) k S)) (map-sorted k S)
-      ∙ ap (λ (l : List Pair). each (λ v. keep (λ p. eqb (key p) v) (map (λ i. getD ps i blank) S)) (upto k 0) ++ l) (map-bucket k S)
-      ∙ sym (each-snoc (λ v. keep (λ p. eqb (key p) v) (map (λ i. getD ps i blank) S)) k)
-      ∙ ap (λ (x : ℕ). each (λ v. keep (λ p. eqb (key p) v) (map (λ i. getD ps i blank) S)) (upto x 0)) {x = k + 1} {y = suc k} (omega arith)
+map-sorted : (key : Pair → ℕ) → key blank ≡ 0 → (ps : List Pair) (k : ℕ) (S : List ℕ) → map (λ i. getD ps i blank) (sorted (map key ps) k S) ≡ each (λ v. keep (λ p. eqb (key p) v) (map (λ i. getD ps i blank) S)) (upto k 0)
+unfolding sorted
+map-sorted key z ps k S =
+    map-each (λ i. getD ps i blank) (λ v. keep (keyIs (map key ps) v) S) (upto k 0)
+    ∙ each-same (λ v. map (λ i. getD ps i blank) (keep (keyIs (map key ps) v) S)) (λ v. keep (λ p. eqb (key p) v) (map (λ i. getD ps i blank) S)) (upto k 0) (λ v.
+    ap (map (λ i. getD ps i blank)) (keep-same (keyIs (map key ps) v) (λ i. eqb (key (getD ps i blank)) v) S (λ i. ap (λ (x : ℕ). eqb x v) (key-at key z ps i)))
+    ∙ sym (keep-of-map (λ i. getD ps i blank) (λ p. eqb (key p) v) S))
 
 -- two passes, by first label and then by second
 pub two-passes : (ps : List Pair) (k : ℕ) → map (λ i. getD ps i blank) (sorted (map (λ p. p .two) ps) k (sorted (map (λ p. p .one) ps) k (upto (length ps) 0))) ≡ ordered k ps

@@ -12,8 +12,8 @@ use lib.IntN.{pos}
 use lib.ListN.{length, getD}
 use lib.Ieee.{Float}
 use borrow.Author.Tests.{ne-eqb, eqb-true}
-use Rattle.arithmetic.proofs.AllLaws.{all-upto}
-use Rattle.arithmetic.proofs.SeqLaws.{map-upto-length}
+use Rattle.arithmetic.proofs.AllLaws.{keep-all, all-upto}
+use Rattle.arithmetic.proofs.SeqLaws.{map-upto-length, keep-every}
 use Rattle.arithmetic.specs.Seq.{All, upto, keep, all}
 use Rattle.edges.specs.Edges.{Pair, used}
 use Rattle.network.specs.Network.{Region, State, Event, alone, start, sizeIn, merges, run, trace, replay, inRange, countOf}
@@ -30,18 +30,6 @@ use Rattle.network.proofs.Restrict.{edgeIn, regionIn, restrict, OkE, Ok
 use Rattle.network.proofs.Own.{merges-in, final-in}
 use Rattle.network.proofs.network.Settles.{outcome, settle-run}
 use Rattle.network.proofs.network.Joint.{Filled, good, first-of, second-of, edges-are, region, regions-are}
-
--- ---- what f gives of numbers in order
-
-keep-upto : {A : Type 0} (t : A → Bool) (f : ℕ → A) (k n : ℕ) → ((i : ℕ) → k ≤ i → t (f i) ≡ true) → keep t (map f (upto n k)) ≡ map f (upto n k)
-unfolding upto keep
-keep-upto t f k zero h = refl
-keep-upto t f k (suc n) h = rw (h k (omega arith), keep-upto t f (suc k) n (λ i a. h i (omega arith))) refl
-
-keep-every : {A : Type 0} (t : A → Bool) (l : List A) → ((x : A) → t x ≡ true) → keep t l ≡ l
-unfolding keep
-keep-every t [] h = refl
-keep-every t (x ∷ l) h = rw (h x, keep-every t l h) refl
 
 -- the count of region l
 count-upto : (f : ℕ → Region) (k n l : ℕ) → ((i : ℕ) → f i .label ≡ i) → k ≤ l → l < k + n → countOf (map f (upto n k)) l ≡ f l .count
@@ -106,7 +94,7 @@ module _ (wide : Float) (k m : ℕ) (L : List ℕ) (ps : List Pair) (s : Mem) (F
       rs =
           ap (keep (regionIn some-label any-edge)) (regions-are wide k m L ps s F ∙ ap (λ (x : ℕ). map (region wide k m L ps s F) (upto x 0)) (add-one k))
           ∙ without-0
-          ∙ keep-upto (regionIn some-label any-edge) (region wide k m L ps s F) 1 k named
+          ∙ keep-all (regionIn some-label any-edge) (map (region wide k m L ps s F) (upto k 1)) (all-upto (λ r. regionIn some-label any-edge r ≡ true) (region wide k m L ps s F) 1 k (λ i a b. named i a))
           ∙ regions-from 1 k
 
   -- ---- so the two runs are one
@@ -185,7 +173,7 @@ module _ (wide : Float) (k m : ℕ) (L : List ℕ) (ps : List Pair) (s : Mem) (F
         sym (ap (λ (t : State). t .regions) final-is)
         ∙ side
         ∙ without node
-        ∙ keep-upto (regionIn some-label any-edge) (regionOf (gatesIn s) node (view m (k + 1) w d)) 1 k (named node)
+        ∙ keep-all (regionIn some-label any-edge) (map (regionOf (gatesIn s) node (view m (k + 1) w d)) (upto k 1)) (all-upto (λ r. regionIn some-label any-edge r ≡ true) (regionOf (gatesIn s) node (view m (k + 1) w d)) 1 k (λ i a b. named node i a))
       where
         side : restrict some-label any-edge (replay tables (merges tables)) .regions ≡ keep (regionIn some-label any-edge) (map (regionOf (gatesIn s) node (view m (k + 1) w d)) (upto (suc k) 0))
         side = unfold restrict in ap (keep (regionIn some-label any-edge)) (e ∙ ap (λ (x : ℕ). map (regionOf (gatesIn s) node (view m (k + 1) w d)) (upto x 0)) (add-one k))
