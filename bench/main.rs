@@ -24,7 +24,7 @@ extern "C" {
     ) -> u32;
     fn stage_looks(rays: usize, gates: usize, across: usize, along: usize, wrap: u32, work: *mut u32, work_len: usize, n: usize) -> usize;
     fn stage_sort(work: *mut u32, work_len: usize, n: usize, m: usize, k: usize);
-    fn stage_count(work: *const u32, work_len: usize, velocity: *const f32, velocity_len: usize, n: usize, m: usize) -> usize;
+    fn stage_count(work: *const u32, work_len: usize, n: usize, m: usize) -> usize;
     fn stage_edges(
         work: *mut u32, work_len: usize, floats: *mut f64, floats_len: usize, velocity: *const f32, velocity_len: usize,
         n: usize, m: usize, t: usize, c: usize, wide: f64,
@@ -83,7 +83,7 @@ fn staged(s: &Sweep, limits: &[f64], l: &mut Lent) -> [f64; 7] {
         let (t, nodes) = (13 * n, k + 1);
         stage_sort(w, words, n, m, nodes);
         lap(3);
-        let c = stage_count(w, words, vel, n, n, m);
+        let c = stage_count(w, words, n, m);
         let e = stage_edges(w, words, d, floats, vel, n, n, m, t, c, 2.0 * s.nyquist as f64);
         stage_sizes(w, words, n, n, nodes);
         stage_copy(w, words, n, t + 7 * e + 3 * nodes, nodes);

@@ -3,6 +3,8 @@ ghost use mathlib.Core.Path.{_≡_};
 ghost use mathlib.Core.Bool.{cond, _&&_};
 ghost use Prim.Native.Nat.{_+_, _-_, _*_, _≤_, _<_, _^_};
 ghost use lib.Dec.{eqb};
+ghost use mathlib.Core.List.{List};
+ghost use lib.Ieee.{Float};
 ghost use lib.ListN.{length, set};
 ghost use Rattle.arithmetic.specs.Seg.{seg, put};
 ghost use Rattle.edges.specs.Edges.{next, left, right, top, bottom, look, sees, skip, begun, plus, difference, pairs, used};
@@ -409,9 +411,9 @@ fn next_run(p: Labels, q: Labels, e: usize) -> usize
 }
 
 // How many runs of equal labels the sorted pairs have.
-pub fn count_runs(w: &[u32], vel: &[f32], n: usize, m: usize) -> usize
-    requires { ⌜ Ready (now w) (now vel) n m ⌝ }
-    ensures { λ r. ⌜ r ≡ length (runs (later (now (w .entry)) (now (vel .entry)) n m 0)) ⌝ }
+pub fn count_runs(w: &[u32], n: usize, m: usize) -> usize
+    requires { ⌜ Legible (now w) n m ⌝ }
+    ensures { λ r. ⌜ ((vel : List Float) → r ≡ length (runs (later (now (w .entry)) vel n m 0))) ⌝ }
 {
     if m == 0 {
         return 0;
@@ -444,6 +446,6 @@ pub fn find_edges(
 {
     let m = pair_all(w, n, f);
     sort_pairs(w, n, m, k + 1);
-    let e = count_runs(w, vel, n, m);
+    let e = count_runs(w, n, m);
     gather(w, d, vel, n, m, t, e, wide)
 }

@@ -62,4 +62,6 @@ firstOf m n s = stateOf m n (gatesIn s) (λ r. r) s
 -- the whole run: the number of merges, and the counts in their table; or a refusal
 unfoldable pub RanIs : ℕ → ℕ → (ℕ → ℕ) → Option Done → List ℕ → List Float → Ran → Type 0
 RanIs m n gates none w d r = r ≡ Denied
-RanIs m n gates (some o) w d r = (r ≡ Settled (o .merges)) × (node : ℕ → ℕ) × (o .last .regions ≡ map (regionOf gates node (view m n w d)) (upto n 0)) × ((j : ℕ) → j < n → getD (view m n w d .at count) j 0 ≤ 2000)
+RanIs m n gates (some o) w d r =
+    (r ≡ Settled (o .merges)) × (node : ℕ → ℕ) × (o .last .regions ≡ map (regionOf gates node (view m n w d)) (upto n 0))
+    × ((j : ℕ) → j < n → getD (view m n w d .at count) j 0 ≤ 2000)

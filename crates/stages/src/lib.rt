@@ -7,7 +7,7 @@ ghost use Rattle.arithmetic.specs.Seg.{Apart};
 ghost use Rattle.labels.specs.Sheet.{Sweep};
 ghost use Rattle.edges.specs.GatePairs.{Sheet};
 ghost use Rattle.edges.specs.Sorts.{Sorts};
-ghost use Rattle.edges.specs.Gather.{Ready, Gathers};
+ghost use Rattle.edges.specs.Gather.{Legible, Gathers};
 ghost use Rattle.merge.specs.Mem.{view};
 ghost use Rattle.network.specs.Sizes.{Sizes};
 ghost use Rattle.network.specs.Begin.{Space, Raw};
@@ -107,10 +107,10 @@ pub extern "C" fn stage_sort(work: &mut [u32], n: usize, m: usize, k: usize)
 
 // How many edges the sorted pairs make.
 #[no_mangle]
-pub extern "C" fn stage_count(work: &[u32], velocity: &[f32], n: usize, m: usize) -> usize
-    requires { ⌜ Ready (now work) (now velocity) n m ⌝ }
+pub extern "C" fn stage_count(work: &[u32], n: usize, m: usize) -> usize
+    requires { ⌜ Legible (now work) n m ⌝ }
 {
-    edges::edges::count_runs(work, velocity, n, m)
+    edges::edges::count_runs(work, n, m)
 }
 
 // The edges.

@@ -7,10 +7,12 @@ use mathlib.Core.List.{List, [], _∷_}
 use lib.Dec.{eqb}
 use lib.ListN.{length}
 use lib.Ieee.{Float, nan}
+use Rattle.arithmetic.proofs.AllLaws.{and-left, and-right}
 use Rattle.edges.specs.Edges.{Pair, begun, plus}
 use Rattle.edges.specs.Order.{alike, runsFrom, runs}
 use Rattle.edges.specs.declared.edges.EdgeRecord.{EdgeRecord}
-use Rattle.edges.specs.Gather.{pairAt, later}
+use Rattle.edges.specs.declared.edges.Labels.{Labels}
+use Rattle.edges.specs.Gather.{pairAt, later, LabelsAt}
 use Rattle.edges.proofs.edges.GatherLaws.{later-cons, later-end}
 use borrow.Author.Tests.{eqb-true}
 
@@ -29,18 +31,7 @@ runs-labels r s (p ∷ ps) a b = rw same (go (alike s p) (runs-labels (plus r p)
     go false h = refl
 
 both-eq : (a b c d : ℕ) → (eqb a b && eqb c d) ≡ true → (a ≡ b) × (c ≡ d)
-both-eq a b c d h = go (eqb a b) (eqb c d) refl refl h
-  where
-    go : (x y : Bool) → eqb a b ≡ x → eqb c d ≡ y → (x && y) ≡ true → (a ≡ b) × (c ≡ d)
-    go true true u v h = (eqb-true a b u, eqb-true c d v)
-    go true false u v h = absurd (no h)
-      where
-        no : false ≡ true → ⊥
-        no h = let z : _≡_ {A = ℕ} 0 1 = cc in omega arith
-    go false y u v h = absurd (no h)
-      where
-        no : false ≡ true → ⊥
-        no h = let z : _≡_ {A = ℕ} 0 1 = cc in omega arith
+both-eq a b c d h = (eqb-true a b (and-left (eqb a b) (eqb c d) h), eqb-true c d (and-right (eqb a b) (eqb c d) h))
 
 -- one pair more
 pub run-more : (p q : Pair) (l : List Pair) (e : ℕ) → cond (alike (begun p) q) e (e + 1) + length (runsFrom (begun q) l) ≡ e + length (runsFrom (begun p) (q ∷ l))
@@ -88,17 +79,17 @@ runs-few (p ∷ ps) = from-few (begun p) ps
 abbrev pub labelled : ℕ → ℕ → Pair
 labelled a b = record { one = a; two = b; vel1 = nan; vel2 = nan }
 
-pub record Counting (w : List ℕ) (vel : List Float) (n m a b e i : ℕ) : Type 0 where
-  pub left : e + length (runsFrom (begun (labelled a b)) (later w vel n m i)) ≡ length (runs (later w vel n m 0)) + 1
+pub record Counting (w : List ℕ) (n m a b e i : ℕ) : Type 0 where
+  pub left : (vel : List Float) → e + length (runsFrom (begun (labelled a b)) (later w vel n m i)) ≡ length (runs (later w vel n m 0)) + 1
   pub few : e ≤ i
   pub most : i ≤ m
 
-module _ (w : List ℕ) (vel : List Float) (n m : ℕ) where
-  pub count-begin : (a b : ℕ) → 0 < m → a ≡ pairAt w vel n 0 .one → b ≡ pairAt w vel n 0 .two → Counting w vel n m a b 1 1
+module _ (w : List ℕ) (n m : ℕ) where
+  pub count-begin : (r : Labels) → 0 < m → LabelsAt w n 0 r → Counting w n m (r .one) (r .two) 1 1
   unfolding runs
-  count-begin a b h x y = record {
-    left =
-        ap (λ (x : ℕ). 1 + x) (runs-labels (begun (labelled a b)) (begun (pairAt w vel n 0)) (later w vel n m 1) (unfold begun in x) (unfold begun in y))
+  count-begin r h L = record {
+    left = λ vel.
+        ap (λ (x : ℕ). 1 + x) (runs-labels (begun (labelled (r .one) (r .two))) (begun (pairAt w vel n 0)) (later w vel n m 1) (unfold begun in L vel .0) (unfold begun in L vel .1))
         ∙ (let t : length (runs (later w vel n m 0)) ≡ length (runsFrom (begun (pairAt w vel n 0)) (later w vel n m 1)) = ap (λ (l : List Pair). length (runs l)) (later-cons w vel n m 0 h) in omega (arith, t));
     few = omega arith;
     most = h;
@@ -108,26 +99,27 @@ module _ (w : List ℕ) (vel : List Float) (n m : ℕ) where
   cond-few true e i h = omega arith
   cond-few false e i h = omega arith
 
-  pub count-on : (a b c d e r i : ℕ) → Counting w vel n m a b e i → i < m → c ≡ pairAt w vel n i .one → d ≡ pairAt w vel n i .two → r ≡ cond (eqb a c && eqb b d) e (e + 1) → Counting w vel n m c d r (i + 1)
-  count-on a b c d e r i k h x y z =
-      let z′ : r ≡ cond (alike (begun (labelled a b)) (labelled c d)) e (e + 1) = z ∙ (unfold alike begun in refl) in
+  pub count-on : (a b : ℕ) (s : Labels) (e r i : ℕ) → Counting w n m a b e i → i < m → LabelsAt w n i s → r ≡ cond (eqb a (s .one) && eqb b (s .two)) e (e + 1) → Counting w n m (s .one) (s .two) r (i + 1)
+  count-on a b s e r i k h L z =
+      let q : Pair = labelled (s .one) (s .two) in
+      let z′ : r ≡ cond (alike (begun (labelled a b)) q) e (e + 1) = z ∙ (unfold alike begun in refl) in
       record {
-        left =
-            ap (λ (x : ℕ). x + length (runsFrom (begun (labelled c d)) (later w vel n m (i + 1)))) z′
-            ∙ run-more (labelled a b) (labelled c d) (later w vel n m (i + 1)) e
-            ∙ ap (λ (x : ℕ). e + x) (head-labels (begun (labelled a b)) (labelled c d) (pairAt w vel n i) (later w vel n m (i + 1)) x y)
+        left = λ vel.
+            ap (λ (x : ℕ). x + length (runsFrom (begun q) (later w vel n m (i + 1)))) z′
+            ∙ run-more (labelled a b) q (later w vel n m (i + 1)) e
+            ∙ ap (λ (x : ℕ). e + x) (head-labels (begun (labelled a b)) q (pairAt w vel n i) (later w vel n m (i + 1)) (L vel .0) (L vel .1))
             ∙ ap (λ (l : List Pair). e + length (runsFrom (begun (labelled a b)) l)) (sym (later-cons w vel n m i h))
-            ∙ k .left;
-        few = omega (arith, z, cond-few (eqb a c && eqb b d) e i (k .few));
+            ∙ k .left vel;
+        few = omega (arith, z, cond-few (eqb a (s .one) && eqb b (s .two)) e i (k .few));
         most = omega arith;
       }
 
-  pub count-end : (a b e i : ℕ) → Counting w vel n m a b e i → m ≤ i → e ≡ length (runs (later w vel n m 0))
+  pub count-end : (a b e i : ℕ) → Counting w n m a b e i → m ≤ i → (vel : List Float) → e ≡ length (runs (later w vel n m 0))
   unfolding runsFrom
-  count-end a b e i c h =
+  count-end a b e i c h vel =
       let t : length (runsFrom (begun (labelled a b)) (later w vel n m i)) ≡ 1 = ap (λ (l : List Pair). length (runsFrom (begun (labelled a b)) l)) (later-end w vel n m i h) in
-      omega (arith, t, c .left)
+      omega (arith, t, c .left vel)
 
-  pub count-none : m ≡ 0 → 0 ≡ length (runs (later w vel n m 0))
+  pub count-none : m ≡ 0 → (vel : List Float) → 0 ≡ length (runs (later w vel n m 0))
   unfolding runs
-  count-none e = sym (ap (λ (l : List Pair). length (runs l)) (later-end w vel n m 0 (omega arith)))
+  count-none e vel = sym (ap (λ (l : List Pair). length (runs l)) (later-end w vel n m 0 (omega arith)))

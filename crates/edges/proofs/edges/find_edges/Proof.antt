@@ -1,6 +1,5 @@
 -- `edges::edges::find_edges` meets its contract. Assumes nothing.
 use Rattle.edges.proofs.edges.Assembly.{sorts, ready, gathers, edged}
-use Prim.Native.Nat.{_-_}
 use borrow.Author.Needs.{needs}
 use Rattle.edges.proofs.edges.find_edges.Statement.{statement}
 use Rattle.edges.proofs.edges.find_edges.Tie as tie
@@ -12,13 +11,28 @@ add-sort-pairs : tie.Need-add-sort-pairs
 add-sort-pairs c = search needs
 
 sort-pairs-requires : tie.Need-sort-pairs-requires
-sort-pairs-requires c κs = let a = c .before .before .before .before .before .before .before .before .args in let p = c .before .before .before .pair-all in sorts (a .f) (a .w .now) (a .d .now) (a .vel .now) (a .n) (a .k) (a .t) (c .before .before .before .before .before .before .before .before .pre) (p .last .0) (p .result) (p .ensures .0) (p .ensures .1)
+sort-pairs-requires c κs =
+    let z = c .before .before .before .before .before .before .before .before in
+    let a = z .args in
+    let p = c .before .before .before .pair-all in
+    sorts (a .f) (a .w .now) (a .d .now) (a .vel .now) (a .n) (a .k) (a .t) (z .pre) (p .last .0) (p .result) (p .ensures .0) (p .ensures .1)
 
 count-runs-requires : tie.Need-count-runs-requires
-count-runs-requires c κs = let a = c .before .before .before .before .before .before .before .before .before .before .before .before .args in let p = c .before .before .before .before .before .before .before .pair-all in let s = c .before .before .before .sort-pairs in ready (a .f) (a .w .now) (a .d .now) (a .vel .now) (a .n) (a .k) (a .t) (c .before .before .before .before .before .before .before .before .before .before .before .before .pre) (p .last .0) (p .result) (p .ensures .0) (p .ensures .1) (s .last .0) (s .kept .0) (s .ensures)
+count-runs-requires c κs =
+    let z = c .before .before .before .before .before .before .before .before .before .before .before .before in
+    let a = z .args in
+    let p = c .before .before .before .before .before .before .before .pair-all in
+    let s = c .before .before .before .sort-pairs in
+    (a .vel .now, ready (a .f) (a .w .now) (a .d .now) (a .vel .now) (a .n) (a .k) (a .t) (z .pre) (p .last .0) (p .result) (p .ensures .0) (p .ensures .1) (s .last .0) (s .kept .0) (s .ensures))
 
 gather-requires : tie.Need-gather-requires
-gather-requires c κs = let a = c .before .before .before .before .before .before .before .before .before .before .before .before .before .before .before .args in let p = c .before .before .before .before .before .before .before .before .before .before .pair-all in let s = c .before .before .before .before .before .before .sort-pairs in gathers (a .f) (a .w .now) (a .d .now) (a .vel .now) (a .n) (a .k) (a .t) (c .before .before .before .before .before .before .before .before .before .before .before .before .before .before .before .pre) (p .last .0) (p .result) (p .ensures .0) (p .ensures .1) (s .last .0) (s .kept .0) (s .ensures) (c .before .before .count-runs .result) (c .before .before .count-runs .ensures)
+gather-requires c κs =
+    let z = c .before .before .before .before .before .before .before .before .before .before .before .before .before .before .before in
+    let a = z .args in
+    let p = c .before .before .before .before .before .before .before .before .before .before .pair-all in
+    let s = c .before .before .before .before .before .before .sort-pairs in
+    let e = c .before .before .count-runs in
+    gathers (a .f) (a .w .now) (a .d .now) (a .vel .now) (a .n) (a .k) (a .t) (z .pre) (p .last .0) (p .result) (p .ensures .0) (p .ensures .1) (s .last .0) (s .kept .0) (s .ensures) (e .result) (e .ensures (a .vel .now))
 
 same-length : tie.Need-same-length
 same-length c = search needs
@@ -28,9 +42,13 @@ same-length-2 c = search needs
 
 returns : tie.Need-returns
 returns c =
+    let z = c .before .before .before .before .before .before .before .before .before .before .before .before .before .before .before .before .before .before .before .before in
+    let a = z .args in
+    let p = c .before .before .before .before .before .before .before .before .before .before .before .before .before .before .before .pair-all in
+    let s = c .before .before .before .before .before .before .before .before .before .before .before .sort-pairs in
+    let e = c .before .before .before .before .before .before .before .count-runs in
     let g = c .before .before .before .before .gather in
-    let c′ = c .before .before .before .before .before .before .before .count-runs in
-    let a = c .before .before .before .before .before .before .before .before .before .before .before .before .before .before .before .before .before .before .before .before .args in let p = c .before .before .before .before .before .before .before .before .before .before .before .before .before .before .before .pair-all in let s = c .before .before .before .before .before .before .before .before .before .before .before .sort-pairs in edged (a .f) (a .w .now) (a .d .now) (a .vel .now) (a .n) (a .k) (a .t) (c .before .before .before .before .before .before .before .before .before .before .before .before .before .before .before .before .before .before .before .before .pre) (p .last .0) (p .result) (p .ensures .0) (p .ensures .1) (s .last .0) (s .kept .0) (s .ensures) (c′ .result) (c′ .ensures) (a .wide) (g .last .0) (g .last .1 .0) (g .result) (g .ensures)
+    edged (a .f) (a .w .now) (a .d .now) (a .vel .now) (a .n) (a .k) (a .t) (z .pre) (p .last .0) (p .result) (p .ensures .0) (p .ensures .1) (s .last .0) (s .kept .0) (s .ensures) (e .result) (e .ensures (a .vel .now)) (a .wide) (g .last .0) (g .last .1 .0) (g .result) (g .ensures)
 
 pub find-edges-spec : {M : Type 1} → statement M
 find-edges-spec =

@@ -1,6 +1,5 @@
 -- `memory::tree::best` meets its contract. Assumes nothing.
 use Rattle.memory.proofs.tree.TreeLaws.{best-of}
-use Prim.Native.Nat.{_-_}
 use borrow.Author.Needs.{needs}
 use Rattle.memory.proofs.tree.best.Statement.{statement}
 use Rattle.memory.proofs.tree.best.Tie as tie

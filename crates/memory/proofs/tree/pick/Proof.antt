@@ -2,7 +2,6 @@
 use borrow.Author.Tests.{lt-ltb, le-ltb}
 use Rattle.memory.specs.Tree.{pick}
 use mathlib.Core.Path.{refl}
-use Prim.Native.Nat.{_-_}
 use Rattle.memory.proofs.tree.pick.Statement.{statement}
 use Rattle.memory.proofs.tree.pick.Tie as tie
 

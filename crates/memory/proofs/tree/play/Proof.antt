@@ -2,7 +2,7 @@
 use Rattle.memory.proofs.tree.TreeLaws.{Playing, Game, game-in, play-turn, play-end}
 use native.Mathlib.Omega.{arith}
 use mathlib.Core.Path.{refl}
-use Prim.Native.Nat.{_-_, _<_}
+use Prim.Native.Nat.{_<_}
 use Rattle.memory.proofs.tree.play.Statement.{statement}
 use Rattle.memory.proofs.tree.play.Tie as tie
 

@@ -2,7 +2,6 @@
 use Rattle.memory.proofs.tree.TreeLaws.{weight-set}
 use native.Mathlib.Omega.{arith}
 use mathlib.Core.Path.{_∙_}
-use Prim.Native.Nat.{_-_}
 use lib.ListN.{length-set}
 use borrow.Author.Needs.{needs}
 use Rattle.memory.proofs.tree.weigh.Statement.{statement}

@@ -22,12 +22,19 @@ number-requires c κs = let p = c .before .before .before .before .before .befor
 
 fill-regions-requires : tie.Need-fill-regions-requires
 fill-regions-requires c κs =
-    let s = c .before .before .before .before .before .before .before .before .before .before .before .before in let a = s .args in let k = c .before .before .before .before .before .before .before .before .build in let u = c .before .before .before .before .number in
+    let s = c .before .before .before .before .before .before .before .before .before .before .before .before in
+    let a = s .args in
+    let k = c .before .before .before .before .before .before .before .before .build in
+    let u = c .before .before .before .before .number in
     begin-regions (a .m) (a .n) (a .w .now) (a .d .now) (s .pre .0) (s .pre .1) (k .last .0) (k .ensures) (u .last .0) (u .kept .0) (u .ensures)
 
 link-all-requires : tie.Need-link-all-requires
 link-all-requires c κs =
-    let s = c .before .before .before .before .before .before .before .before .before .before .before .before .before .before .before .before .before .before .before in let a = s .args in let k = c .before .before .before .before .before .before .before .before .before .before .before .before .before .before .before .build in let u = c .before .before .before .before .before .before .before .before .before .before .before .number in let v = c .before .before .before .before .before .before .fill-regions in
+    let s = c .before .before .before .before .before .before .before .before .before .before .before .before .before .before .before .before .before .before .before in
+    let a = s .args in
+    let k = c .before .before .before .before .before .before .before .before .before .before .before .before .before .before .before .build in
+    let u = c .before .before .before .before .before .before .before .before .before .before .before .number in
+    let v = c .before .before .before .before .before .before .fill-regions in
     begin-link (a .m) (a .n) (a .w .now) (a .d .now) (s .pre .0) (s .pre .1) (k .last .0) (k .ensures) (u .last .0) (u .kept .0) (u .ensures) (v .last .0) (v .last .1 .0) (v .kept .0) (v .kept .1 .0) (v .ensures)
 
 same-length : tie.Need-same-length
@@ -38,7 +45,12 @@ same-length-2 c = search needs
 
 returns : tie.Need-returns
 returns c =
-    let s = c .before .before .before .before .before .before .before .before .before .before .before .before .before .before .before .before .before .before .before .before .before .before .before .before in let a = s .args in let k = c .before .before .before .before .before .before .before .before .before .before .before .before .before .before .before .before .before .before .before .before .build in let u = c .before .before .before .before .before .before .before .before .before .before .before .before .before .before .before .before .number in let v = c .before .before .before .before .before .before .before .before .before .before .before .fill-regions in let z = c .before .before .before .before .link-all in
+    let s = c .before .before .before .before .before .before .before .before .before .before .before .before .before .before .before .before .before .before .before .before .before .before .before .before in
+    let a = s .args in
+    let k = c .before .before .before .before .before .before .before .before .before .before .before .before .before .before .before .before .before .before .before .before .build in
+    let u = c .before .before .before .before .before .before .before .before .before .before .before .before .before .before .before .before .number in
+    let v = c .before .before .before .before .before .before .before .before .before .before .before .fill-regions in
+    let z = c .before .before .before .before .link-all in
     begin-done (a .m) (a .n) (a .w .now) (a .d .now) (s .pre .0) (s .pre .1) (k .last .0) (k .ensures) (u .last .0) (u .kept .0) (u .ensures) (v .last .0) (v .last .1 .0) (v .kept .0) (v .kept .1 .0) (v .ensures) (z .last .0) (z .last .1 .0) (z .kept .0) (z .kept .1 .0) (z .ensures)
 
 pub begin-spec : {M : Type 1} → statement M
