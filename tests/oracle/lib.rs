@@ -1,0 +1,236 @@
+//! The radish dealias text, unchanged, behind an answer in the scope document's terms.
+//! `build` copies the module's files in and appends `access.rs` to mod.rs, so that its private parts can be called.
+
+extern crate ndarray;
+
+#[derive(Debug)]
+pub enum RadishError {
+    Dealias(String),
+}
+pub type Result<T> = std::result::Result<T, RadishError>;
+
+#[path = "dealias/mod.rs"]
+pub mod dealias;
+pub mod make;
+
+use dealias::access::{
+    combine_regions, dealias_sweep, edge_sum_and_count, find_regions, find_sweep_interval_splits, EdgeTracker,
+    RegionTracker,
+};
+use dealias::DealiasOptions;
+use ndarray::Array2;
+
+#[derive(Debug, Clone, PartialEq)]
+pub struct Sweep {
+    pub rays: usize,
+    pub gates: usize,
+    pub nyquist: f32,
+    pub splits: u32,
+    pub skip_between_rays: u32,
+    pub skip_along_ray: u32,
+    pub centred: u32,
+    pub wrap: u32,
+    pub velocities: Vec<f32>,
+    pub mask: Vec<u8>,
+}
+
+/// What the scope document asks of a sweep call: the answer number and, where it is 0, counts and the pair.
+#[derive(Debug, Clone, PartialEq)]
+pub struct Answer {
+    pub number: u32,
+    pub counts: Vec<i32>,
+    pub regions: u32,
+    pub merges: u32,
+    pub offset: i32,
+}
+
+/// An edge record: two labels, the number of pairs and two sums.
+pub struct Record(pub i32, pub i32, pub i32, pub f64, pub f64);
+
+/// The inner values, for looking into a difference.
+pub struct Trace {
+    pub limits: Vec<f64>,
+    pub labels: Vec<i32>,
+    pub regions: usize,
+    pub records: Vec<Record>,
+    pub uncentred: Vec<i32>,
+    pub merges: u32,
+    pub within: bool,
+}
+
+impl Sweep {
+    pub fn options(&self) -> DealiasOptions {
+        DealiasOptions {
+            interval_splits: self.splits as usize,
+            skip_between_rays: self.skip_between_rays as i32,
+            skip_along_ray: self.skip_along_ray as i32,
+            centered: self.centred == 1,
+        }
+    }
+    pub fn velocity(&self) -> Array2<f32> {
+        Array2::from_vec(self.rays, self.gates, self.velocities.clone())
+    }
+    pub fn valid(&self) -> Array2<bool> {
+        Array2::from_vec(self.rays, self.gates, self.mask.iter().map(|&m| m == 1).collect())
+    }
+    fn valid_velocities(&self) -> Vec<f32> {
+        self.velocities.iter().zip(&self.mask).filter(|(_, m)| **m == 1).map(|(v, _)| *v).collect()
+    }
+
+    /// Questions 1 to 3 and 5 to 8 (4 is about memory that the Rust does not have); 0 where all get a yes.
+    pub fn refused_before_merging(&self) -> u32 {
+        let n = self.rays * self.gates;
+        if self.rays > 720 || self.gates > 2000 {
+            return 1;
+        }
+        if self.velocities.len() != n || self.mask.len() != n {
+            return 2;
+        }
+        if self.mask.iter().any(|&m| m > 1) {
+            return 3;
+        }
+        if !(self.nyquist >= 0.125 && self.nyquist <= 1024.0) {
+            return 5;
+        }
+        if self.splits < 1
+            || self.splits > 9999
+            || self.skip_between_rays > 1000
+            || self.skip_along_ray > 1000
+            || self.centred > 1
+            || self.wrap > 1
+        {
+            return 6;
+        }
+        if self.valid_velocities().iter().any(|v| !(*v >= -16384.0 && *v <= 16384.0)) {
+            return 7;
+        }
+        if find_sweep_interval_splits(self.nyquist, self.splits as usize, &self.valid_velocities()).is_err() {
+            return 8;
+        }
+        0
+    }
+
+    /// The merges one by one, with question 9 put to each. Stops at the first merge that fails it.
+    pub fn trace(&self) -> Trace {
+        let (velocity, valid) = (self.velocity(), self.valid());
+        let limits = find_sweep_interval_splits(self.nyquist, self.splits as usize, &self.valid_velocities()).unwrap();
+        let (labels, regions) = find_regions(&velocity, &valid, &limits);
+        let mut sizes = vec![0i64; regions + 1];
+        for &l in labels.iter() {
+            if l != 0 {
+                sizes[l as usize] += 1;
+            }
+        }
+        let mut out = Trace {
+            limits,
+            labels: labels.iter().copied().collect(),
+            regions,
+            records: Vec::new(),
+            uncentred: vec![0; labels.iter().len()],
+            merges: 0,
+            within: true,
+        };
+        if regions < 2 {
+            return out;
+        }
+        let o = self.options();
+        let records = edge_sum_and_count(&labels, &velocity, self.wrap == 1, o.skip_between_rays, o.skip_along_ray);
+        out.records = records.iter().map(|e| Record(e.index1, e.index2, e.count, e.vel1, e.vel2)).collect();
+        if records.is_empty() {
+            return out;
+        }
+        let mut rt = RegionTracker::new(&sizes[1..]);
+        let mut et = EdgeTracker::new(&records, self.nyquist as f64 * 2.0, regions + 1);
+        loop {
+            let before = rt.unwrap_number.clone();
+            if combine_regions(&mut rt, &mut et) {
+                break;
+            }
+            out.merges += 1;
+            // A region whose count changed was moved, by the rounded difference or its negation.
+            for (a, b) in before.iter().zip(&rt.unwrap_number) {
+                if a != b && ((*b as i64 - *a as i64).abs() > 1000 || (*b as i64).abs() > 1000) {
+                    out.within = false;
+                    return out;
+                }
+            }
+        }
+        for (u, &l) in out.uncentred.iter_mut().zip(labels.iter()) {
+            *u = if l == 0 { 0 } else { rt.unwrap_number[l as usize] };
+        }
+        out
+    }
+
+    pub fn answer(&self) -> Answer {
+        let none = |number| Answer { number, counts: Vec::new(), regions: 0, merges: 0, offset: 0 };
+        let number = self.refused_before_merging();
+        if number != 0 {
+            return none(number);
+        }
+        let t = self.trace();
+        if !t.within {
+            return none(9);
+        }
+        let counts: Vec<i32> = self.counts();
+        let offset = (0..counts.len()).find(|&i| self.mask[i] == 1).map_or(0, |i| t.uncentred[i] - counts[i]);
+        Answer { number: 0, counts, regions: t.regions as u32, merges: t.merges, offset }
+    }
+
+    /// `dealias_sweep` itself, with no question put first; none where it gives an error (more than 10,000 limits).
+    pub fn counts_or_none(&self) -> Option<Vec<i32>> {
+        let counts = dealias_sweep(&self.velocity(), &self.valid(), self.nyquist, self.wrap == 1, &self.options());
+        counts.ok().map(|c| c.iter().copied().collect())
+    }
+    pub fn counts(&self) -> Vec<i32> {
+        self.counts_or_none().expect("at most 10,000 limits")
+    }
+
+    /// One line: rays gates nyquist-bits splits skip-between-rays skip-along-ray centring wrap, then mask:velocity-bits for each gate.
+    pub fn line(&self) -> String {
+        let mut s = format!(
+            "{} {} {:08x} {} {} {} {} {}",
+            self.rays,
+            self.gates,
+            self.nyquist.to_bits(),
+            self.splits,
+            self.skip_between_rays,
+            self.skip_along_ray,
+            self.centred,
+            self.wrap
+        );
+        for (v, m) in self.velocities.iter().zip(&self.mask) {
+            s.push_str(&format!(" {}:{:08x}", m, v.to_bits()));
+        }
+        s
+    }
+    pub fn parse(line: &str) -> Option<Sweep> {
+        let mut w = line.split_whitespace();
+        let rays = w.next()?.parse().ok()?;
+        let gates = w.next()?.parse().ok()?;
+        let nyquist = f32::from_bits(u32::from_str_radix(w.next()?, 16).ok()?);
+        let mut number = || w.next()?.parse::<u32>().ok();
+        let (splits, skip_between_rays, skip_along_ray, centred, wrap) =
+            (number()?, number()?, number()?, number()?, number()?);
+        let (mut velocities, mut mask) = (Vec::new(), Vec::new());
+        for g in w {
+            let (m, v) = g.split_once(':')?;
+            mask.push(m.parse().ok()?);
+            velocities.push(f32::from_bits(u32::from_str_radix(v, 16).ok()?));
+        }
+        Some(Sweep { rays, gates, nyquist, splits, skip_between_rays, skip_along_ray, centred, wrap, velocities, mask })
+    }
+}
+
+impl Answer {
+    /// One line: the number; where it is 0 also regions, merges, offset and the counts.
+    pub fn line(&self) -> String {
+        let mut s = format!("{}", self.number);
+        if self.number == 0 {
+            s.push_str(&format!(" {} {} {}", self.regions, self.merges, self.offset));
+            for c in &self.counts {
+                s.push_str(&format!(" {c}"));
+            }
+        }
+        s
+    }
+}

@@ -1,0 +1,72 @@
+//! oracle make SEED COUNT MOST   print COUNT small sweeps of at most MOST gates, one a line
+//! oracle answer                 read sweeps, one a line; print the Rust's answer to each, one a line
+//! oracle counts                 the same with no question put: the counts that `dealias_sweep` gives, or `error`
+//! oracle trace                  read one sweep; print limits, labels, records, merges and uncentred counts
+//! oracle time RAYS GATES ROUGHNESS REPS   time `dealias_region_based` on a made weather sweep
+
+use radish_oracle::{make, Sweep};
+use std::io::{BufRead, Write};
+
+fn main() {
+    let args: Vec<String> = std::env::args().skip(1).collect();
+    let number = |i: usize| args.get(i).and_then(|a| a.parse::<u64>().ok()).unwrap_or(0);
+    let out = std::io::stdout();
+    let mut out = std::io::BufWriter::new(out.lock());
+    match args.first().map(|s| s.as_str()) {
+        Some("make") => {
+            for k in 0..number(2) {
+                writeln!(out, "{}", make::small(number(1) * 1_000_003 + k, number(3)).line()).unwrap();
+            }
+        }
+        Some(what @ ("answer" | "counts")) => {
+            for line in std::io::stdin().lock().lines() {
+                let line = line.unwrap();
+                let text = match Sweep::parse(&line) {
+                    Some(s) if what == "answer" => s.answer().line(),
+                    Some(s) => match s.counts_or_none() {
+                        Some(counts) => counts.iter().map(|c| c.to_string()).collect::<Vec<_>>().join(" "),
+                        None => "error".into(),
+                    },
+                    None => "unreadable".into(),
+                };
+                writeln!(out, "{text}").unwrap();
+            }
+        }
+        Some("trace") => {
+            let mut line = String::new();
+            std::io::stdin().lock().read_line(&mut line).unwrap();
+            let s = Sweep::parse(&line).expect("a sweep on one line");
+            let n = s.refused_before_merging();
+            if n != 0 {
+                writeln!(out, "refused {n}").unwrap();
+                return;
+            }
+            let t = s.trace();
+            writeln!(out, "limits {:?}", t.limits).unwrap();
+            writeln!(out, "regions {} labels {:?}", t.regions, t.labels).unwrap();
+            for e in &t.records {
+                writeln!(out, "record {} {} count {} sums {:?} {:?}", e.0, e.1, e.2, e.3, e.4).unwrap();
+            }
+            writeln!(out, "merges {} within {} uncentred {:?}", t.merges, t.within, t.uncentred).unwrap();
+            writeln!(out, "counts {:?}", if t.within { s.counts() } else { Vec::new() }).unwrap();
+        }
+        Some("time") => {
+            let rough = args.get(3).and_then(|a| a.parse::<f64>().ok()).unwrap_or(0.0);
+            let s = make::weather(7, number(1) as usize, number(2) as usize, rough);
+            let t = s.trace();
+            let (v, m, o) = (s.velocity(), s.valid(), s.options());
+            let mut best = f64::MAX;
+            for _ in 0..number(4).max(1) {
+                let from = std::time::Instant::now();
+                let f = radish_oracle::dealias::dealias_region_based(&v, &m, s.nyquist, s.wrap == 1, o).unwrap();
+                best = best.min(from.elapsed().as_secs_f64());
+                assert_eq!(f.dim(), (s.rays, s.gates));
+            }
+            writeln!(out, "rays {} gates {} regions {} merges {} seconds {:.4}", s.rays, s.gates, t.regions, t.merges, best).unwrap();
+        }
+        _ => {
+            eprintln!("usage: oracle make SEED COUNT MOST | answer | counts | trace | time RAYS GATES ROUGHNESS REPS");
+            std::process::exit(2);
+        }
+    }
+}
