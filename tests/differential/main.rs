@@ -1,8 +1,9 @@
-//! Feeds the same made sweeps to the proved entries (libsweep.a) and to the Rust, in one process, and compares every result: answer number,
-//! counts, pair, and every word of lent memory that must or must not change.
+//! Feeds the same made sweeps to the proved entries (the static library) and to the Rust, in one process, and compares every result: answer
+//! number, counts, pair, and every word of lent memory that must or must not change.
 extern crate radish_oracle;
 use radish_oracle::make::{small, weather, Rng};
 use radish_oracle::Sweep;
+use std::collections::BTreeMap;
 
 #[path = "../../include/jivakkol.rs"]
 mod jivakkol;
@@ -117,6 +118,129 @@ fn velocity(r: &mut Rng, s: &Sweep, folds: &[i32]) -> Result<(), String> {
     Ok(())
 }
 
+/// An uncentred sweep with no gap between its gates' looks (skips 0).
+fn close(rays: usize, gates: usize, nyquist: f32, splits: u32, velocities: Vec<f32>) -> Sweep {
+    let mask = vec![1; velocities.len()];
+    Sweep { rays, gates, nyquist, splits, skip_between_rays: 0, skip_along_ray: 0, centred: 0, wrap: 0, velocities, mask }
+}
+
+/// Velocities of either sign from 2^-100 of Nyquist to Nyquist: the f64 sums of an edge with several of them are inexact.
+fn inexact(r: &mut Rng) -> Sweep {
+    let (rays, gates) = (1 + r.below(8) as usize, 4 + r.below(12) as usize);
+    let nyquist = r.one_of(&[1.0, 10.0, 0.125, 1024.0]);
+    // Rays take turns in sign, but for some gates, so that edges have many pairs.
+    let velocities = (0..rays * gates)
+        .map(|g| {
+            let sign = if (g / gates % 2 == 1) == (r.below(12) > 0) { -1.0 } else { 1.0 };
+            let power = r.one_of(&[0, 0, 0, 30, 33, 36, 39, 42, 45, 100]);
+            (sign * nyquist as f64 * (0.5 + r.unit() / 2.0) * 0.5f64.powi(power)) as f32
+        })
+        .collect();
+    let mut s = close(rays, gates, nyquist, r.one_of(&[2, 2, 2, 2, 3]), velocities);
+    s.mask.iter_mut().for_each(|m| *m = (r.below(16) > 0) as u8);
+    (s.centred, s.wrap) = (r.below(2) as u32, r.below(2) as u32);
+    s
+}
+
+/// Two regions side by side whose difference over their weight is a half but for a last bit. Half of the upper region's velocities are so
+/// small that an f64 sum loses them or keeps them by the order of its terms; that decides how the difference is narrowed to f32, and the count.
+fn tipping(r: &mut Rng) -> Sweep {
+    let length = 4 + r.below(60) as usize;
+    let last = 2f32.powi(length.ilog2() as i32 - 24);
+    let mut upper: Vec<f32> = Vec::new();
+    for g in 0..length {
+        let small = last * 0.5f32.powi(31 + r.below(2) as i32);
+        let large = r.one_of(&[4.0, 5.0, 6.0, 7.0]) / 8.0;
+        upper.insert(r.below(g as u64 + 1) as usize, if g < length / 2 { small } else { large });
+    }
+    // The large velocities of both add up to the length, and half a last bit of the f32 difference is added.
+    let eighths = 8 * length - upper.iter().map(|v| (8.0 * v) as usize).sum::<usize>();
+    let mut lower: Vec<f32> = (0..length).map(|g| -((eighths / length + (g < eighths % length) as usize) as f32) / 8.0).collect();
+    lower[r.below(length as u64) as usize] -= last;
+    if r.below(2) == 0 {
+        upper.extend(&lower);
+        return close(2, length, 1.0, 2, upper);
+    }
+    close(length, 2, 1.0, 2, upper.iter().zip(&lower).flat_map(|(u, l)| [*u, *l]).collect())
+}
+
+/// Which of a sweep's edges have other f64 sums, another f32 difference and another rounded difference if their pairs are summed in
+/// reverse order: whether any has. The sweep's skips are 0. In scan order the sums must be those of the Rust's records.
+fn reversed(s: &Sweep) -> [bool; 3] {
+    let t = s.trace();
+    let (rays, gates) = (s.rays, s.gates);
+    // By second label, then first: the order of the records.
+    let mut pairs: BTreeMap<(i32, i32), Vec<(f64, f64)>> = BTreeMap::new();
+    for g in (0..rays * gates).filter(|&g| t.labels[g] != 0) {
+        let (x, y) = (g / gates, g % gates);
+        let left = if x > 0 { Some(g - gates) } else if s.wrap == 1 { Some(g + (rays - 1) * gates) } else { None };
+        let right = if x + 1 < rays { Some(g + gates) } else if s.wrap == 1 { Some(y) } else { None };
+        let (top, bottom) = (if y > 0 { Some(g - 1) } else { None }, if y + 1 < gates { Some(g + 1) } else { None });
+        for o in [left, right, top, bottom].into_iter().flatten() {
+            if t.labels[o] != 0 && t.labels[o] != t.labels[g] {
+                pairs.entry((t.labels[o], t.labels[g])).or_default().push((s.velocities[g] as f64, s.velocities[o] as f64));
+            }
+        }
+    }
+    let add = |a: (f64, f64), b: &(f64, f64)| (a.0 + b.0, a.1 + b.1);
+    let mut other = [false; 3];
+    // Below two regions the Rust looks for no records, and here there are no pairs.
+    assert_eq!(pairs.len(), t.records.len());
+    for (((second, first), list), record) in pairs.iter().zip(&t.records) {
+        let forth = list[1..].iter().fold(list[0], add);
+        let back = list[..list.len() - 1].iter().rev().fold(list[list.len() - 1], add);
+        assert_eq!((record.0, record.1, record.2), (*first, *second, list.len() as i32));
+        assert_eq!((record.3, record.4), forth);
+        if first > second {
+            let difference = |x: (f64, f64)| ((x.0 - x.1) / (2.0 * s.nyquist as f64)) as f32;
+            let rounded = |x| (difference(x) as f64 / list.len() as f64).round_ties_even();
+            other[0] |= forth != back;
+            other[1] |= difference(forth) != difference(back);
+            other[2] |= rounded(forth) != rounded(back);
+        }
+    }
+    other
+}
+
+/// Three regions, Nyquist 0.125: a base, solid and then in interlocking combs with the moved region, and a third in combs with the moved one.
+/// The base lies `folds` folds above the moved region, and the third half a fold above the base. The third sees the moved region alone, by
+/// teeth x (gates - 1) + 1 pairs; the base sees it by more, and is larger. So the moved region is moved by `folds` first, and the third's
+/// count then hangs on the last bit of weight x folds in its difference.
+fn layers(solid: usize, teeth: usize, gates: usize, folds: usize) -> Sweep {
+    let at = |halves: i64| (halves as f32) / 16.0; // half a Nyquist velocity is 1/16
+    let f = folds as i64;
+    let (base, moved, third) = (at(2 * f - 1), at(-2 * f - 1), at(2 * f + 1));
+    let rays = solid + teeth + 1 + teeth;
+    let mut velocities = Vec::with_capacity(rays * gates);
+    for x in 0..rays {
+        for y in 0..gates {
+            let comb = |own: f32, turn: bool| if y == 0 || (y < gates - 1 && turn) { own } else { moved };
+            velocities.push(if x < solid {
+                base
+            } else if x < solid + teeth {
+                comb(base, (x - solid) % 2 == 1)
+            } else if x == solid + teeth {
+                moved
+            } else {
+                comb(third, (x - solid - teeth - 1) % 2 == 0)
+            });
+        }
+    }
+    close(rays, gates, 0.125, 1, velocities)
+}
+
+/// The third region's count in `layers`: with weight x folds rounded to f32 and then added, and with both added in f64 and rounded once.
+fn third_count(teeth: usize, gates: usize, folds: usize) -> (i32, i32) {
+    let (weight, product) = (teeth * (gates - 1) + 1, (teeth * (gates - 1) + 1) * folds);
+    let difference = (weight as f64 * (folds as f64 + 0.5)) as f32;
+    let (first, once) = (difference - product as f32, (difference as f64 - product as f64) as f32);
+    let count = |d: f32| -(d as f64 / weight as f64).round_ties_even() as i32;
+    (count(first), count(once))
+}
+
+/// Rays of the base alone, teeth, gates and folds of the layered sweeps: 138 x 312 and 720 x 2,000 gates.
+const LAYERS: [(usize, usize, usize, usize); 2] = [(29, 54, 312, 999), (159, 280, 2000, 31)];
+
 /// Rays, gates and roughness of the weather sweeps.
 const WEATHER: [(usize, usize, f64); 9] = [
     (90, 250, 0.0), (90, 250, 2.0), (360, 500, 0.0), (360, 500, 2.0), (180, 500, 8.0), (360, 1000, 0.0), (360, 1000, 2.0),
@@ -156,6 +280,36 @@ fn main() {
         }
     }
     println!("sizes or lengths off: {}, by answer {offs:?}", count / 10);
+    for (name, make) in [("velocities of many exponents", inexact as fn(&mut Rng) -> Sweep), ("tipping sums", tipping)] {
+        let mut other = [0u64; 3];
+        for _ in 0..count / 10 {
+            let s = make(&mut r);
+            let mut l = lent(&mut r, s.rays * s.gates);
+            if let Err(e) = compare(&s, &mut l, 0) {
+                fail(name, s.line(), e);
+            }
+            other.iter_mut().zip(reversed(&s)).for_each(|(k, o)| *k += o as u64);
+        }
+        println!(
+            "{name}: {}, equal; summed in reverse, other f64 sums in {}, another f32 difference in {}, another rounded difference in {}",
+            count / 10, other[0], other[1], other[2]
+        );
+    }
+    for (solid, teeth, gates, folds) in LAYERS {
+        let s = layers(solid, teeth, gates, folds);
+        let mut l = lent(&mut r, s.rays * s.gates);
+        if let Err(e) = compare(&s, &mut l, 0) {
+            fail("layers", format!("{} x {gates}, {folds} folds", s.rays), e);
+        }
+        let (first, once) = third_count(teeth, gates, folds);
+        let third = l.folds[(solid + teeth + 1) * gates];
+        let moved = l.folds[(solid + teeth) * gates];
+        assert_eq!((l.folds[0], moved, third), (0, folds as i32, first));
+        println!(
+            "layers {} x {gates}: weight x folds {} x {folds}, {} regions, {} merges, equal; the third region's count is {third}, and {once} if added in f64",
+            s.rays, teeth * (gates - 1) + 1, l.pair[0], l.pair[1]
+        );
+    }
     for (rays, gates, rough) in WEATHER {
         let s = weather(7, rays, gates, rough);
         let mut l = lent(&mut r, rays * gates);
