@@ -12,10 +12,10 @@ use lib.Seq.{take-suc, drop-cons, set-at, length-take-le, take-length}
 use lib.Ieee.{Float, nan, lt}
 use Rattle.arithmetic.specs.declared.intervals.Extremes.{Extremes}
 use Rattle.arithmetic.specs.declared.intervals.Extremes.the-variants.{Both, NoneValid}
-use Rattle.arithmetic.specs.Seq.{upto, tabulate}
+use Rattle.lists.specs.Seq.{upto, tabulate}
 use Rattle.arithmetic.specs.Intervals.{valid, least, greatest, range, include, spaced, limitAt, stepOf}
-use Rattle.arithmetic.specs.Asked.{front}
-use Rattle.arithmetic.proofs.SeqLaws.{tab-length, tab-snoc}
+use Rattle.arithmetic.specs.Inside.Asked.{front}
+use Rattle.lists.proofs.SeqLaws.{tab-length, tab-snoc}
 
 -- ---- the extremes
 valid-snoc : (vs : List Float) (ms : List ℕ) (v : Float) (m : ℕ) → length ms ≡ length vs → valid (vs ++ (v ∷ [])) (ms ++ (m ∷ [])) ≡ cond (eqb m 1) (valid vs ms ++ (v ∷ [])) (valid vs ms)

@@ -1,6 +1,3 @@
-pub mod SeqLaws
-pub mod AllLaws
-pub mod SegLaws
 pub mod RoundLaws
 pub mod RangeLaws
 pub mod PatternLaws

@@ -20,8 +20,8 @@ use Rattle.arithmetic.specs.declared.intervals.Plan.{Plan}
 use Rattle.arithmetic.specs.Rounding.{within, ceilingWhole, real}
 use Rattle.arithmetic.specs.Intervals.{fair, width, overStart, overEnd, atLeast0, beyond, widened, noAdds, adds, planOf, number, spaced, limitsOf, startOf, endOf, least, greatest, range, numberFor, limitsFor}
 use Rattle.arithmetic.proofs.Quotient.{nyquist, wide, speed, over-start, over-end, quotient, is-within}
-use Rattle.arithmetic.specs.Asked.{Asked, Fair, front}
-use Rattle.arithmetic.specs.Seq.{all}
+use Rattle.arithmetic.specs.Inside.Asked.{Asked, Fair, front}
+use Rattle.lists.specs.Seq.{all}
 
 -- ---- signed sums
 pub mag-add : (x y : ℤ) (m n : ℕ) → mag x ≤ m → mag y ≤ n → mag (x +ℤ y) ≤ suc (m + n)

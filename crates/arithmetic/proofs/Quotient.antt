@@ -15,7 +15,7 @@ use Rattle.arithmetic.specs.Rounding.{within, ceiling, ceilingWhole, rea
 use Rattle.arithmetic.specs.Intervals.{fair, folded, width, overStart, overEnd}
 use Rattle.arithmetic.proofs.Signed.{plus, minus, Is, values-le, add-rounds, sub-rounds, neg-has, mul-values, div-values}
 use Rattle.arithmetic.proofs.Units.{unit, tiny, unit-is, tiny-large, unit-pos, rounded, near64, has64, thrice, one-over, one-under, one-has, Approx, approx, on-grid, between-finite, whole-has}
-use Rattle.arithmetic.specs.Asked.{Asked}
+use Rattle.arithmetic.specs.Inside.Asked.{Asked}
 
 -- ---- Nyquist
 pub record Nyquist (nyq : Float) : Type 0 where

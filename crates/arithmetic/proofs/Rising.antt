@@ -23,9 +23,9 @@ use Rattle.arithmetic.proofs.Quotient.{Nyquist, nyquist, Wide, wide, sp
 use Rattle.arithmetic.proofs.Itself.{float-le-trans, lt-not-le}
 use Rattle.arithmetic.proofs.Steps.{rise, last, limit-finite}
 use Rattle.arithmetic.proofs.Ends.{start-end, end-end, gap, start-most}
-use Rattle.arithmetic.specs.Asked.{Asked, Fair, Held, Rising}
-use Rattle.arithmetic.specs.Seq.{tabulate, all}
-use Rattle.arithmetic.proofs.SeqLaws.{tab-length, tab-at}
+use Rattle.arithmetic.specs.Inside.Asked.{Asked, Fair, Held, Rising}
+use Rattle.lists.specs.Seq.{tabulate, all}
+use Rattle.lists.proofs.SeqLaws.{tab-length, tab-at}
 
 -- a list that grows to its k-th, and one more that is no less
 grows : (f : ℕ → Float) (e : Float) (k : ℕ) → ((i : ℕ) → suc i ≤ k → T (le (f i) (f (suc i)))) → T (le (f k) e) → Rising (tabulate (suc k) f ++ (e ∷ []))

@@ -1,5 +1,5 @@
 -- A mark that opens the definitions of this crate and the float operations: `unfolding evaluating` under a signature lets antt compute them.
-use Rattle.arithmetic.specs.Seq
+use Rattle.lists.specs.Seq
 use Rattle.arithmetic.specs.Rounding
 use Rattle.arithmetic.specs.Intervals
 use lib.Ieee

@@ -7,7 +7,7 @@ use lib.Dec.{eqb}
 use lib.IntN.{ℤ, pos, negsuc, _+ℤ_}
 use lib.Ieee.{Float, fin, binary64, add, sub, mul, div, neg, lt, le}
 use mathlib.Core.Bool.{true, false}
-use Rattle.arithmetic.specs.Seq.{tabulate}
+use Rattle.lists.specs.Seq.{tabulate}
 use Rattle.arithmetic.specs.Rounding.{ceilingWhole, real}
 use Rattle.arithmetic.specs.declared.intervals.Extremes.{Extremes}
 use Rattle.arithmetic.specs.declared.intervals.Extremes.the-variants.{Both, NoneValid}

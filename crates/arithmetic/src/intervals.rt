@@ -9,7 +9,7 @@ ghost use lib.Ieee as Ieee;
 ghost use lib.Ieee.{binary64, div, isNan};
 ghost use Rattle.arithmetic.specs.Rounding.{within, ceilingWhole};
 ghost use Rattle.arithmetic.specs.Intervals as I;
-ghost use Rattle.arithmetic.specs.Asked.{Asked, Fair, front};
+ghost use Rattle.arithmetic.specs.Inside.Asked.{Asked, Fair, front};
 
 // The least and the greatest valid velocity, or that there is none.
 pub enum Extremes {

@@ -7,7 +7,7 @@ use mathlib.Core.Option.{Option, none, some}
 use lib.Dec.{leb, ltb, eqb}
 use lib.ListN.{length, getD}
 use lib.Ieee.{Float, nan, binary64, add, sub, div}
-use Rattle.arithmetic.specs.Seq.{upto, keep, each}
+use Rattle.lists.specs.Seq.{upto, keep, each}
 use Rattle.arithmetic.specs.Rounding.{narrowed}
 use Rattle.edges.specs.declared.edges.EdgeRecord.{EdgeRecord}
 

@@ -6,14 +6,14 @@ ghost use lib.Dec.{eqb};
 ghost use mathlib.Core.List.{List};
 ghost use lib.Ieee.{Float};
 ghost use lib.ListN.{length, set};
-ghost use Rattle.arithmetic.specs.Seg.{seg, put};
+ghost use Rattle.lists.specs.Inside.Seg.{seg, put};
 ghost use Rattle.edges.specs.Edges.{next, left, right, top, bottom, look, sees, skip, begun, plus, difference, pairs, used};
-ghost use Rattle.edges.specs.Whole.{Asked, Edged};
-ghost use Rattle.edges.specs.Gather.{pairIs, pairAt, later, Ready, Legible, LabelsAt, written, Slot, Turned, Gathers, Gathered};
-ghost use Rattle.edges.specs.Order.{alike, runs};
-ghost use Rattle.edges.specs.Sorts.{labelsOf, Reads, Sorts, Sorted};
-ghost use Rattle.edges.specs.GatePairs.{gatePairTo, gatePairsAt, gatePairs, Adds, Sheet, Place};
-ghost use Rattle.edges.specs.Sees.{answer, way, shape, Inside, Looks};
+ghost use Rattle.edges.specs.Inside.Whole.{Asked, Edged};
+ghost use Rattle.edges.specs.Inside.Gather.{pairIs, pairAt, later, Ready, Legible, LabelsAt, written, Slot, Turned, Gathers, Gathered};
+ghost use Rattle.edges.specs.Inside.Order.{alike, runs};
+ghost use Rattle.edges.specs.Inside.Sorts.{labelsOf, Reads, Sorts, Sorted};
+ghost use Rattle.edges.specs.Inside.GatePairs.{gatePairTo, gatePairsAt, gatePairs, Adds, Sheet, Place};
+ghost use Rattle.edges.specs.Inside.Sees.{answer, way, shape, Inside, Looks};
 
 // Two labels, the number of their pairs, and the sums of the velocities at either end.
 pub struct EdgeRecord {

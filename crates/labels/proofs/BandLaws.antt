@@ -10,12 +10,12 @@ use lib.Ieee.{Float, nan, lt, le}
 use lib.ListN.{length, getD, length-map, List·getD-map}
 use borrow.Author.Tests.{eq-eqb, ne-eqb}
 use Rattle.labels.specs.Regions.{within}
-use Rattle.arithmetic.proofs.SegLaws.{eq-or-ne, lt-or-le}
+use Rattle.lists.proofs.SegLaws.{eq-or-ne, lt-or-le}
 use Rattle.labels.proofs.ForestLaws.{not-both}
 use Rattle.labels.proofs.OwnLaws.{within-not, within-low, within-high}
 use Rattle.labels.proofs.FloatOrder.{lt-le, lt-not-le, of-T}
-use Rattle.arithmetic.specs.Asked.{Rising}
-use Rattle.labels.specs.Bands.{window, Band, marks}
+use Rattle.arithmetic.specs.Inside.Asked.{Rising}
+use Rattle.labels.specs.Inside.Bands.{window, Band, marks}
 
 -- below one limit, below every later one
 climb : (l : List Float) → Rising l → (v : Float) (a d : ℕ) → a + d < length l → lt v (getD l a nan) ≡ true → lt v (getD l (a + d) nan) ≡ true

@@ -8,8 +8,8 @@ use mathlib.Core.List.{List, [], _∷_, _++_, foldl, foldl-append}
 use lib.Ieee.{Float, nan}
 use lib.ListN.{length, getD, take, drop, length-take, length-drop, length-replicate, getD-replicate}
 use lib.Seq.{ext-getD, getD-take, getD-drop}
-use Rattle.arithmetic.specs.Asked.{Rising}
-use Rattle.arithmetic.proofs.SegLaws.{lt-or-le}
+use Rattle.arithmetic.specs.Inside.Asked.{Rising}
+use Rattle.lists.proofs.SegLaws.{lt-or-le}
 use Rattle.labels.specs.Label.{Found, areas}
 use Rattle.labels.specs.Regions.{Interval, windows, windowsFrom, inside, over, added, grow, nothing, regions}
 use Rattle.labels.proofs.OverLaws.{over-old, over-new, added-at, added-long}

@@ -10,14 +10,14 @@ use lib.Dec.{eqb}
 use lib.Ieee.{Float}
 use lib.ListN.{length, getD}
 use borrow.Author.Tests.{eq-eqb, ne-eqb}
-use Rattle.arithmetic.specs.Seq.{upto, tabulate}
+use Rattle.lists.specs.Seq.{upto, tabulate}
 use Rattle.labels.specs.Label.{own, firsts, rank}
 use Rattle.labels.specs.Regions.{regions}
-use Rattle.arithmetic.proofs.SeqLaws.{tab-at}
+use Rattle.lists.proofs.SeqLaws.{tab-at}
 use Rattle.labels.proofs.RankLaws.{rank-le}
 use Rattle.labels.proofs.Connected.{In, Joined, joined-one-root, joined-trans, joined-sym, Rooted, rooted-all, rooted-own, rank-strict, keep-in, upto-in, in-length}
-use Rattle.labels.specs.Bands.{Bands, marks, part, joint, laterIn}
-use Rattle.labels.specs.Numbering.{final, sizes}
+use Rattle.labels.specs.Inside.Bands.{Bands, marks, part, joint, laterIn}
+use Rattle.labels.specs.Inside.Numbering.{final, sizes}
 use Rattle.labels.proofs.JointLaws.{joint-own, joint-some, part-in}
 use Rattle.labels.proofs.FoldLaws.{labels-are, sizes-below}
 use Rattle.labels.proofs.ForestLaws.{some-pred}

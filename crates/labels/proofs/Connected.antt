@@ -11,7 +11,7 @@ use Rattle.labels.proofs.ForestLaws.{join-at, join-keeps, some-pred}
 use Rattle.labels.proofs.OwnLaws.{own-in, own-out}
 use Rattle.labels.proofs.RankLaws.{bit, rank-cons, test-mono, rank-mono}
 use Rattle.labels.specs.Label.{Link, swap, join, own, rank}
-use Rattle.arithmetic.specs.Seq.{upto, keep}
+use Rattle.lists.specs.Seq.{upto, keep}
 
 -- ---- one join
 

@@ -10,12 +10,12 @@ use lib.Dec.{eqb}
 use lib.ListN.{length, getD, set, replicate, length-set, getD-replicate}
 use borrow.Author.Tests.{eq-eqb, ne-eqb}
 use Rattle.labels.specs.Label.{firsts, rank}
-use Rattle.labels.specs.Forest.{Forest}
-use Rattle.arithmetic.proofs.SegLaws.{eq-or-ne}
+use Rattle.labels.specs.Inside.Forest.{Forest}
+use Rattle.lists.proofs.SegLaws.{eq-or-ne}
 use Rattle.labels.proofs.ForestLaws.{not-both, read-set, gate-in, gate-out}
 use Rattle.labels.proofs.RankLaws.{rank-zero, rank-hit, rank-miss, rank-le}
-use Rattle.labels.specs.Bands.{marks, part}
-use Rattle.labels.specs.Numbering.{final, Counted, Numbering, Ahead}
+use Rattle.labels.specs.Inside.Bands.{marks, part}
+use Rattle.labels.specs.Inside.Numbering.{final, Counted, Numbering, Ahead}
 use Rattle.labels.proofs.BandLaws.{marks-in, marks-out, length-marks}
 use Rattle.labels.proofs.JointLaws.{part-in, part-out, length-part}
 

@@ -10,9 +10,9 @@ use lib.Dec.{eqb}
 use lib.ListN.{length, getD, set, length-set, length-map, List·getD-map}
 use lib.Seq.{getD-set-same, getD-set-other}
 use borrow.Author.Tests.{eqb-true, eqb-false}
-use Rattle.arithmetic.proofs.SegLaws.{eq-or-ne}
+use Rattle.lists.proofs.SegLaws.{eq-or-ne}
 use Rattle.labels.specs.Label.{Link, swap, join}
-use Rattle.labels.specs.Forest.{Parent, Forest, Some, Root}
+use Rattle.labels.specs.Inside.Forest.{Parent, Forest, Some, Root}
 use native.Mathlib.Nat.{not-suc-le-zero}
 
 pub in-length : (l : List Bool) (i : ℕ) → getD l i false ≡ true → i < length l

@@ -4,11 +4,11 @@ use native.Mathlib.Omega.{arith}
 use mathlib.Core.Path.{_≡_, refl, sym, ap, _∙_, subst}
 use mathlib.Core.List.{List}
 use lib.ListN.{length, getD, set, drop, length-set}
-use Rattle.arithmetic.specs.Seg.{seg}
-use Rattle.labels.specs.Forest.{Forest}
-use Rattle.labels.specs.Bands.{marks, Treed}
-use Rattle.labels.specs.Numbering.{Counted, Numbering, Ahead, Ready}
-use Rattle.labels.specs.Sheet.{Counts}
+use Rattle.lists.specs.Inside.Seg.{seg}
+use Rattle.labels.specs.Inside.Forest.{Forest}
+use Rattle.labels.specs.Inside.Bands.{marks, Treed}
+use Rattle.labels.specs.Inside.Numbering.{Counted, Numbering, Ahead, Ready}
+use Rattle.labels.specs.Inside.Sheet.{Counts}
 use Rattle.labels.proofs.CountLaws.{band-of, outside-not-first, under-not-first, first-root, count-skip, count-first, number-out, number-first, number-under, ahead-band, ahead-some, ahead-fits, ahead-less, number-fits, count-bound}
 use Rattle.labels.proofs.SheetLaws.{words-long, counts-long, band-at, word-at, count-at, store-band, store-count}
 

@@ -7,19 +7,19 @@ use mathlib.Core.Path.{_≡_, refl, sym, ap, _∙_, subst}
 use mathlib.Core.Logic.{_⊎_, inl, inr, ⊎-elim}
 use mathlib.Core.Bool.{Bool, true, false, cond, not, _&&_}
 use mathlib.Core.List.{List, [], _∷_, _++_, map, foldl, foldl-append}
-use Rattle.arithmetic.specs.Seq.{each, upto}
+use Rattle.lists.specs.Seq.{each, upto}
 use lib.Dec.{eqb, leb}
 use lib.ListN.{length, getD, length-map, List·getD-map, List·getD-eq-default}
 use lib.Seq.{ext-getD}
 use borrow.Author.Tests.{lt-leb, le-leb, leb-true, leb-false, eq-eqb, ne-eqb, eqb-true}
 use Rattle.labels.specs.Label.{Link, own, join, swap, above, before, linksAt, links, roots}
-use Rattle.labels.specs.Forest.{Forest}
-use Rattle.arithmetic.proofs.SeqLaws.{tab-at, tab-length}
-use Rattle.arithmetic.proofs.SegLaws.{eq-or-ne, lt-or-le}
+use Rattle.labels.specs.Inside.Forest.{Forest}
+use Rattle.lists.proofs.SeqLaws.{tab-at, tab-length}
+use Rattle.lists.proofs.SegLaws.{eq-or-ne, lt-or-le}
 use Rattle.labels.proofs.ForestLaws.{join-at, swap-zero, some-pred}
 use Rattle.labels.proofs.OwnLaws.{own-in, own-out}
 use Rattle.labels.proofs.RegionFacts.{roots-long}
-use Rattle.labels.specs.Bands.{marks, aboveIn, beforeIn, linksIn, laterIn, joint, part}
+use Rattle.labels.specs.Inside.Bands.{marks, aboveIn, beforeIn, linksIn, laterIn, joint, part}
 use Rattle.labels.proofs.BandLaws.{marks-in}
 
 -- a gate that does not start a ray is not the first

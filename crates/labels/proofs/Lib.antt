@@ -1,7 +1,3 @@
-pub mod Spot
-pub mod RootsEcho
-pub mod LabelEcho
-pub mod RegionsEcho
 pub mod FloatOrder
 pub mod ForestLaws
 pub mod OwnLaws

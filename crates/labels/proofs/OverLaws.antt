@@ -6,7 +6,7 @@ use mathlib.Core.List.{List}
 use lib.ListN.{length, getD, set, length-set}
 use mathlib.Core.Logic.{_⊎_, ⊎-elim}
 use Rattle.labels.proofs.ForestLaws.{read-set}
-use Rattle.arithmetic.proofs.SeqLaws.{tab-at, tab-length}
+use Rattle.lists.proofs.SeqLaws.{tab-at, tab-length}
 use Rattle.labels.specs.Label.{Found}
 use Rattle.labels.specs.Regions.{over, added}
 

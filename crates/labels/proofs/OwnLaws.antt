@@ -9,11 +9,11 @@ use lib.Dec.{eqb}
 use lib.Ieee.{Float, le, lt}
 use lib.ListN.{length, getD, List·getD-eq-default}
 use borrow.Author.Tests.{eqb-true, ne-eqb, eq-eqb}
-use Rattle.arithmetic.proofs.SeqLaws.{tab-at, tab-length}
-use Rattle.arithmetic.proofs.SegLaws.{lt-or-le}
+use Rattle.lists.proofs.SeqLaws.{tab-at, tab-length}
+use Rattle.lists.proofs.SegLaws.{lt-or-le}
 use Rattle.labels.specs.Label.{own}
 use Rattle.labels.specs.Regions.{within, Interval}
-use Rattle.labels.specs.Forest.{Parent, Forest}
+use Rattle.labels.specs.Inside.Forest.{Parent, Forest}
 use Rattle.labels.proofs.ForestLaws.{in-length}
 use Rattle.labels.proofs.FloatOrder.{and-both}
 

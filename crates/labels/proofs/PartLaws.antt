@@ -7,12 +7,12 @@ use lib.Ieee.{Float}
 use lib.ListN.{length, getD, take, drop, replicate, length-take, length-drop, length-replicate}
 use lib.Seq.{ext-getD, take-all, take-take}
 use borrow.Rule.Slice.PartMut.{midOf, putMid, mid-len}
-use Rattle.arithmetic.specs.Asked.{Rising}
-use Rattle.arithmetic.specs.Seg.{seg, put}
-use Rattle.arithmetic.proofs.SegLaws.{length-seg, getD-seg, lent-seg, lent-else, put-mid, length-put, seg-put-below, seg-put-same, seg-all, seg-add}
+use Rattle.arithmetic.specs.Inside.Asked.{Rising}
+use Rattle.lists.specs.Inside.Seg.{seg, put}
+use Rattle.lists.proofs.SegLaws.{length-seg, getD-seg, lent-seg, lent-else, put-mid, length-put, seg-put-below, seg-put-same, seg-all, seg-add}
 use Rattle.labels.specs.Label.{Found}
 use Rattle.labels.specs.Regions.{over, added, nothing, regions}
-use Rattle.labels.specs.Sheet.{Same, Fitting, Block, Ample}
+use Rattle.labels.specs.Inside.Sheet.{Same, Fitting, Block, Ample}
 use Rattle.labels.proofs.OverLaws.{added-at, added-long, added-number}
 use Rattle.labels.proofs.RegionFacts.{regions-are}
 use Rattle.labels.proofs.BlockLaws.{begin, next, rising-part}

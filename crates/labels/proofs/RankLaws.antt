@@ -9,9 +9,9 @@ use mathlib.Core.List.{List, [], _∷_}
 use lib.Dec.{eqb, leb}
 use lib.ListN.{length, getD}
 use borrow.Author.Tests.{leb-false, le-leb, lt-leb, leb-true, ne-eqb, eq-eqb}
-use Rattle.arithmetic.specs.Seq.{upto, keep}
+use Rattle.lists.specs.Seq.{upto, keep}
 use Rattle.labels.specs.Label.{rank, firsts}
-use Rattle.arithmetic.proofs.SegLaws.{eq-or-ne}
+use Rattle.lists.proofs.SegLaws.{eq-or-ne}
 
 unfoldable pub bit : Bool → ℕ
 bit true = 1

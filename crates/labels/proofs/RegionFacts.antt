@@ -9,9 +9,9 @@ use mathlib.Core.List.{List, [], _∷_, map, foldl}
 use lib.Ieee.{Float, nan, lt, le}
 use lib.ListN.{length, getD, replicate, length-replicate, getD-replicate, List·getD-eq-default}
 use Rattle.labels.specs.Label.{own, join, links, roots, firsts, rank, labelled, areas, Found, Link, swap}
-use Rattle.arithmetic.specs.Asked.{Rising}
-use Rattle.arithmetic.proofs.SeqLaws.{tab-at, tab-length}
-use Rattle.arithmetic.proofs.SegLaws.{lt-or-le, eq-or-ne}
+use Rattle.arithmetic.specs.Inside.Asked.{Rising}
+use Rattle.lists.proofs.SeqLaws.{tab-at, tab-length}
+use Rattle.lists.proofs.SegLaws.{lt-or-le, eq-or-ne}
 use Rattle.labels.specs.Regions.{inside, over, added, grow, regions, nothing, windows, windowsFrom, within}
 use Rattle.labels.proofs.ForestLaws.{join-at, length-join, swap-zero}
 use Rattle.labels.proofs.OwnLaws.{own-out, length-own, within-from, within-to}

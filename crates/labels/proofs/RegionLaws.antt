@@ -6,15 +6,15 @@ use mathlib.Core.Logic.{⊎-elim}
 use mathlib.Core.List.{List}
 use lib.Ieee.{Float, nan}
 use lib.ListN.{length, getD, List·getD-eq-default}
-use Rattle.arithmetic.specs.Asked.{Rising}
-use Rattle.arithmetic.proofs.SegLaws.{lt-or-le}
+use Rattle.arithmetic.specs.Inside.Asked.{Rising}
+use Rattle.lists.proofs.SegLaws.{lt-or-le}
 use Rattle.labels.specs.Regions.{regions}
 use Rattle.labels.proofs.RegionFacts.{regions-are}
 use Rattle.labels.proofs.BlockLaws.{regions-long}
 use Rattle.labels.proofs.Closed.{label-none, label-pos, same-label-joined, joined-same-label}
 use Rattle.labels.proofs.Ways.{Beside, Way, Lies, banded, band-lies, lies-band, joined-way, beside-joined}
 use Rattle.labels.proofs.OwnLaws.{within-valid}
-use Rattle.labels.specs.Bands.{window}
+use Rattle.labels.specs.Inside.Bands.{window}
 
 -- one label for each gate, for any limits
 pub labels-long : (gates : ℕ) (vel : List Float) (mask : List ℕ) (limits : List Float) → length ((regions gates vel mask limits) .labels) ≡ length mask

@@ -8,12 +8,12 @@ use mathlib.Core.List.{List, [], _∷_, foldl}
 use lib.ListN.{length, getD, set, drop, length-drop, List·getD-eq-default}
 use lib.Seq.{drop-set-lt, drop-set-add, getD-drop, take-all}
 use borrow.Rule.Slice.PartMut.{midOf, putMid, drop-put}
-use Rattle.arithmetic.specs.Seg.{seg, put}
-use Rattle.arithmetic.proofs.SegLaws.{length-seg, getD-seg, seg-set-in, seg-set-out, lent-seg, put-mid, seg-put-out, seg-put-below, seg-put-same, length-put, lt-or-le}
+use Rattle.lists.specs.Inside.Seg.{seg, put}
+use Rattle.lists.proofs.SegLaws.{length-seg, getD-seg, seg-set-in, seg-set-out, lent-seg, put-mid, seg-put-out, seg-put-below, seg-put-same, length-put, lt-or-le}
 use Rattle.labels.specs.Label.{join, Link}
-use Rattle.labels.specs.Forest.{Forest, Some, Gate}
-use Rattle.labels.specs.Bands.{marks, Treed}
-use Rattle.labels.specs.Sheet.{Joins, Counts}
+use Rattle.labels.specs.Inside.Forest.{Forest, Some, Gate}
+use Rattle.labels.specs.Inside.Bands.{marks, Treed}
+use Rattle.labels.specs.Inside.Sheet.{Joins, Counts}
 use Rattle.labels.proofs.BandLaws.{marks-in, length-marks}
 use Rattle.labels.proofs.JointLaws.{by-one}
 

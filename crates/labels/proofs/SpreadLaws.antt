@@ -8,11 +8,11 @@ use lib.Ieee.{Float, nan}
 use lib.ListN.{length, getD, set, length-set}
 use lib.Seq.{ext-getD}
 use Rattle.labels.specs.Label.{own}
-use Rattle.arithmetic.proofs.SegLaws.{eq-or-ne}
+use Rattle.lists.proofs.SegLaws.{eq-or-ne}
 use Rattle.labels.proofs.ForestLaws.{read-set}
 use Rattle.labels.proofs.OwnLaws.{own-in, own-out, length-own}
-use Rattle.labels.specs.Bands.{Band, Bands, marks}
-use Rattle.arithmetic.specs.Seg.{seg}
+use Rattle.labels.specs.Inside.Bands.{Band, Bands, marks}
+use Rattle.lists.specs.Inside.Seg.{seg}
 use Rattle.labels.proofs.SheetLaws.{store-band, store-word}
 use Rattle.labels.proofs.BandLaws.{marks-in, marks-out, length-marks}
 

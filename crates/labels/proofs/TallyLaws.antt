@@ -4,14 +4,14 @@ use native.Mathlib.Omega.{arith}
 use mathlib.Core.Path.{_≡_, refl, sym, ap, _∙_, subst}
 use mathlib.Core.List.{List}
 use lib.ListN.{length, getD, drop, replicate, length-replicate}
-use Rattle.arithmetic.specs.Seg.{seg, put}
-use Rattle.arithmetic.specs.Seq.{tabulate, sum}
-use Rattle.arithmetic.proofs.SegLaws.{length-put, sums-are}
-use Rattle.arithmetic.proofs.SeqLaws.{tab-at, tab-length}
-use Rattle.labels.specs.Forest.{Forest}
-use Rattle.labels.specs.Bands.{marks, Treed}
-use Rattle.labels.specs.Numbering.{sizes, Counted, Tally}
-use Rattle.labels.specs.Sheet.{Counts}
+use Rattle.lists.specs.Inside.Seg.{seg, put}
+use Rattle.lists.specs.Seq.{tabulate, sum}
+use Rattle.lists.proofs.SegLaws.{length-put, sums-are}
+use Rattle.lists.proofs.SeqLaws.{tab-at, tab-length}
+use Rattle.labels.specs.Inside.Forest.{Forest}
+use Rattle.labels.specs.Inside.Bands.{marks, Treed}
+use Rattle.labels.specs.Inside.Numbering.{sizes, Counted, Tally}
+use Rattle.labels.specs.Inside.Sheet.{Counts}
 use Rattle.labels.proofs.FoldLaws.{sizes-grow}
 use Rattle.labels.proofs.SheetLaws.{counts-long, words-long, count-at, put-counts, put-others}
 use Rattle.labels.proofs.GateLaws.{counts-both}

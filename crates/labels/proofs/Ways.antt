@@ -9,13 +9,13 @@ use lib.Dec.{eqb, leb}
 use lib.Ieee.{Float, nan}
 use lib.ListN.{length, getD, List·getD-eq-default}
 use borrow.Author.Tests.{eq-eqb, ne-eqb, eqb-true, leb-true}
-use Rattle.arithmetic.specs.Asked.{Rising}
-use Rattle.arithmetic.specs.Seq.{upto, tabulate, each}
-use Rattle.arithmetic.proofs.SeqLaws.{tab-at, tab-length}
-use Rattle.arithmetic.proofs.SegLaws.{eq-or-ne, lt-or-le}
+use Rattle.arithmetic.specs.Inside.Asked.{Rising}
+use Rattle.lists.specs.Seq.{upto, tabulate, each}
+use Rattle.lists.proofs.SeqLaws.{tab-at, tab-length}
+use Rattle.lists.proofs.SegLaws.{eq-or-ne, lt-or-le}
 use Rattle.labels.specs.Label.{Link}
 use Rattle.labels.specs.Regions.{within}
-use Rattle.labels.specs.Bands.{window, Band, Bands, aboveIn, beforeIn, linksIn, laterIn}
+use Rattle.labels.specs.Inside.Bands.{window, Band, Bands, aboveIn, beforeIn, linksIn, laterIn}
 use Rattle.labels.proofs.FloatOrder.{and-both, lt-not-le}
 use Rattle.labels.proofs.OwnLaws.{within-from, within-to}
 use Rattle.labels.proofs.BandLaws.{climbs, flag}

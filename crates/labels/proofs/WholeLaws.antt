@@ -5,14 +5,14 @@ use mathlib.Core.Path.{_≡_, sym, ap, _∙_, subst}
 use mathlib.Core.List.{List, foldl}
 use lib.Ieee.{Float}
 use lib.ListN.{length, getD, drop}
-use Rattle.arithmetic.specs.Asked.{Rising}
-use Rattle.arithmetic.specs.Seg.{seg}
+use Rattle.arithmetic.specs.Inside.Asked.{Rising}
+use Rattle.lists.specs.Inside.Seg.{seg}
 use Rattle.labels.specs.Label.{own, join}
 use Rattle.labels.specs.Regions.{regions}
-use Rattle.labels.specs.Forest.{Forest}
-use Rattle.labels.specs.Bands.{Bands, marks, laterIn, joint, Treed}
-use Rattle.labels.specs.Numbering.{sizes, Tally, Ready, Numbering}
-use Rattle.labels.specs.Sheet.{Joins, Counts, Same, Fitting}
+use Rattle.labels.specs.Inside.Forest.{Forest}
+use Rattle.labels.specs.Inside.Bands.{Bands, marks, laterIn, joint, Treed}
+use Rattle.labels.specs.Inside.Numbering.{sizes, Tally, Ready, Numbering}
+use Rattle.labels.specs.Inside.Sheet.{Joins, Counts, Same, Fitting}
 use Rattle.labels.proofs.OwnLaws.{alone}
 use Rattle.labels.proofs.RegionFacts.{regions-are}
 use Rattle.labels.proofs.JointLaws.{joint-own}

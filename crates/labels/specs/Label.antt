@@ -4,7 +4,7 @@ use mathlib.Core.Bool.{Bool, false, cond, not, _&&_}
 use mathlib.Core.List.{List, [], _∷_, _++_, map, foldl}
 use lib.Dec.{eqb, leb}
 use lib.ListN.{length, getD}
-use Rattle.arithmetic.specs.Seq.{upto, tabulate, keep, each}
+use Rattle.lists.specs.Seq.{upto, tabulate, keep, each}
 
 -- A gate's root is 0 outside the set, and inside it 1 + the number of a gate of its area. At first a gate is its own.
 unfoldable pub own : List Bool → List ℕ

@@ -5,7 +5,7 @@ use mathlib.Core.List.{List, [], _∷_, foldl}
 use lib.Dec.{eqb}
 use lib.ListN.{length, getD, replicate}
 use lib.Ieee.{Float, nan, lt, le}
-use Rattle.arithmetic.specs.Seq.{tabulate}
+use Rattle.lists.specs.Seq.{tabulate}
 use Rattle.labels.specs.Label.{Found, areas}
 
 -- two neighbouring limits

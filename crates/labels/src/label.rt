@@ -7,10 +7,10 @@ ghost use mathlib.Core.List.{List, foldl};
 ghost use Prim.Native.Nat.{ℕ, suc, _+_, _≤_, _<_, _^_};
 ghost use lib.ListN.{length, getD, replicate};
 ghost use Rattle.labels.specs.Label.{join};
-ghost use Rattle.labels.specs.Forest.{Forest, Some, Gate, Root};
-ghost use Rattle.labels.specs.Bands.{marks, aboveIn, beforeIn, linksIn, laterIn, Treed};
-ghost use Rattle.labels.specs.Numbering.{Counted, Numbering, Ahead, Ready};
-ghost use Rattle.labels.specs.Sheet.{bandsOf, wordsOf, countsOf, Joins, Counts};
+ghost use Rattle.labels.specs.Inside.Forest.{Forest, Some, Gate, Root};
+ghost use Rattle.labels.specs.Inside.Bands.{marks, aboveIn, beforeIn, linksIn, laterIn, Treed};
+ghost use Rattle.labels.specs.Inside.Numbering.{Counted, Numbering, Ahead, Ready};
+ghost use Rattle.labels.specs.Inside.Sheet.{bandsOf, wordsOf, countsOf, Joins, Counts};
 
 // The first gate of the area of gate `start`. Halves the path there.
 pub fn find(w: &mut [u32], start: u32) -> u32

@@ -6,13 +6,13 @@ ghost use mathlib.Core.Path.{_≡_};
 ghost use mathlib.Core.List.{List, _++_};
 ghost use Prim.Native.Nat.{ℕ, suc, _+_, _*_, _-_, _≤_, _<_, _^_};
 ghost use lib.ListN.{length, getD, replicate};
-ghost use Rattle.arithmetic.specs.Asked.{Rising};
+ghost use Rattle.arithmetic.specs.Inside.Asked.{Rising};
 ghost use Rattle.labels.specs.Label.{own};
 ghost use Rattle.labels.specs.Regions.{within, regions, over, added};
-ghost use Rattle.labels.specs.Forest.{Forest};
-ghost use Rattle.labels.specs.Bands.{Band, Bands, marks, joint};
-ghost use Rattle.labels.specs.Numbering.{sizes, Tally};
-ghost use Rattle.labels.specs.Sheet.{bandsOf, wordsOf, countsOf, Counts, Same, Fitting, Block, Ample, Sweep};
+ghost use Rattle.labels.specs.Inside.Forest.{Forest};
+ghost use Rattle.labels.specs.Inside.Bands.{Band, Bands, marks, joint};
+ghost use Rattle.labels.specs.Inside.Numbering.{sizes, Tally};
+ghost use Rattle.labels.specs.Inside.Sheet.{bandsOf, wordsOf, countsOf, Counts, Same, Fitting, Block, Ample, Sweep};
 
 // Whether a valid velocity lies in an interval: at or above its lower limit, below its upper one.
 pub fn holds(lower: f64, upper: f64, x: f32, m: u8) -> bool

@@ -4,8 +4,8 @@ use Prim.Native.Nat.{ℕ}
 use mathlib.Core.Path.{_≡_, ap, _∙_}
 use mathlib.Core.Logic.{_↔_}
 use mathlib.Core.Bool.{Bool}
-use Rattle.arithmetic.specs.Seq.{keep, All}
-use Rattle.arithmetic.proofs.AllLaws.{all-keep, all-both}
+use Rattle.lists.specs.Seq.{keep, All}
+use Rattle.lists.proofs.AllLaws.{all-keep, all-both}
 use Rattle.network.specs.Network.{State, Event, merges, trace}
 use Rattle.network.proofs.Restrict.{restrict, Closed, eventIn, trace-in}
 use Rattle.locality.proofs.Locality.{other, closed-other}

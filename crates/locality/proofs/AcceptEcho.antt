@@ -7,8 +7,8 @@ use mathlib.Core.Bool.{Bool, true, false, not, _&&_, true≢false}
 use mathlib.Core.List.{List, [], _∷_, map}
 use lib.ListN.{length}
 use lib.Ieee.{Float}
-use Rattle.arithmetic.specs.Seq.{keep, all, All}
-use Rattle.labels.proofs.Spot.{zero-plus, one-plus, next-place}
+use Rattle.lists.specs.Seq.{keep, all, All}
+use Rattle.locality.proofs.Spot.{zero-plus, one-plus, next-place}
 use Rattle.edges.specs.declared.edges.EdgeRecord.{EdgeRecord}
 use Rattle.network.specs.Network.{State, Event, inRange, merges, goodBy, trace, edgeOf, numbered, alone, start}
 use Rattle.network.proofs.Restrict.{edgeIn, regionIn, restrict, Closed}
@@ -16,7 +16,7 @@ use Rattle.locality.proofs.Rename.{renS, renV, merges-ren, trace-ren}
 use Rattle.locality.proofs.Locality.{other}
 use Rattle.locality.proofs.Embed.{Embedding}
 use Rattle.locality.proofs.Accept.{Accepted, accepted-sides}
-use Rattle.network.proofs.EdgesEcho.{recordIn}
+use Rattle.locality.proofs.EdgesEcho.{recordIn}
 use Rattle.locality.proofs.StartEcho.{edgeSide}
 
 abbrev Ok : Event → Type 0

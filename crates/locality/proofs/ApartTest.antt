@@ -9,9 +9,9 @@ use lib.ListN.{length}
 use lib.Ieee.{Float}
 use lib.Dec.{eqb}
 use borrow.Author.Tests.{ne-eqb}
-use Rattle.arithmetic.specs.Seq.{upto, all}
-use Rattle.labels.proofs.RootsEcho.{at, at-less}
-use Rattle.arithmetic.proofs.AllLaws.{and-left, and-right, all-at}
+use Rattle.lists.specs.Seq.{upto, all}
+use Rattle.locality.proofs.RootsEcho.{at, at-less}
+use Rattle.lists.proofs.AllLaws.{and-left, and-right, all-at}
 use Rattle.edges.specs.Edges.{Shape, Direction, left, right, top, bottom, sees}
 use Rattle.sweep.specs.Sweep.{Sweep, regionsOf}
 use Rattle.locality.specs.Demand3.{Apart}

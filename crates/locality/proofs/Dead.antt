@@ -6,7 +6,7 @@ use mathlib.Core.Bool.{Bool, true, false, cond, true≢false}
 use mathlib.Core.List.{List, [], _∷_, map}
 use mathlib.Core.Option.{Option, none, some}
 use lib.Ieee.{nan}
-use Rattle.arithmetic.proofs.AllLaws.{and-left}
+use Rattle.lists.proofs.AllLaws.{and-left}
 use Rattle.network.specs.Network.{Edge, State, Plan, at, plan, find, combine, prepare, joinAll, mergeEdges, move, merge, stepTo, step, better, choose}
 use Rattle.network.proofs.Restrict.{prepare-num, combine-num}
 use Rattle.network.proofs.Ends.{prepare-live, combine-live}

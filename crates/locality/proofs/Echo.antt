@@ -9,21 +9,21 @@ use lib.ListN.{length, getD, List·getD-eq-default}
 use lib.IntN.{ℤ}
 use lib.Ieee.{Float, nan}
 use borrow.Author.Tests.{ne-eqb}
-use Rattle.arithmetic.specs.Seq.{upto, keep, tabulate}
+use Rattle.lists.specs.Seq.{upto, keep, tabulate}
 use Rattle.arithmetic.specs.Intervals.{folded}
-use Rattle.arithmetic.proofs.SeqLaws.{eqb-renamed, tab-length, keep-count}
+use Rattle.lists.proofs.SeqLaws.{eqb-renamed, tab-length, keep-count}
 use Rattle.labels.specs.Label.{Found}
 use Rattle.labels.specs.Regions.{Interval, within}
-use Rattle.labels.proofs.Spot.{spot, trues, shift, flag, shift-inj, shift-rises, flag-shift}
-use Rattle.labels.proofs.RootsEcho.{at}
-use Rattle.labels.proofs.LabelEcho.{Parts}
-use Rattle.labels.proofs.RegionsEcho.{firstGates, regions-parts, regions-valid}
-use Rattle.arithmetic.proofs.AllLaws.{tab-all}
+use Rattle.locality.proofs.Spot.{spot, trues, shift, flag, shift-inj, shift-rises, flag-shift}
+use Rattle.locality.proofs.RootsEcho.{at}
+use Rattle.locality.proofs.LabelEcho.{Parts}
+use Rattle.locality.proofs.RegionsEcho.{firstGates, regions-parts, regions-valid}
+use Rattle.lists.proofs.AllLaws.{tab-all}
 use Rattle.edges.specs.declared.edges.EdgeRecord.{EdgeRecord}
 use Rattle.edges.specs.Edges.{pairs, used}
 use Rattle.network.specs.Network.{start, merges, countOf, sizeIn, networkBy}
 use Rattle.locality.proofs.Embed.{Embedding, merges-image, counts-image}
-use Rattle.network.proofs.EdgesEcho.{Apart, recordIn, renQ, used-ren, used-all}
+use Rattle.locality.proofs.EdgesEcho.{Apart, recordIn, renQ, used-ren, used-all}
 use Rattle.locality.proofs.PairsEcho.{left-near, top-near, flag-side, pairs-part, pairs-sides}
 use Rattle.locality.proofs.StartEcho.{Unjoined, edgeSide, start-embeds}
 use Rattle.sweep.specs.Sweep.{Sweep, regionsOf, pairsOf, networkOf, final}

@@ -5,8 +5,8 @@ use mathlib.Core.Path.{_≡_, refl, sym, ap, _∙_}
 use mathlib.Core.Bool.{Bool, true, false, cond}
 use mathlib.Core.List.{List, [], _∷_, map}
 use lib.Dec.{eqb}
-use Rattle.arithmetic.specs.Seq.{keep}
-use Rattle.arithmetic.proofs.SeqLaws.{eqb-renamed}
+use Rattle.lists.specs.Seq.{keep}
+use Rattle.lists.proofs.SeqLaws.{eqb-renamed}
 use Rattle.network.specs.Network.{Region, State, countOf, step, merges, replay, trace}
 use Rattle.network.proofs.Lists.{apart}
 use Rattle.network.proofs.Restrict.{regionIn, restrict, Closed, step-in, step-out, eventIn, replay-in, trace-in}

@@ -11,16 +11,16 @@ use lib.IntN.{ℤ, pos, _+ℤ_, _-ℤ_, -ℤ-+ℤ-cancel, +ℤ-idr}
 use lib.Ieee.{Float}
 use borrow.Author.Tests.{ne-eqb, eqb-false, eqb-true}
 use Rattle.labels.specs.Label.{Found}
-use Rattle.labels.proofs.RootsEcho.{at}
-use Rattle.arithmetic.proofs.AllLaws.{all-map, tab-all}
-use Rattle.labels.proofs.RegionsEcho.{regions-valid}
+use Rattle.locality.proofs.RootsEcho.{at}
+use Rattle.lists.proofs.AllLaws.{all-map, tab-all}
+use Rattle.locality.proofs.RegionsEcho.{regions-valid}
 use Rattle.network.specs.Network.{State, merges, countOf, Region, Edge, plan, move, merge, stepTo, step, replay, alone, start, networkBy}
 use Rattle.network.specs.Network as Network
 use Rattle.sweep.specs.Sweep.{Sweep, Unfolded, regionsOf, networkOf, final, early, ended, finished, offsetOf, gateCount, unfoldedBy, unfolded, sizes, pairsOf}
 use Rattle.locality.specs.Demand3.{first, countAt, uncentred}
 use Rattle.sweep.proofs.Early.{early-merges, early-counts}
 use Rattle.locality.proofs.Echo.{regionCount}
-use Rattle.arithmetic.specs.Seq.{All}
+use Rattle.lists.specs.Seq.{All}
 
 -- a masked gate gets 0, whatever the offset
 masked-zero : (off c : ℤ) (m : ℕ) → eqb m 1 ≡ false → gateCount off m c ≡ pos 0

@@ -15,3 +15,8 @@ pub mod Question9
 pub mod ApartTest
 pub mod Demand3Laws
 pub mod EntryTheorems
+pub mod Spot
+pub mod RootsEcho
+pub mod LabelEcho
+pub mod RegionsEcho
+pub mod EdgesEcho

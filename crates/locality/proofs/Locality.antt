@@ -6,8 +6,8 @@ use mathlib.Core.Bool.{Bool, not}
 use mathlib.Core.List.{List, [], _∷_, map}
 use mathlib.Core.Option.{Option, none, some}
 use lib.ListN.{length}
-use Rattle.arithmetic.specs.Seq.{keep, All}
-use Rattle.arithmetic.proofs.AllLaws.{all-keep, all-both}
+use Rattle.lists.specs.Seq.{keep, All}
+use Rattle.lists.proofs.AllLaws.{all-keep, all-both}
 use Rattle.network.specs.Network.{Edge, Region, State, Plan, plan, at, combine, prepare, joinAll, mergeEdges, move, merge, stepTo, step, choose, merges, trace, replay}
 use Rattle.network.proofs.Lists.{keep-both}
 use Rattle.network.proofs.Restrict.{edgeIn, regionIn, restrict, OkE, OkR, Closed, prepare-num, combine-num, eventIn, replay-in, trace-in}

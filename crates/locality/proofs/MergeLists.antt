@@ -10,20 +10,20 @@ use lib.ListN.{length}
 use lib.Ieee.{Float}
 use lib.Dec.{eqb, leb}
 use borrow.Author.Tests.{eqb-true, ne-eqb}
-use Rattle.arithmetic.specs.Seq.{upto, all, keep, All, Mem}
+use Rattle.lists.specs.Seq.{upto, all, keep, All, Mem}
 use Rattle.arithmetic.specs.Intervals.{folded}
-use Rattle.arithmetic.proofs.SeqLaws.{eqb-refl}
+use Rattle.lists.proofs.SeqLaws.{eqb-refl}
 use Rattle.labels.specs.Label.{Found}
-use Rattle.labels.proofs.Spot.{flag}
-use Rattle.labels.proofs.RootsEcho.{at, at-less}
-use Rattle.arithmetic.proofs.AllLaws.{all-both, all-weaker, all-true, all-false}
+use Rattle.locality.proofs.Spot.{flag}
+use Rattle.locality.proofs.RootsEcho.{at, at-less}
+use Rattle.lists.proofs.AllLaws.{all-both, all-weaker, all-true, all-false}
 use Rattle.edges.specs.declared.edges.EdgeRecord.{EdgeRecord}
 use Rattle.edges.specs.Edges.{used, pairs}
 use Rattle.network.specs.Network.{State, Event, merges, replay, trace, choose, Edge, step, better, event, networkBy}
 use Rattle.network.proofs.Ends.{FoundLive}
 use Rattle.network.proofs.Restrict.{eventIn, event-edge}
 use Rattle.locality.proofs.Locality.{other, SameSides, Agrees}
-use Rattle.network.proofs.EdgesEcho.{used-all, recordIn}
+use Rattle.locality.proofs.EdgesEcho.{used-all, recordIn}
 use Rattle.locality.proofs.PairsEcho.{flag-side, pairs-sides}
 use Rattle.locality.proofs.StartEcho.{edgeSide, every-merge-list}
 use Rattle.locality.proofs.Once.{Distinct, merges-once}

@@ -6,12 +6,12 @@ use mathlib.Core.List.{List, [], _∷_, map}
 use mathlib.Core.Option.{Option, none, some, Option·none-ne-some}
 use lib.ListN.{length}
 use lib.Dec.{eqb}
-use Rattle.arithmetic.proofs.AllLaws.{and-left, and-right}
+use Rattle.lists.proofs.AllLaws.{and-left, and-right}
 use Rattle.network.specs.Network.{Edge, State, Plan, at, plan, planFor, combine, prepare, joinAll, mergeEdges, merge, stepTo, step, choose, follow, run, merges}
 use Rattle.network.proofs.Lists.{at-num}
 use Rattle.network.proofs.Restrict.{prepare-num, combine-num}
 use Rattle.network.proofs.Ends.{prepare-live, combine-live, choose-at}
-use Rattle.arithmetic.specs.Seq.{All}
+use Rattle.lists.specs.Seq.{All}
 
 -- no two entries are equal
 abbrev pub Distinct : List ℕ → Type 0

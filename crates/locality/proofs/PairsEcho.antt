@@ -9,15 +9,15 @@ use lib.Dec.{leb, eqb}
 use lib.ListN.{length, getD}
 use lib.Ieee.{Float, nan}
 use borrow.Author.Tests.{eqb-true, eqb-false, ne-eqb}
-use Rattle.arithmetic.specs.Seq.{upto, keep, each, All}
-use Rattle.arithmetic.proofs.SeqLaws.{eqb-renamed, keep-each, each-same, map-each}
+use Rattle.lists.specs.Seq.{upto, keep, each, All}
+use Rattle.lists.proofs.SeqLaws.{eqb-renamed, keep-each, each-same, map-each}
 use Rattle.labels.specs.Label.{Found}
-use Rattle.labels.proofs.Spot.{shift, flag, shift-inj}
-use Rattle.labels.proofs.RootsEcho.{at}
-use Rattle.labels.proofs.LabelEcho.{Parts}
-use Rattle.arithmetic.proofs.AllLaws.{all-each}
+use Rattle.locality.proofs.Spot.{shift, flag, shift-inj}
+use Rattle.locality.proofs.RootsEcho.{at}
+use Rattle.locality.proofs.LabelEcho.{Parts}
+use Rattle.lists.proofs.AllLaws.{all-each}
 use Rattle.edges.specs.Edges.{Shape, Direction, left, right, top, bottom, next, skip, look, sees, Pair, pairTo, pairsAt, pairs}
-use Rattle.network.proofs.EdgesEcho.{Apart, look-labelled, renP, pairIn}
+use Rattle.locality.proofs.EdgesEcho.{Apart, look-labelled, renP, pairIn}
 
 -- a labelled gate one step away is seen
 sees-next : (s : Shape) (labels : List ℕ) (d : Direction) (g h : ℕ) → next s d g ≡ some h → 0 < at labels h → sees s labels d g ≡ some h

@@ -7,19 +7,19 @@ use mathlib.Core.Bool.{Bool, true, false, not, _&&_, true≢false}
 use mathlib.Core.List.{List, [], _∷_, map}
 use lib.ListN.{length, getD, length-map}
 use lib.Ieee.{Float}
-use Rattle.arithmetic.specs.Seq.{upto, All}
+use Rattle.lists.specs.Seq.{upto, All}
 use Rattle.arithmetic.specs.Intervals.{folded}
-use Rattle.arithmetic.proofs.SeqLaws.{upto-length}
+use Rattle.lists.proofs.SeqLaws.{upto-length}
 use Rattle.labels.specs.Label.{Found}
-use Rattle.labels.proofs.Spot.{spot, shift, flag}
-use Rattle.labels.proofs.RootsEcho.{at}
-use Rattle.labels.proofs.RegionsEcho.{firstGates}
+use Rattle.locality.proofs.Spot.{spot, shift, flag}
+use Rattle.locality.proofs.RootsEcho.{at}
+use Rattle.locality.proofs.RegionsEcho.{firstGates}
 use Rattle.edges.specs.declared.edges.EdgeRecord.{EdgeRecord}
 use Rattle.edges.specs.Edges.{pairs, used}
 use Rattle.network.specs.Network.{State, sizeIn, networkBy, goodBy}
 use Rattle.network.proofs.Restrict.{restrict, Closed}
 use Rattle.locality.proofs.Locality.{other}
-use Rattle.network.proofs.EdgesEcho.{recordIn, used-all}
+use Rattle.locality.proofs.EdgesEcho.{recordIn, used-all}
 use Rattle.locality.proofs.PairsEcho.{flag-side, pairs-all}
 use Rattle.locality.proofs.StartEcho.{edgeSide}
 use Rattle.locality.proofs.AcceptEcho.{range-image, range-sides, restrict-other}

@@ -8,7 +8,7 @@ use mathlib.Core.Option.{Option, none, some, Option·map}
 use lib.Dec.{ltb, leb, eqb}
 use lib.ListN.{length, length-map}
 use lib.IntN.{ℤ}
-use Rattle.arithmetic.proofs.SeqLaws.{eqb-renamed}
+use Rattle.lists.proofs.SeqLaws.{eqb-renamed}
 use Rattle.network.specs.Network.{Edge, Region, State, Plan, Link, Event, sizeOf, gather, members, raised, at, planFor, plan, kill, adjust, turnIf, turn, find, absorb, hand, combine, prepare, joinAll, mergeEdges, move, merge, stepTo, step, better, choose, follow, run, merges, eventOf, event, trace, replay}
 
 map-swap : {A B : Type 0} (f : A → B) (g : A → A) (h : B → B) → ((a : A) → h (f a) ≡ f (g a)) → (l : List A) → map h (map f l) ≡ map f (map g l)

@@ -7,9 +7,9 @@ use mathlib.Core.List.{List, [], _∷_, map, head-eq-of-cons-eq, tail-eq-of-cons
 use lib.ListN.{length, getD}
 use lib.Ieee.{Float}
 use lib.IntN.{pos}
-use Rattle.arithmetic.specs.Seq.{upto, keep, All}
-use Rattle.arithmetic.proofs.SeqLaws.{keep-of-map, keep-same, map-upto-same}
-use Rattle.labels.proofs.Spot.{spot, trues, shift, flag, spot-rises, rising-inj, shift-inj, shifts-kept, zero-plus, next-place}
+use Rattle.lists.specs.Seq.{upto, keep, All}
+use Rattle.lists.proofs.SeqLaws.{keep-of-map, keep-same, map-upto-same}
+use Rattle.locality.proofs.Spot.{spot, trues, shift, flag, spot-rises, rising-inj, shift-inj, shifts-kept, zero-plus, next-place}
 use Rattle.edges.specs.Edges.{difference}
 use Rattle.edges.specs.declared.edges.EdgeRecord.{EdgeRecord}
 use Rattle.network.specs.Network.{Region, merges, edgeOf, numbered, alone, start}
@@ -17,7 +17,7 @@ use Rattle.network.proofs.Restrict.{edgeIn, regionIn, restrict, OkE, OkR, Close
 use Rattle.locality.proofs.Rename.{renE, renR, renS}
 use Rattle.locality.proofs.Embed.{Embedding}
 use Rattle.locality.proofs.Locality.{SameSides, Agrees, lists-agree}
-use Rattle.network.proofs.EdgesEcho.{recordIn, renQ}
+use Rattle.locality.proofs.EdgesEcho.{recordIn, renQ}
 
 -- whether edge i lies on the side: both labels of its record do
 unfoldable pub edgeSide : (ℕ → Bool) → List EdgeRecord → ℕ → Bool

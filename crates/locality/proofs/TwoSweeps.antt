@@ -8,8 +8,8 @@ use lib.ListN.{length, getD}
 use lib.IntN.{pos, _+ℤ_}
 use lib.Ieee.{Float, nan}
 use borrow.Author.Tests.{eqb-true}
-use Rattle.arithmetic.specs.Seq.{tabulate}
-use Rattle.arithmetic.proofs.SeqLaws.{tab-same}
+use Rattle.lists.specs.Seq.{tabulate}
+use Rattle.lists.proofs.SeqLaws.{tab-same}
 use Rattle.sweep.specs.Sweep.{Sweep, gateCount, unfolded}
 use Rattle.locality.specs.Demand3.{Alike}
 use Rattle.locality.proofs.Echo.{onlyMask, onlyVel, only, ApartBy, regionCount, key}

@@ -9,7 +9,7 @@ use lib.Dec.{eqb}
 use lib.ListN.{length, getD}
 use lib.IntN.{ℤ, pos, _+ℤ_}
 use lib.Ieee.{Float, nan}
-use Rattle.arithmetic.specs.Seq.{upto, keep, all}
+use Rattle.lists.specs.Seq.{upto, keep, all}
 use Rattle.edges.specs.declared.edges.EdgeRecord.{EdgeRecord}
 use Rattle.edges.specs.Edges.{Direction, sees, used}
 use Rattle.network.specs.Network.{State, Event, replay, trace, countOf}

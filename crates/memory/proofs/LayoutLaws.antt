@@ -1,7 +1,7 @@
 -- The parts of the work memory lie apart at every stage, and fit into what question 4 asks for. Assumes nothing.
 use Prim.Native.Nat.{ℕ, _*_, _≤_}
 use native.Mathlib.Omega.{arith}
-use Rattle.memory.specs.Layout.{sizesAt, countsAt, tablesAt, InTurn, Laid}
+use Rattle.memory.specs.Inside.Layout.{sizesAt, countsAt, tablesAt, InTurn, Laid}
 
 -- n gates, k regions, m pairs, e edges
 pub laid : (n k m e : ℕ) → 1 ≤ n → k ≤ n → m ≤ 4 * n → e ≤ m → Laid n k m e

@@ -1,1 +1,11 @@
 pub mod LayoutLaws
+pub mod SortLaws
+pub mod CountTurn
+pub mod PlaceTurn
+pub mod PassSteps
+pub mod PassedLaws
+pub mod TwoPasses
+pub mod TreeLaws
+pub mod CopyTurn
+pub mod NumberTurn
+pub mod StartsTurn

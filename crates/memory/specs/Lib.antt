@@ -1,4 +1,1 @@
-pub mod Sort
-pub mod TwoKeys
-pub mod Tree
-pub mod Layout
+pub mod Inside

@@ -3,7 +3,7 @@
 ghost use mathlib.Core.Path.{_≡_};
 ghost use Prim.Native.Nat.{_+_, _*_, _/_, _≤_, _<_, _^_};
 ghost use lib.ListN.{length, set};
-ghost use Rattle.memory.specs.Tree.{pick, Dirty, Tree, Weighed, Best};
+ghost use Rattle.memory.specs.Inside.Tree.{pick, Dirty, Tree, Weighed, Best};
 
 // The heavier of i and j, of weights a and b; the lower at equal weights.
 fn pick(a: u32, b: u32, i: u32, j: u32) -> u32

@@ -1,5 +1,1 @@
-pub mod Table
-pub mod Mem
-pub mod Steps
-pub mod Does
-pub mod Chain
+pub mod Inside

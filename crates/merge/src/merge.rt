@@ -7,10 +7,10 @@ ghost use lib.Dec.{T};
 ghost use lib.Ieee.{binary32, fits, add};
 ghost use Rattle.arithmetic.specs.Rounding.{scale};
 ghost use lib.ListN.{getD};
-ghost use Rattle.merge.specs.Mem.{Mem, view, Room, Sound, store};
-ghost use Rattle.merge.specs.Table.{stamp, rlen};
-ghost use Rattle.merge.specs.Steps.{unbias, spent, passed, kept, dropAt, pruned, faceAt, joinsAt, seekAll, mate, absorbAt, attachAt, joinEdge, shift, movedEdge, takeEdge, movedAll, walkRaise, splice, grow, handed, merged};
-ghost use Rattle.merge.specs.Does.{Does, Raised, Passes, Slots, Apart, Joins, Gains, Fit};
+ghost use Rattle.merge.specs.Inside.Mem.{Mem, view, Room, Sound, store};
+ghost use Rattle.merge.specs.Inside.Table.{stamp, rlen};
+ghost use Rattle.merge.specs.Inside.Steps.{unbias, spent, passed, kept, dropAt, pruned, faceAt, joinsAt, seekAll, mate, absorbAt, attachAt, joinEdge, shift, movedEdge, takeEdge, movedAll, walkRaise, splice, grow, handed, merged};
+ghost use Rattle.merge.specs.Inside.Does.{Does, Raised, Passes, Slots, Apart, Joins, Gains, Fit};
 
 // The f32 that an f64 is.
 fn single(x: f64) -> f32

@@ -9,8 +9,8 @@ use mathlib.Core.Option.{Option, none, some, Option·none-ne-some, Option·some-
 use lib.Dec.{leb, eqb}
 use lib.ListN.{length, getD}
 use borrow.Author.Tests.{le-leb, lt-leb, ne-eqb, eqb-true}
-use Rattle.arithmetic.proofs.SeqLaws.{eqb-refl}
-use Rattle.arithmetic.proofs.AllLaws.{and-left}
+use Rattle.lists.proofs.SeqLaws.{eqb-refl}
+use Rattle.lists.proofs.AllLaws.{and-left}
 use Rattle.network.specs.Network.{Edge, Region, Plan, sizeOf, at, move, better, choose}
 
 unfoldable pub Numbered : ℕ → List Edge → Type 0

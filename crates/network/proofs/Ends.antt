@@ -8,11 +8,11 @@ use mathlib.Core.List.{List, [], _∷_, map}
 use mathlib.Core.Option.{Option, none, some, Option·none-ne-some, Option·some-injective}
 use lib.Dec.{leb, eqb}
 use lib.ListN.{length}
-use Rattle.arithmetic.proofs.SeqLaws.{eqb-refl}
-use Rattle.arithmetic.proofs.AllLaws.{and-left}
+use Rattle.lists.proofs.SeqLaws.{eqb-refl}
+use Rattle.lists.proofs.AllLaws.{and-left}
 use Rattle.network.specs.Network.{Edge, State, Plan, Link, Event, at, plan, planFor, kill, adjust, turnIf, turn, find, absorb, absent, hand, combine, prepare, joinAll, mergeEdges, merge, stepTo, step, better, choose, follow, run, eventOf, event, trace, replay}
 use Rattle.network.proofs.Lists.{at-num}
-use Rattle.arithmetic.specs.Seq.{All}
+use Rattle.lists.specs.Seq.{All}
 
 unfoldable pub alive : List Edge → ℕ
 alive [] = 0

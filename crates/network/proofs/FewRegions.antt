@@ -8,11 +8,11 @@ use lib.Dec.{eqb}
 use lib.IntN.{pos}
 use lib.Ieee.{Float}
 use borrow.Author.Tests.{le-ltb, eqb-true}
-use Rattle.arithmetic.specs.Seq.{upto, keep, each, all, All}
+use Rattle.lists.specs.Seq.{upto, keep, each, all, All}
 use Rattle.edges.specs.Edges.{Shape, Pair, pairs, gathered, firstIs, secondIs, recordsOf, records, greaterFirst, used}
 use Rattle.edges.specs.declared.edges.EdgeRecord.{EdgeRecord}
 use Rattle.network.specs.Network.{start, numbered, alone, merges, run, replay, trace, countOf, sizeIn, networkBy, goodBy}
-use Rattle.network.proofs.EdgesEcho.{gathered-all, records-nil}
+use Rattle.edges.proofs.RecordLaws.{gathered-all, records-nil}
 
 -- one region's records join it to itself
 own-none : (rs : List EdgeRecord) → All (λ r. r .one ≡ r .two) rs → keep greaterFirst rs ≡ []

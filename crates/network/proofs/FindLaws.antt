@@ -9,21 +9,21 @@ use lib.ListN.{length, getD, replicate, length-replicate}
 use lib.Ieee.{Float, binary64, mul, ofBits, ofInt}
 use Rattle.arithmetic.specs.Intervals.{folded}
 use Rattle.arithmetic.specs.Rounding.{real}
-use Rattle.arithmetic.specs.Seg.{seg, put}
-use Rattle.arithmetic.specs.Seq.{tabulate}
+use Rattle.lists.specs.Inside.Seg.{seg, put}
+use Rattle.lists.specs.Seq.{tabulate}
 use Rattle.arithmetic.specs.declared.intervals.Plan.{Plan}
-use Rattle.arithmetic.proofs.SeqLaws.{tab-length}
-use Rattle.arithmetic.proofs.SegLaws.{getD-seg, getD-put-in, seg-put-below, seg-put-same, length-put}
+use Rattle.lists.proofs.SeqLaws.{tab-length}
+use Rattle.lists.proofs.SegLaws.{getD-seg, getD-put-in, seg-put-below, seg-put-same, length-put}
 use Rattle.labels.specs.Label.{Found}
 use Rattle.labels.proofs.RegionLaws.{label-at-most, number-at-most}
-use Rattle.memory.specs.Layout.{sizesAt, countsAt}
-use Rattle.merge.specs.Steps.{unbias}
+use Rattle.memory.specs.Inside.Layout.{sizesAt, countsAt}
+use Rattle.merge.specs.Inside.Steps.{unbias}
 use Rattle.edges.specs.Edges.{pairs, used}
-use Rattle.edges.specs.Sees.{shape}
+use Rattle.edges.specs.Inside.Sees.{shape}
 use Rattle.edges.specs.declared.edges.Frame.{Frame}
 use Rattle.network.specs.Network.{sizeIn, merges, networkBy}
-use Rattle.network.specs.Reduce.{Reduces, Reduced, Tables}
-use Rattle.network.specs.Find.{frameOf, limitsBy, regionsBy, networkFor, Labelled, Few, Finds, Leaves}
+use Rattle.network.specs.Inside.Reduce.{Reduces, Reduced, Tables}
+use Rattle.network.specs.Inside.Find.{frameOf, limitsBy, regionsBy, networkFor, Labelled, Few, Finds, Leaves}
 use Rattle.network.specs.declared.options.Options.{Options}
 use Rattle.network.specs.declared.network.Ran.{Ran}
 use Rattle.network.specs.declared.network.Ran.the-variants.{Settled, Denied}

@@ -8,16 +8,16 @@ use borrow.Rule.Slice.PartMut.{postOf}
 use lib.Seq.{take-append-seam, length-take-le}
 use lib.IntN.{ℤ}
 use lib.Ieee.{Float}
-use Rattle.arithmetic.specs.Asked.{front}
+use Rattle.arithmetic.specs.Inside.Asked.{front}
 use Rattle.arithmetic.specs.Intervals.{spaced, atLeast0, stepOf, limitAt, limitsOf, startOf, endOf, width}
-use Rattle.arithmetic.specs.Seg.{seg}
-use Rattle.arithmetic.specs.Seq.{tabulate}
+use Rattle.lists.specs.Inside.Seg.{seg}
+use Rattle.lists.specs.Seq.{tabulate}
 use Rattle.arithmetic.specs.declared.intervals.Plan.{Plan}
-use Rattle.arithmetic.proofs.SeqLaws.{tab-length}
+use Rattle.lists.proofs.SeqLaws.{tab-length}
 use Rattle.labels.specs.Regions.{regions}
-use Rattle.labels.specs.Sheet as Sheet
+use Rattle.labels.specs.Inside.Sheet as Sheet
 use Rattle.labels.proofs.RegionLaws.{labels-long}
-use Rattle.network.specs.Find.{limitsBy, regionsBy, Limited, Labelled}
+use Rattle.network.specs.Inside.Find.{limitsBy, regionsBy, Limited, Labelled}
 use Rattle.network.specs.declared.options.Options.{Options}
 
 spaced-length : (s e : Float) (k : ℕ) → length (spaced s e k) ≡ k

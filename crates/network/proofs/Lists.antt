@@ -6,9 +6,9 @@ use mathlib.Core.Option.{some, Option·none-ne-some, Option·some-injective}
 use mathlib.Core.List.{List, [], _∷_, map, head-eq-of-cons-eq, tail-eq-of-cons-eq, nil≢cons, cons≢nil}
 use lib.Dec.{eqb}
 use borrow.Author.Tests.{eqb-true, ne-eqb}
-use Rattle.arithmetic.specs.Seq.{keep, All}
-use Rattle.arithmetic.proofs.SeqLaws.{keep-of-map, keep-same}
-use Rattle.arithmetic.proofs.AllLaws.{and-right}
+use Rattle.lists.specs.Seq.{keep, All}
+use Rattle.lists.proofs.SeqLaws.{keep-of-map, keep-same}
+use Rattle.lists.proofs.AllLaws.{and-right}
 use Rattle.network.specs.Network.{Edge, at}
 
 module _ {A : Type 0} where

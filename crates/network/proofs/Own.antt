@@ -9,7 +9,7 @@ use mathlib.Core.Option.{Option, none, some, Option·none-ne-some}
 use lib.Dec.{leb}
 use lib.ListN.{length}
 use borrow.Author.Tests.{leb-true, leb-false}
-use Rattle.arithmetic.specs.Seq.{keep}
+use Rattle.lists.specs.Seq.{keep}
 use Rattle.network.specs.Network.{Edge, State, step, better, choose, follow, run, merges, replay}
 use Rattle.network.proofs.Restrict.{edgeIn, restrict, Closed, closed-step, step-in, step-out, replay-in}
 use Rattle.network.proofs.Ends.{alive, alive-length, choose-less, no-choice}

@@ -9,8 +9,8 @@ use mathlib.Core.Option.{Option, none, some}
 use lib.Dec.{ltb, eqb}
 use lib.IntN.{ℤ, _+ℤ_}
 use borrow.Author.Tests.{eqb-true}
-use Rattle.arithmetic.specs.Seq.{keep, All}
-use Rattle.arithmetic.proofs.AllLaws.{all-map}
+use Rattle.lists.specs.Seq.{keep, All}
+use Rattle.lists.proofs.AllLaws.{all-map}
 use Rattle.network.specs.Network.{isZero, Edge, Region, State, Plan, Link, Event, sizeOf, gather, members, raised, at, planFor, plan, kill, shifted, adjust, turnIf, turn, find, absorb, hand, combine, prepare, joinAll, mergeEdges, move, merge, stepTo, step, eventOf, event, trace, replay}
 use Rattle.network.proofs.Lists.{keep-map, keep-fixed, apart, apart′, at-all}
 

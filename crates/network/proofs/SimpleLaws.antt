@@ -10,12 +10,12 @@ use lib.Dec.{ltb, eqb}
 use lib.IntN.{ℤ}
 use borrow.Author.Tests.{eqb-false, eqb-true}
 use Rattle.network.specs.Network.{Edge, State, Plan, Link, Region, sizeOf, at, plan, planFor, kill, adjust, turnIf, turn, find, absorb, absent, hand, combine, prepare, joinAll, mergeEdges, merge, stepTo, step}
-use Rattle.network.specs.Simple.{Joined, Simple}
+use Rattle.network.specs.Inside.Simple.{Joined, Simple}
 use Rattle.network.proofs.Restrict.{prepare-num, combine-num}
 use Rattle.network.proofs.Ends.{prepare-live, combine-live}
-use Rattle.arithmetic.proofs.SeqLaws.{eqb-refl}
-use Rattle.arithmetic.specs.Seq.{Mem}
-use Rattle.arithmetic.proofs.AllLaws.{and-left}
+use Rattle.lists.proofs.SeqLaws.{eqb-refl}
+use Rattle.lists.specs.Seq.{Mem}
+use Rattle.lists.proofs.AllLaws.{and-left}
 
 module _ {A : Type 0} where
   mem-map : (g : A → A) (b : A) (l : List A) → Mem b (map g l) → (a : A) × Mem a l × (g a ≡ b)

@@ -1,12 +1,3 @@
 pub mod Network
-pub mod Simple
-pub mod Sizes
-pub mod Net
-pub mod Settle
-pub mod Rep
-pub mod TurnIs
-pub mod Popped
-pub mod Begin
-pub mod Reduce
-pub mod Find
 pub mod Evaluating
+pub mod Inside

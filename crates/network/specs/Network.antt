@@ -7,7 +7,7 @@ use lib.Dec.{leb, ltb, eqb}
 use lib.ListN.{length}
 use lib.IntN.{ℤ, pos, negsuc, _+ℤ_, negℤ}
 use lib.Ieee.{Float, binary32, binary64, add, neg, div}
-use Rattle.arithmetic.specs.Seq.{upto, all, keep}
+use Rattle.lists.specs.Seq.{upto, all, keep}
 use Rattle.arithmetic.specs.Rounding.{roundEven, real, scale}
 use Rattle.arithmetic.specs.declared.rounding.Rounded.{Rounded}
 use Rattle.arithmetic.specs.declared.rounding.Rounded.the-variants.{Whole, Outside}

@@ -2,12 +2,12 @@
 ghost use mathlib.Core.Path.{_≡_};
 ghost use Prim.Native.Nat.{_+_, _≤_};
 ghost use lib.ListN.{length, replicate};
-ghost use Rattle.arithmetic.specs.Asked.{front};
+ghost use Rattle.arithmetic.specs.Inside.Asked.{front};
 ghost use Rattle.arithmetic.specs.Intervals.{atLeast0};
-ghost use Rattle.arithmetic.specs.Seg.{seg, put};
-ghost use Rattle.arithmetic.specs.Seq.{tabulate};
+ghost use Rattle.lists.specs.Inside.Seg.{seg, put};
+ghost use Rattle.lists.specs.Seq.{tabulate};
 ghost use Rattle.network.specs.Network.{sizeIn};
-ghost use Rattle.network.specs.Find.{limitsBy, regionsBy, networkFor, Planned, Limited, Labelled, Few, Finds, Leaves};
+ghost use Rattle.network.specs.Inside.Find.{limitsBy, regionsBy, networkFor, Planned, Limited, Labelled, Few, Finds, Leaves};
 
 // How many regions there are, and how many merges there were.
 pub struct Run {

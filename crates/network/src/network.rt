@@ -3,16 +3,16 @@ ghost use mathlib.Core.Path.{_≡_};
 ghost use Prim.Native.Nat.{_+_, _*_, _-_, _/_, _<_, _^_};
 ghost use Rattle.arithmetic.specs.Rounding.{roundEven};
 ghost use Rattle.network.specs.Network.{whole};
-ghost use Rattle.network.specs.Popped.{Pops, AnyPop};
+ghost use Rattle.network.specs.Inside.Popped.{Pops, AnyPop};
 ghost use lib.ListN.{getD};
-ghost use Rattle.merge.specs.Mem.{view, Room, Sound};
-ghost use Rattle.merge.specs.Table.{elen};
-ghost use Rattle.merge.specs.Steps.{numberOf};
-ghost use Rattle.network.specs.Rep.{Rep};
-ghost use Rattle.network.specs.Settle.{settle};
-ghost use Rattle.network.specs.TurnIs.{Standing, AnyTurn, Chosen, AnyPick, gatesIn, firstOf, RanIs};
-ghost use Rattle.network.specs.Begin.{regionsFrom, linkAt, linkFrom, Space, Raw, Begun, Linkable, AllIs};
-ghost use Rattle.merge.specs.Does.{Does};
+ghost use Rattle.merge.specs.Inside.Mem.{view, Room, Sound};
+ghost use Rattle.merge.specs.Inside.Table.{elen};
+ghost use Rattle.merge.specs.Inside.Steps.{numberOf};
+ghost use Rattle.network.specs.Inside.Rep.{Rep};
+ghost use Rattle.network.specs.Inside.Settle.{settle};
+ghost use Rattle.network.specs.Inside.TurnIs.{Standing, AnyTurn, Chosen, AnyPick, gatesIn, firstOf, RanIs};
+ghost use Rattle.network.specs.Inside.Begin.{regionsFrom, linkAt, linkFrom, Space, Raw, Begun, Linkable, AllIs};
+ghost use Rattle.merge.specs.Inside.Does.{Does};
 
 // The heaviest live edge: its ends, its difference after the division by its weight, and its number.
 pub struct PoppedEdge {

@@ -1,6 +1,6 @@
 // The options of a call, handed on whole from the exported entry to the functions that read them.
 ghost use mathlib.Core.Path.{_≡_};
-ghost use Rattle.network.specs.Find.{frameOf};
+ghost use Rattle.network.specs.Inside.Find.{frameOf};
 
 pub struct Options {
     pub rays: u32,

@@ -1,8 +1,8 @@
 // From labels to the counts of all regions: edges, sizes and all merges, over the layout of the work memory (Layout, of the crate memory).
-ghost use Rattle.arithmetic.specs.Seg.{seg};
-ghost use Rattle.edges.specs.Sees.{shape};
+ghost use Rattle.lists.specs.Inside.Seg.{seg};
+ghost use Rattle.edges.specs.Inside.Sees.{shape};
 ghost use Rattle.network.specs.Network.{networkBy};
-ghost use Rattle.network.specs.Reduce.{Reduces, Reduced};
+ghost use Rattle.network.specs.Inside.Reduce.{Reduces, Reduced};
 
 // The labels of n gates are the first n words, k the number of regions, wide 2 × Nyquist.
 pub fn reduce(

@@ -2,10 +2,10 @@
 ghost use mathlib.Core.Path.{_≡_};
 ghost use Prim.Native.Nat.{_+_};
 ghost use lib.ListN.{length};
-ghost use Rattle.arithmetic.specs.Seg.{seg, put};
-ghost use Rattle.arithmetic.specs.Seq.{tabulate};
+ghost use Rattle.lists.specs.Inside.Seg.{seg, put};
+ghost use Rattle.lists.specs.Seq.{tabulate};
 ghost use Rattle.network.specs.Network.{sizeIn};
-ghost use Rattle.network.specs.Sizes.{Sizes};
+ghost use Rattle.network.specs.Inside.Sizes.{Sizes};
 
 // The sizes of labels 0 to k - 1 in the k words from `at`; the labels are the first n words.
 pub fn count_sizes(w: &mut [u32], n: usize, at: usize, k: usize)

@@ -17,8 +17,8 @@ use lib.ListN.{length, getD, set, take, drop}
 use lib.Seq.{getD-set-same, getD-set-other, length-take-le, length-front}
 use lib.Pow.{pow-add, pow-mono}
 use borrow.Author.Tests.{lt-ltb, le-ltb, ltb-true, eq-eqb, ne-eqb}
-use Rattle.arithmetic.proofs.SegLaws.{eq-or-ne}
-use Rattle.replay.specs.Words.{digitOf, digitsFrom}
+use Rattle.lists.proofs.SegLaws.{eq-or-ne}
+use Rattle.replay.specs.Inside.Words.{digitOf, digitsFrom}
 use Rattle.replay.specs.declared.words.Word.the-variants.{Malformed}
 
 -- ---- one digit of a word

@@ -5,7 +5,7 @@ ghost use mathlib.Core.Bool.{true};
 ghost use Prim.Native.Nat.{_*_, _≤_};
 ghost use lib.ListN.{length};
 ghost use lib.Ieee.{binary32, ofBits};
-ghost use Rattle.replay.specs.Gates.{Gates};
+ghost use Rattle.replay.specs.Inside.Gates.{Gates};
 use crate::words;
 
 // What a sweep is called with, but for its gates.

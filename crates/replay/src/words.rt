@@ -4,7 +4,7 @@ ghost use mathlib.Core.Path.{_≡_};
 ghost use mathlib.Core.Bool.{true};
 ghost use Prim.Native.Nat.{_+_, _*_, _≤_};
 ghost use lib.ListN.{length};
-ghost use Rattle.replay.specs.Words.{digitOf, digitsFrom, wordAt, Words};
+ghost use Rattle.replay.specs.Inside.Words.{digitOf, digitsFrom, wordAt, Words};
 
 // A word's number, or that no word stands there.
 pub enum Word {

@@ -3,15 +3,15 @@
 ghost use mathlib.Core.Path.{_≡_};
 ghost use Prim.Native.Nat.{_+_, _≤_};
 ghost use lib.ListN.{length};
-ghost use Rattle.arithmetic.specs.Seg.{Apart};
-ghost use Rattle.labels.specs.Sheet.{Sweep};
-ghost use Rattle.edges.specs.GatePairs.{Sheet};
-ghost use Rattle.edges.specs.Sorts.{Sorts};
-ghost use Rattle.edges.specs.Gather.{Legible, Gathers};
-ghost use Rattle.merge.specs.Mem.{view};
-ghost use Rattle.network.specs.Sizes.{Sizes};
-ghost use Rattle.network.specs.Begin.{Space, Raw};
-ghost use Rattle.sweep.specs.Finish.{Finishes};
+ghost use Rattle.lists.specs.Inside.Seg.{Apart};
+ghost use Rattle.labels.specs.Inside.Sheet.{Sweep};
+ghost use Rattle.edges.specs.Inside.GatePairs.{Sheet};
+ghost use Rattle.edges.specs.Inside.Sorts.{Sorts};
+ghost use Rattle.edges.specs.Inside.Gather.{Legible, Gathers};
+ghost use Rattle.merge.specs.Inside.Mem.{view};
+ghost use Rattle.network.specs.Inside.Sizes.{Sizes};
+ghost use Rattle.network.specs.Inside.Begin.{Space, Raw};
+ghost use Rattle.sweep.specs.Inside.Finish.{Finishes};
 
 // Questions 1 to 7.
 #[no_mangle]

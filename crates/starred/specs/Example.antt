@@ -10,7 +10,7 @@ use lib.IntN.{ℤ, pos, negsuc}
 use lib.ListN.{getD}
 use lib.Ieee.{nan, binary32, ofInt}
 use borrow.Author.Tests.{ltb-true}
-use Rattle.arithmetic.specs.Seq.{keep}
+use Rattle.lists.specs.Seq.{keep}
 use Rattle.arithmetic.specs.Intervals.{valid, range, limitsFor}
 use Rattle.arithmetic.specs.declared.intervals.Extremes.the-variants.{Both}
 use Rattle.sweep.specs.Evaluating.{evaluating}

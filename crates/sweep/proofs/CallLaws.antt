@@ -11,7 +11,7 @@ use lib.IntN.{ℤ, pos, negsuc}
 use lib.ListN.{getD}
 use lib.Ieee.{Float, nan, binary32, fits}
 use borrow.Author.Tests.{leb-true}
-use Rattle.arithmetic.specs.Asked.{Rising}
+use Rattle.arithmetic.specs.Inside.Asked.{Rising}
 use Rattle.arithmetic.specs.Intervals.{valid, range, adds, planOf, atLeast0, limitsOf, numberFor}
 use Rattle.arithmetic.specs.declared.intervals.Plan.{Plan}
 use Rattle.arithmetic.proofs.Plans.{plan-number, plan-limits-are}

@@ -11,11 +11,11 @@ use lib.ListN.{length, getD}
 use lib.IntN.{pos, negsuc}
 use lib.Ieee.{Float, fin, le}
 use borrow.Author.Tests.{leb-true, eqb-true, not-true, not-false}
-use Rattle.arithmetic.specs.Seq.{all}
+use Rattle.lists.specs.Seq.{all}
 use Rattle.arithmetic.specs.Intervals.{valid, sized, fair}
-use Rattle.arithmetic.specs.Asked.{Asked}
+use Rattle.arithmetic.specs.Inside.Asked.{Asked}
 use Rattle.arithmetic.proofs.Plans.{T-of}
-use Rattle.arithmetic.proofs.AllLaws.{and-left, and-right}
+use Rattle.lists.proofs.AllLaws.{and-left, and-right}
 use Rattle.sweep.specs.Sweep.{Sweep, Unfolded, unfolded}
 use Rattle.sweep.specs.Checks.{
   Lent,

@@ -13,9 +13,9 @@ use lib.Ieee.Fits.{up-pos, down-pos}
 use lib.Ieee.Scale.{round-same}
 use borrow.Author.Tests.{eqb-false}
 use Rattle.arithmetic.specs.Rounding.{roundEven, real, within}
-use Rattle.arithmetic.specs.Seq.{tabulate, all}
+use Rattle.lists.specs.Seq.{tabulate, all}
 use Rattle.arithmetic.specs.Evaluating.{evaluating}
-use Rattle.arithmetic.proofs.SeqLaws.{tab-same}
+use Rattle.lists.proofs.SeqLaws.{tab-same}
 use Rattle.labels.specs.Label.{Found}
 use Rattle.network.specs.Network.{alone, start, merges, replay, trace, countOf, gatesOf, networkBy, goodBy}
 use Rattle.sweep.specs.Sweep.{Sweep, orZero, sizes, networkOf, final, early, weighed, meanOf, offsetOf, gateCount, ended, finished, unfoldedBy}

@@ -8,18 +8,18 @@ use mathlib.Core.Option.{none}
 use lib.IntN.{pos}
 use lib.ListN.{length, take, drop, replicate}
 use lib.Ieee.{Float}
-use Rattle.arithmetic.specs.Asked.{Rising}
+use Rattle.arithmetic.specs.Inside.Asked.{Rising}
 use Rattle.arithmetic.specs.Rounding.{real}
 use Rattle.arithmetic.specs.Intervals.{atLeast0}
 use Rattle.arithmetic.specs.declared.intervals.Plan.{Plan}
 use Rattle.arithmetic.proofs.Plans.{no-nan}
-use Rattle.network.specs.Find.{limitsBy, Finds}
+use Rattle.network.specs.Inside.Find.{limitsBy, Finds}
 use Rattle.network.specs.declared.options.Options.{Options}
 use Rattle.sweep.specs.Sweep.{Sweep, unfolded}
 use Rattle.sweep.specs.Checks.{Outcome, refused, accepted, firstNo, sevenOf, gatesIn, wordsFor, floatsFor, asked9}
 use Rattle.sweep.specs.Call.{Memory, Answer, memoryOf, answerBy, lengths, cleared, clearedFor, ending}
 use Rattle.sweep.specs.Entry.{sweepBy}
-use Rattle.sweep.specs.Finish.{allZero}
+use Rattle.sweep.specs.Inside.Finish.{allZero}
 use Rattle.sweep.proofs.CheckLaws.{Passed, passed}
 
 -- as much as is lent of a work memory

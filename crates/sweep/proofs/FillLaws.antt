@@ -6,10 +6,10 @@ use mathlib.Core.Logic.{⊎-elim}
 use mathlib.Core.List.{List, _++_, append-nil}
 use lib.ListN.{length, getD, set, drop, replicate, length-append, length-drop, length-replicate, getD-replicate, List·getD-append}
 use lib.Seq.{getD-append-add, getD-drop, drop-length}
-use Rattle.arithmetic.specs.Seq.{upto, tabulate}
-use Rattle.arithmetic.proofs.SeqLaws.{tab-at, tab-length, tab-snoc}
-use Rattle.arithmetic.specs.Seg.{put}
-use Rattle.arithmetic.proofs.SegLaws.{lt-or-le, length-put, getD-put-in, getD-put-above, put-snoc, put-nil, ext-any}
+use Rattle.lists.specs.Seq.{upto, tabulate}
+use Rattle.lists.proofs.SeqLaws.{tab-at, tab-length, tab-snoc}
+use Rattle.lists.specs.Inside.Seg.{put}
+use Rattle.lists.proofs.SegLaws.{lt-or-le, length-put, getD-put-in, getD-put-above, put-snoc, put-nil, ext-any}
 
 module _ {A : Type 0} where
   -- what is put at the front

@@ -10,8 +10,8 @@ use lib.ListN.{length, set}
 use lib.Ieee.{binary64, div}
 use borrow.Author.Tests.{eq-eqb, ne-eqb}
 use Rattle.arithmetic.specs.Rounding.{real}
-use Rattle.sweep.specs.Mean.{sumFrom, sizeAt, heldAt, Writes}
-use Rattle.sweep.specs.Finish.{meanBy, offsetBy, Finishes}
+use Rattle.sweep.specs.Inside.Mean.{sumFrom, sizeAt, heldAt, Writes}
+use Rattle.sweep.specs.Inside.Finish.{meanBy, offsetBy, Finishes}
 use Rattle.sweep.proofs.SignedLaws.{mean-near}
 
 -- the pair is written whole

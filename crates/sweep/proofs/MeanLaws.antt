@@ -8,16 +8,16 @@ use mathlib.Core.List.{List, [], _∷_, map}
 use lib.IntN.{ℤ, pos, negsuc, negℤ, subℕ, _+ℤ_, _-ℤ_, _*ℤ_, +ℤ-assoc, +ℤ-comm, +ℤ-idl, negℤ-+ℤ}
 use lib.ListN.{length}
 use borrow.Author.Tests.{lt-ltb, le-ltb, ne-eqb}
-use Rattle.arithmetic.specs.Seq.{upto}
-use Rattle.arithmetic.proofs.SeqLaws.{eqb-refl}
+use Rattle.lists.specs.Seq.{upto}
+use Rattle.lists.proofs.SeqLaws.{eqb-refl}
 use Rattle.network.specs.Network.{Region, State, Edge, Plan, plan, at, step, stepTo, merge, move, replay, start, countOf, alone, gatesOf}
 use Rattle.edges.specs.declared.edges.EdgeRecord.{EdgeRecord}
 use mathlib.Core.Option.{Option, none, some}
 use lib.Ieee.{Float}
-use Rattle.merge.specs.Steps.{unbias}
-use Rattle.merge.proofs.merge.Bias.{lt-or-le, unbias-up, unbias-down}
+use Rattle.merge.specs.Inside.Steps.{unbias}
+use Rattle.merge.proofs.Bias.{lt-or-le, unbias-up, unbias-down}
 use Rattle.sweep.specs.Sweep.{weighed}
-use Rattle.sweep.specs.Mean.{sumFrom}
+use Rattle.sweep.specs.Inside.Mean.{sumFrom}
 use Rattle.sweep.proofs.SignedLaws.{sub-is}
 
 -- ---- differences of two numbers

@@ -10,17 +10,17 @@ use lib.ListN.{length, getD}
 use lib.Ieee.{Float, binary64, div}
 use borrow.Author.Tests.{eq-eqb, eqb-true, ne-eqb}
 use Rattle.arithmetic.specs.Rounding.{roundEven, real}
-use Rattle.arithmetic.specs.Seq.{tabulate, keep}
+use Rattle.lists.specs.Seq.{tabulate, keep}
 use Rattle.arithmetic.specs.Intervals.{folded}
-use Rattle.arithmetic.proofs.SeqLaws.{tab-at, tab-same, keep-same}
-use Rattle.arithmetic.proofs.SegLaws.{getD-seg}
+use Rattle.lists.proofs.SeqLaws.{tab-at, tab-same, keep-same}
+use Rattle.lists.proofs.SegLaws.{getD-seg}
 use Rattle.labels.specs.Label.{Found}
 use Rattle.network.specs.Network.{State, sizeIn, replay, merges, countOf, gatesOf, networkBy, goodBy}
 use Rattle.edges.specs.Edges.{pairs, used}
-use Rattle.edges.specs.Sees.{shape}
-use Rattle.merge.specs.Steps.{unbias}
-use Rattle.memory.specs.Layout.{sizesAt, countsAt}
-use Rattle.network.specs.Find.{frameOf, networkFor, Leaves}
+use Rattle.edges.specs.Inside.Sees.{shape}
+use Rattle.merge.specs.Inside.Steps.{unbias}
+use Rattle.memory.specs.Inside.Layout.{sizesAt, countsAt}
+use Rattle.network.specs.Inside.Find.{frameOf, networkFor, Leaves}
 use Rattle.network.specs.declared.options.Options.{Options}
 use Rattle.network.specs.declared.find.Run.{Run}
 use Rattle.network.specs.declared.find.Finding.{Finding}
@@ -29,8 +29,8 @@ use Rattle.sweep.specs.Sweep.{Sweep, orZero, weighed, meanOf, networkOf,
 use Rattle.sweep.specs.Checks.{Outcome, firstNo, answered, asked9}
 use Rattle.sweep.specs.Call.{ending}
 use Rattle.sweep.specs.Entry.{sweepBy}
-use Rattle.sweep.specs.Mean.{sumFrom, sizeAt, heldAt}
-use Rattle.sweep.specs.Finish.{offsetBy, countsBy, Finishes, Ready, lent, written}
+use Rattle.sweep.specs.Inside.Mean.{sumFrom, sizeAt, heldAt}
+use Rattle.sweep.specs.Inside.Finish.{offsetBy, countsBy, Finishes, Ready, lent, written}
 use Rattle.sweep.proofs.MergeNumber.{merges-most, parts-few}
 use Rattle.sweep.proofs.MeanLaws.{weighed-is, gates-is, last-labels, last-sizes}
 use Rattle.sweep.proofs.EarlyEnd.{ends-same}

@@ -10,12 +10,12 @@ use lib.Dec.{eqb}
 use lib.ListN.{length, getD, length-append}
 use lib.Ieee.{Float, nan}
 use borrow.Author.Tests.{eqb-true, ne-eqb}
-use Rattle.arithmetic.specs.Seq.{upto, each, keep}
-use Rattle.arithmetic.proofs.SeqLaws.{keep-most}
+use Rattle.lists.specs.Seq.{upto, each, keep}
+use Rattle.lists.proofs.SeqLaws.{keep-most}
 use Rattle.edges.specs.Edges.{Shape, Direction, left, right, top, bottom, sees, Pair, pairTo, pairsAt, pairs, gathered, firstIs, secondIs, recordsOf, records, greaterFirst, used}
 use Rattle.network.specs.Network.{State, Edge, choose, follow, step, run, merges, start, numbered, networkBy}
 use Rattle.edges.specs.declared.edges.EdgeRecord.{EdgeRecord}
-use Rattle.sweep.specs.Mean.{sumFrom}
+use Rattle.sweep.specs.Inside.Mean.{sumFrom}
 
 -- ---- a list cut by a key: the parts together are no longer than the list
 

@@ -15,9 +15,9 @@ use lib.ListN.{length, getD, drop, drop-of-length-le}
 use lib.Seq.{drop-cons}
 use lib.Ieee.{Float, nan}
 use borrow.Author.Tests.{le-leb, lt-leb, ltb-true, eq-eqb, ne-eqb}
-use Rattle.arithmetic.specs.Seq.{all}
+use Rattle.lists.specs.Seq.{all}
 use Rattle.arithmetic.specs.Intervals.{valid, fair}
-use Rattle.arithmetic.proofs.AllLaws.{and-left, and-right}
+use Rattle.lists.proofs.AllLaws.{and-left, and-right}
 use Rattle.sweep.specs.Checks.{Question, firstNo, inMask, inSpeed}
 use Rattle.sweep.specs.Entry.{answerOf}
 

@@ -19,8 +19,8 @@ use Rattle.arithmetic.specs.Rounding.{within, nearestWhole, ifWithin, roundEven
 use Rattle.arithmetic.specs.declared.rounding.Rounded.{Rounded}
 use Rattle.arithmetic.specs.declared.rounding.Rounded.the-variants.{Whole, Outside}
 use Rattle.arithmetic.proofs.Plans.{mag-add}
-use Rattle.merge.specs.Steps.{unbias}
-use Rattle.merge.proofs.merge.Bias.{lt-or-le, unbias-up, unbias-down}
+use Rattle.merge.specs.Inside.Steps.{unbias}
+use Rattle.merge.proofs.Bias.{lt-or-le, unbias-up, unbias-down}
 use Rattle.sweep.specs.Sweep.{orZero, gateCount}
 
 -- ---- the count of a gate

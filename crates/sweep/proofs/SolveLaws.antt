@@ -9,14 +9,14 @@ use lib.Ieee.{Float}
 use Rattle.arithmetic.specs.Rounding.{real}
 use Rattle.arithmetic.specs.declared.intervals.Plan.{Plan}
 use Rattle.labels.proofs.RegionLaws.{labels-long, label-at-most, number-at-most}
-use Rattle.network.specs.Find.{limitsBy, regionsBy, networkFor, Finds, Leaves}
+use Rattle.network.specs.Inside.Find.{limitsBy, regionsBy, networkFor, Finds, Leaves}
 use Rattle.network.specs.declared.options.Options.{Options}
 use Rattle.network.specs.declared.find.Finding.{Finding}
 use Rattle.sweep.specs.Sweep.{unfoldedBy, unfolded, regionsOf}
 use Rattle.sweep.specs.Checks.{Outcome, refused, accepted, asked9}
 use Rattle.sweep.specs.Call.{Answer, ending, memoryOf, answerBy}
 use Rattle.sweep.specs.Entry.{sweepBy}
-use Rattle.sweep.specs.Finish.{Ready, lent, written, allZero}
+use Rattle.sweep.specs.Inside.Finish.{Ready, lent, written, allZero}
 use Rattle.sweep.proofs.MergeLaws as M
 
 -- counts and pair of an answer, with these work memories

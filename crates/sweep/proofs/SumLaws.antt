@@ -5,8 +5,8 @@ use native.Mathlib.Nat.{mul-le-mul-left}
 use mathlib.Core.Path.{_≡_, refl, sym, ap, _∙_}
 use mathlib.Core.List.{List}
 use lib.ListN.{length, getD}
-use Rattle.memory.specs.Layout.{sizesAt, countsAt}
-use Rattle.sweep.specs.Mean.{sumFrom, sizeAt, heldAt, Tabled}
+use Rattle.memory.specs.Inside.Layout.{sizesAt, countsAt}
+use Rattle.sweep.specs.Inside.Mean.{sumFrom, sizeAt, heldAt, Tabled}
 
 -- the sum from l on is f l and the sum after it
 pub sum-next : (f : ℕ → ℕ) (k l : ℕ) → 0 < l → l ≤ k → sumFrom f (l - 1 + 1) (k - (l - 1)) ≡ f l + sumFrom f (l + 1) (k - l)

@@ -15,12 +15,12 @@ use mir.Val.{SFits, toZ, ofZ}
 use mir.ValLaws.{toZ-ofZ}
 use lib.Ieee.{Float, nan}
 use borrow.Author.Tests.{eqb-true, eq-eqb, ne-eqb, leb-true, leb-false, lt-ltb, le-ltb}
-use Rattle.arithmetic.specs.Seq.{upto, all, tabulate}
-use Rattle.arithmetic.specs.Asked.{front}
-use Rattle.arithmetic.proofs.SeqLaws.{tab-length, tab-snoc}
+use Rattle.lists.specs.Seq.{upto, all, tabulate}
+use Rattle.arithmetic.specs.Inside.Asked.{front}
+use Rattle.lists.proofs.SeqLaws.{tab-length, tab-snoc}
 use Rattle.arithmetic.proofs.IntervalLaws.{front-more, front-none}
 use Rattle.network.specs.Network.{bounded}
-use Rattle.arithmetic.proofs.AllLaws.{and-left, and-right}
+use Rattle.lists.proofs.AllLaws.{and-left, and-right}
 use Rattle.sweep.specs.Checks.{inLength}
 use Rattle.sweep.specs.Entry.{answerOf}
 use Rattle.sweep.specs.Velocity.{Counted, Written, unfoldedAt, velocities, ownLong, inCounts, askedVelocity, callVelocity}

@@ -6,7 +6,7 @@ use lib.Dec.{eqb, ltb}
 use lib.ListN.{length, getD}
 use lib.IntN.{ℤ, pos, _+ℤ_, _-ℤ_, _*ℤ_}
 use lib.Ieee.{Float, binary64, div}
-use Rattle.arithmetic.specs.Seq.{upto, tabulate}
+use Rattle.lists.specs.Seq.{upto, tabulate}
 use Rattle.arithmetic.specs.Rounding.{roundEven, real}
 use Rattle.arithmetic.specs.declared.rounding.Rounded.{Rounded}
 use Rattle.arithmetic.specs.declared.rounding.Rounded.the-variants.{Whole, Outside}

@@ -7,7 +7,7 @@ use lib.Dec.{eqb}
 use lib.ListN.{length, getD}
 use lib.IntN.{ℤ, pos}
 use lib.Ieee.{Float, nan, binary64, add, mul}
-use Rattle.arithmetic.specs.Seq.{upto, all, tabulate}
+use Rattle.lists.specs.Seq.{upto, all, tabulate}
 use Rattle.arithmetic.specs.Rounding.{real}
 use Rattle.arithmetic.specs.Intervals.{folded, sized}
 use Rattle.network.specs.Network.{bounded}

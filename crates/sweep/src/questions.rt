@@ -5,7 +5,7 @@ ghost use Prim.Native.Nat.{_*_, _≤_};
 ghost use lib.Dec.{eqb, leb};
 ghost use lib.ListN.{length, getD};
 ghost use lib.IntN.{pos};
-ghost use Rattle.arithmetic.specs.Seq.{upto, all};
+ghost use Rattle.lists.specs.Seq.{upto, all};
 ghost use Rattle.arithmetic.specs.Intervals.{sized, fair};
 ghost use Rattle.network.specs.Network.{bounded};
 ghost use Rattle.sweep.specs.Checks.{firstNo, seven, room, atMost, wordsFor, floatsFor, inSize, inLength, inMask, inSpeed};

@@ -5,17 +5,17 @@ ghost use mathlib.Core.List.{List, [], _∷_};
 ghost use lib.IntN.{ℤ, pos, natAbs, subℕ};
 ghost use lib.ListN.{length, getD, replicate};
 ghost use lib.Ieee.{binary64, div};
-ghost use Rattle.arithmetic.specs.Seq.{tabulate};
+ghost use Rattle.lists.specs.Seq.{tabulate};
 ghost use Rattle.arithmetic.specs.Rounding.{roundEven, real};
-ghost use Rattle.merge.specs.Steps.{unbias};
-ghost use Rattle.memory.specs.Layout.{countsAt};
-ghost use Rattle.network.specs.Find.{limitsBy, Finds};
+ghost use Rattle.merge.specs.Inside.Steps.{unbias};
+ghost use Rattle.memory.specs.Inside.Layout.{countsAt};
+ghost use Rattle.network.specs.Inside.Find.{limitsBy, Finds};
 ghost use Rattle.sweep.specs.Sweep.{orZero, gateCount, unfolded};
-ghost use Rattle.sweep.specs.Mean.{sumFrom, sizeAt, heldAt, Tabled, Writes};
+ghost use Rattle.sweep.specs.Inside.Mean.{sumFrom, sizeAt, heldAt, Tabled, Writes};
 ghost use Rattle.sweep.specs.Checks.{asked9};
 ghost use Rattle.sweep.specs.Call.{ending, memoryOf, answerBy};
 ghost use Rattle.sweep.specs.Entry.{sweepBy};
-ghost use Rattle.sweep.specs.Finish.{offsetBy, countsBy, Finishes, Ready, lent, written, allZero};
+ghost use Rattle.sweep.specs.Inside.Finish.{offsetBy, countsBy, Finishes, Ready, lent, written, allZero};
 
 // The gates of all regions, and their counts, with 1,000 added to each, summed over them.
 pub struct Totals {

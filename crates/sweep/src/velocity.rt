@@ -3,7 +3,7 @@ ghost use mathlib.Core.Path.{_≡_};
 ghost use lib.ListN.{length, getD};
 ghost use lib.IntN.{pos};
 ghost use lib.Ieee.{nan};
-ghost use Rattle.arithmetic.specs.Seq.{tabulate};
+ghost use Rattle.lists.specs.Seq.{tabulate};
 ghost use Rattle.sweep.specs.Velocity.{unfoldedAt, callVelocity, counted, writtenBy};
 
 // A gate's unfolded velocity: 0 where it is masked.

@@ -12,8 +12,8 @@ use Prim.Native.Nat.{ℕ, suc, _-_, _^_, _≤_, _<_}
 use lib.ListN.{length, length-set}
 use Rattle.arithmetic.proofs.intervals.linspace.Statement.{statement}
 use Rattle.arithmetic.proofs.intervals.linspace.Tie as tie
-use Rattle.arithmetic.specs.Asked.{front}
-use Rattle.arithmetic.specs.Seq.{tabulate}
+use Rattle.arithmetic.specs.Inside.Asked.{front}
+use Rattle.lists.specs.Seq.{tabulate}
 use Rattle.arithmetic.specs.Rounding.{real}
 
 abbrev Inv-loop : tie.InvT-loop

@@ -9,7 +9,7 @@ use lib.ListN.{length}
 use borrow.Author.Needs.{needs}
 use Rattle.arithmetic.proofs.intervals.place.Statement.{statement}
 use Rattle.arithmetic.proofs.intervals.place.Tie as tie
-use Rattle.arithmetic.specs.Asked.{front}
+use Rattle.arithmetic.specs.Inside.Asked.{front}
 
 cast-linspace : tie.Need-cast-linspace
 cast-linspace c = length-fits (c .before .before .args .number) (c .before .before .fits .number) (c .if1 .taken)

@@ -1,5 +1,5 @@
 -- `edges::edges::count_runs` meets its contract. Assumes nothing.
-use Rattle.edges.proofs.edges.RunCount.{Counting, count-begin, count-on, count-end, count-none}
+use Rattle.edges.proofs.RunCount.{Counting, count-begin, count-on, count-end, count-none}
 use native.Mathlib.Omega.{arith}
 use Prim.Native.Nat.{_-_}
 use Rattle.edges.proofs.edges.count_runs.Statement.{statement}

@@ -1,5 +1,5 @@
 -- `edges::edges::find_edges` meets its contract. Assumes nothing.
-use Rattle.edges.proofs.edges.Assembly.{sorts, ready, gathers, edged}
+use Rattle.edges.proofs.Assembly.{sorts, ready, gathers, edged}
 use borrow.Author.Needs.{needs}
 use Rattle.edges.proofs.edges.find_edges.Statement.{statement}
 use Rattle.edges.proofs.edges.find_edges.Tie as tie

@@ -3,9 +3,9 @@ use borrow.Author.Needs.{needs}
 use native.Mathlib.Omega.{arith}
 use mathlib.Core.Path.{refl, ap, _∙_}
 use Prim.Native.Nat.{_-_, _≤_}
-use Rattle.edges.proofs.edges.Going.{lw, ld}
+use Rattle.edges.proofs.Going.{lw, ld}
 use Rattle.edges.specs.Edges.{begun}
-use Rattle.edges.proofs.edges.Going.{Going, going-begin, going-ready, going-slot, going-on, going-end, none-gathered}
+use Rattle.edges.proofs.Going.{Going, going-begin, going-ready, going-slot, going-on, going-end, none-gathered}
 use Rattle.edges.proofs.edges.gather.Statement.{statement}
 use Rattle.edges.proofs.edges.gather.Tie as tie
 

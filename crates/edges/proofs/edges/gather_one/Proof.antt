@@ -3,8 +3,8 @@ use native.Mathlib.Omega.{arith}
 use mathlib.Core.Path.{refl}
 use Prim.Native.Nat.{_+_, _-_}
 use borrow.Author.Needs.{needs}
-use Rattle.edges.proofs.edges.Going.{turned-on, turned-off}
-use Rattle.edges.specs.Gather.{pairAt}
+use Rattle.edges.proofs.Going.{turned-on, turned-off}
+use Rattle.edges.specs.Inside.Gather.{pairAt}
 use Rattle.edges.proofs.edges.gather_one.Statement.{statement}
 use Rattle.edges.proofs.edges.gather_one.Tie as tie
 

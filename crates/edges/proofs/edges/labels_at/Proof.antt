@@ -2,7 +2,7 @@
 use native.Mathlib.Omega.{arith}
 use Prim.Native.Nat.{_-_}
 use borrow.Author.Needs.{needs}
-use Rattle.edges.proofs.edges.GatherLaws.{Found, found, are-labels}
+use Rattle.edges.proofs.GatherLaws.{Found, found, are-labels}
 use Rattle.edges.proofs.edges.labels_at.Statement.{statement}
 use Rattle.edges.proofs.edges.labels_at.Tie as tie
 

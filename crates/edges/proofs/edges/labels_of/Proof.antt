@@ -4,9 +4,9 @@ use native.Mathlib.Omega.{arith}
 use mathlib.Core.Path.{_≡_, refl, ap, _∙_}
 use Prim.Native.Nat.{ℕ, _-_, _≤_}
 use lib.ListN.{length, length-set}
-use Rattle.edges.proofs.edges.Fills.{Turn, turn, labels-begin}
-use Rattle.edges.specs.Sorts.{labelsOf}
-use Rattle.arithmetic.specs.Seg.{put}
+use Rattle.edges.proofs.Fills.{Turn, turn, labels-begin}
+use Rattle.edges.specs.Inside.Sorts.{labelsOf}
+use Rattle.lists.specs.Inside.Seg.{put}
 use Rattle.edges.proofs.edges.labels_of.Statement.{statement}
 use Rattle.edges.proofs.edges.labels_of.Tie as tie
 

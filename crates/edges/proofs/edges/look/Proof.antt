@@ -4,9 +4,9 @@ use native.Mathlib.Omega.{arith}
 use mathlib.Core.Path.{_≡_, sym, ap, _∙_}
 use Prim.Native.Nat.{ℕ, suc, _-_, _*_, _<_}
 use mathlib.Core.Option.{some}
-use Rattle.edges.proofs.edges.Looking.{none-on, seen-on, skip-on, last-on, begins}
-use Rattle.edges.proofs.edges.Next.{next-in}
-use Rattle.edges.specs.Sees.{shape, way, answer}
+use Rattle.edges.proofs.Looking.{none-on, seen-on, skip-on, last-on, begins}
+use Rattle.edges.proofs.Next.{next-in}
+use Rattle.edges.specs.Inside.Sees.{shape, way, answer}
 use Rattle.edges.specs.Edges.{sees, next}
 use Rattle.edges.specs.Edges as edges
 use Rattle.edges.proofs.edges.look.Statement.{statement}

@@ -2,12 +2,12 @@
 use borrow.Author.Needs.{needs}
 use native.Mathlib.Omega.{arith}
 use Prim.Native.Nat.{_-_, _*_, _≤_}
-use Rattle.edges.proofs.edges.Stored.{adds-length}
-use Rattle.edges.proofs.edges.PairTurn.{scan-begin, scan-place, scan-on, scan-most, scan-end}
-use Rattle.edges.specs.GatePairs.{Adds, gatePairsAt}
-use Rattle.edges.specs.Sees.{shape}
-use Rattle.arithmetic.specs.Seg.{seg}
-use Rattle.arithmetic.specs.Seq.{upto, each}
+use Rattle.edges.proofs.Stored.{adds-length}
+use Rattle.edges.proofs.PairTurn.{scan-begin, scan-place, scan-on, scan-most, scan-end}
+use Rattle.edges.specs.Inside.GatePairs.{Adds, gatePairsAt}
+use Rattle.edges.specs.Inside.Sees.{shape}
+use Rattle.lists.specs.Inside.Seg.{seg}
+use Rattle.lists.specs.Seq.{upto, each}
 use Rattle.edges.proofs.edges.pair_all.Statement.{statement}
 use Rattle.edges.proofs.edges.pair_all.Tie as tie
 

@@ -4,7 +4,7 @@ use mathlib.Core.Path.{refl}
 use Prim.Native.Nat.{_+_, _-_, _*_}
 use lib.ListN.{getD}
 use borrow.Author.Needs.{needs}
-use Rattle.edges.proofs.edges.GatherLaws.{Found, found, is-pair}
+use Rattle.edges.proofs.GatherLaws.{Found, found, is-pair}
 use Rattle.edges.proofs.edges.pair_at.Statement.{statement}
 use Rattle.edges.proofs.edges.pair_at.Tie as tie
 

@@ -2,7 +2,7 @@
 use native.Mathlib.Omega.{arith}
 use Prim.Native.Nat.{_-_}
 use borrow.Author.Needs.{needs}
-use Rattle.edges.proofs.edges.PairTurn.{place-less, place-on, four, unlabelled}
+use Rattle.edges.proofs.PairTurn.{place-less, place-on, four, unlabelled}
 use Rattle.edges.specs.Edges.{left, right, top}
 use Rattle.edges.proofs.edges.pair_gate.Statement.{statement}
 use Rattle.edges.proofs.edges.pair_gate.Tie as tie

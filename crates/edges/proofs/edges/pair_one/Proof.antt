@@ -5,10 +5,10 @@ use Prim.Native.Nat.{ℕ, _-_, _<_}
 use lib.ListN.{length-set}
 use borrow.Author.Needs.{needs}
 use mathlib.Core.Option.{some}
-use Rattle.edges.proofs.edges.PairTurn.{saw-none, saw-other, saw-less, seen-in}
-use Rattle.edges.specs.Sees.{shape, way, answer}
+use Rattle.edges.proofs.PairTurn.{saw-none, saw-other, saw-less, seen-in}
+use Rattle.edges.specs.Inside.Sees.{shape, way, answer}
 use Rattle.edges.specs.Edges.{sees}
-use Rattle.arithmetic.specs.Seg.{seg}
+use Rattle.lists.specs.Inside.Seg.{seg}
 use Rattle.edges.proofs.edges.pair_one.Statement.{statement}
 use Rattle.edges.proofs.edges.pair_one.Tie as tie
 

@@ -4,7 +4,7 @@ use mathlib.Core.Path.{refl, ap}
 use Prim.Native.Nat.{_-_}
 use lib.ListN.{set, length-set}
 use borrow.Author.Needs.{needs}
-use Rattle.edges.specs.Gather.{written}
+use Rattle.edges.specs.Inside.Gather.{written}
 use Rattle.edges.proofs.edges.put_edge.Statement.{statement}
 use Rattle.edges.proofs.edges.put_edge.Tie as tie
 

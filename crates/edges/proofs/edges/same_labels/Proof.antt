@@ -2,7 +2,7 @@
 use mathlib.Core.Path.{refl, sym, ap}
 use Prim.Native.Nat.{_-_}
 use mathlib.Core.Bool.{_&&_, Bool}
-use Rattle.edges.specs.Order.{alike}
+use Rattle.edges.specs.Inside.Order.{alike}
 use Rattle.edges.proofs.edges.same_labels.Statement.{statement}
 use Rattle.edges.proofs.edges.same_labels.Tie as tie
 use borrow.Author.Tests.{ne-eqb, eq-eqb}

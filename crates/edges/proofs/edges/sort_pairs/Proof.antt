@@ -1,7 +1,7 @@
 -- `edges::edges::sort_pairs` meets its contract. Assumes nothing.
 use Prim.Native.Nat.{_-_}
 use borrow.Author.Needs.{needs}
-use Rattle.edges.proofs.edges.SortSteps.{reads-one, reads-two, sort-lay, sort-done}
+use Rattle.edges.proofs.SortSteps.{reads-one, reads-two, sort-lay, sort-done}
 use Rattle.edges.proofs.edges.sort_pairs.Statement.{statement}
 use Rattle.edges.proofs.edges.sort_pairs.Tie as tie
 

@@ -3,7 +3,7 @@ use mathlib.Core.Path.{sym, ap, _∙_}
 use Prim.Native.Nat.{_-_}
 use borrow.Author.Needs.{needs}
 use Rattle.edges.specs.declared.edges.Way.{Way}
-use Rattle.edges.specs.Sees.{shape, way}
+use Rattle.edges.specs.Inside.Sees.{shape, way}
 use Rattle.edges.specs.Edges.{next}
 use Rattle.edges.proofs.edges.step.Statement.{statement}
 use Rattle.edges.proofs.edges.step.Tie as tie

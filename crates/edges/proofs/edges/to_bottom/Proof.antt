@@ -5,8 +5,8 @@ use Prim.Native.Nat.{_-_}
 use borrow.Author.Needs.{needs}
 use mathlib.Core.Option.{some}
 use native.Mathlib.Numerals.{add-one}
-use Rattle.edges.specs.Sees.{shape}
-use Rattle.edges.proofs.edges.Next.{holds, bottom-none, bottom-on}
+use Rattle.edges.specs.Inside.Sees.{shape}
+use Rattle.edges.proofs.Next.{holds, bottom-none, bottom-on}
 use Rattle.edges.proofs.edges.to_bottom.Statement.{statement}
 use Rattle.edges.proofs.edges.to_bottom.Tie as tie
 

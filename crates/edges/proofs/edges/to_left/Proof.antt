@@ -2,8 +2,8 @@
 use native.Mathlib.Omega.{arith}
 use mathlib.Core.Path.{sym}
 use Prim.Native.Nat.{_-_}
-use Rattle.edges.proofs.edges.Next.{holds, left-back, left-none, left-wrap}
-use Rattle.edges.specs.Sees.{shape}
+use Rattle.edges.proofs.Next.{holds, left-back, left-none, left-wrap}
+use Rattle.edges.specs.Inside.Sees.{shape}
 use Rattle.edges.proofs.edges.to_left.Statement.{statement}
 use Rattle.edges.proofs.edges.to_left.Tie as tie
 

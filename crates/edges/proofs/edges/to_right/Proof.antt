@@ -3,8 +3,8 @@ use native.Mathlib.Omega.{arith}
 use mathlib.Core.Path.{sym}
 use Prim.Native.Nat.{_-_}
 use borrow.Author.Needs.{needs}
-use Rattle.edges.specs.Sees.{shape}
-use Rattle.edges.proofs.edges.Next.{holds, right-on, right-none, right-wrap}
+use Rattle.edges.specs.Inside.Sees.{shape}
+use Rattle.edges.proofs.Next.{holds, right-on, right-none, right-wrap}
 use Rattle.edges.proofs.edges.to_right.Statement.{statement}
 use Rattle.edges.proofs.edges.to_right.Tie as tie
 

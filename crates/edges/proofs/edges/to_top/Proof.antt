@@ -3,8 +3,8 @@ use native.Mathlib.Omega.{arith}
 use mathlib.Core.Path.{_≡_, sym}
 use Prim.Native.Nat.{ℕ, zero, suc, _-_, _%_, _≤_}
 use native.Mathlib.Nat.{zero-mod}
-use Rattle.edges.specs.Sees.{shape}
-use Rattle.edges.proofs.edges.Next.{holds, top-none, top-back}
+use Rattle.edges.specs.Inside.Sees.{shape}
+use Rattle.edges.proofs.Next.{holds, top-none, top-back}
 use Rattle.edges.proofs.edges.to_top.Statement.{statement}
 use Rattle.edges.proofs.edges.to_top.Tie as tie
 

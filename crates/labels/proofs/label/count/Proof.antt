@@ -1,11 +1,11 @@
 -- `labels::label::count` meets its contract. The invariant: each counter holds how many areas of its band have their first gate before g. Assumes nothing.
 use Rattle.labels.proofs.GateLaws.{counts-none, counts-both, counts-asks, counted-after}
 use Rattle.labels.proofs.CountLaws.{count-begin}
-use Rattle.labels.specs.Sheet.{Counts}
-use Rattle.labels.specs.Numbering.{Counted}
-use Rattle.labels.specs.Bands.{marks}
-use Rattle.labels.specs.Forest.{Forest}
-use Rattle.arithmetic.specs.Seg.{seg}
+use Rattle.labels.specs.Inside.Sheet.{Counts}
+use Rattle.labels.specs.Inside.Numbering.{Counted}
+use Rattle.labels.specs.Inside.Bands.{marks}
+use Rattle.labels.specs.Inside.Forest.{Forest}
+use Rattle.lists.specs.Inside.Seg.{seg}
 use native.Mathlib.Omega.{arith}
 use mathlib.Core.Path.{_≡_, refl, _∙_, subst}
 use mathlib.Core.List.{List}

@@ -5,7 +5,7 @@ use mathlib.Core.List.{List}
 use Prim.Native.Nat.{ℕ, suc, _+_, _-_, _<_, _^_}
 use lib.ListN.{length, getD, length-set}
 use mathlib.Core.Bool.{Bool}
-use Rattle.labels.specs.Forest.{Forest}
+use Rattle.labels.specs.Inside.Forest.{Forest}
 use Rattle.labels.proofs.ForestLaws.{Turn, turn, gate-in, in-length, At, next, found}
 use Rattle.labels.proofs.label.find.Statement.{statement}
 use Rattle.labels.proofs.label.find.Tie as tie

@@ -1,8 +1,8 @@
 -- `labels::label::link` meets its contract. Assumes nothing.
 use Rattle.labels.proofs.SheetLaws.{band-at, joins-none, joins-both, still-banded, still-treed, after}
 use Rattle.labels.proofs.JointLaws.{by-none, by-both, links-none}
-use Rattle.arithmetic.specs.Seg.{seg}
-use Rattle.labels.specs.Bands.{aboveIn, beforeIn, linksIn}
+use Rattle.lists.specs.Inside.Seg.{seg}
+use Rattle.labels.specs.Inside.Bands.{aboveIn, beforeIn, linksIn}
 use Rattle.labels.specs.Label.{join}
 use mathlib.Core.List.{foldl, List}
 use native.Mathlib.Omega.{arith}

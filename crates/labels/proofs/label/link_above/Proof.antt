@@ -1,8 +1,8 @@
 -- `labels::label::link_above` meets its contract. Assumes nothing.
 use Rattle.labels.proofs.SheetLaws.{band-at, banded, unite-asks, united, joins-none}
 use Rattle.labels.proofs.JointLaws.{by-none, above-edge, above-none, above-one}
-use Rattle.arithmetic.specs.Seg.{seg}
-use Rattle.labels.specs.Bands.{aboveIn}
+use Rattle.lists.specs.Inside.Seg.{seg}
+use Rattle.labels.specs.Inside.Bands.{aboveIn}
 use native.Mathlib.Omega.{arith}
 use mathlib.Core.Path.{_≡_, sym, _∙_}
 use mathlib.Core.List.{List}

@@ -1,10 +1,10 @@
 -- `labels::label::link_all` meets its contract. The invariant: the joins that are left from gate g on give what all joins give from the first. Assumes nothing.
 use Rattle.labels.proofs.SheetLaws.{bands-long, words-long, joins-none, joins-both, still-treed, after}
 use Rattle.labels.proofs.JointLaws.{Joining, step, end}
-use Rattle.arithmetic.specs.Seg.{seg}
-use Rattle.labels.specs.Bands.{marks, linksIn}
-use Rattle.labels.specs.Sheet.{Joins}
-use Rattle.labels.specs.Forest.{Forest}
+use Rattle.lists.specs.Inside.Seg.{seg}
+use Rattle.labels.specs.Inside.Bands.{marks, linksIn}
+use Rattle.labels.specs.Inside.Sheet.{Joins}
+use Rattle.labels.specs.Inside.Forest.{Forest}
 use native.Mathlib.Omega.{arith}
 use mathlib.Core.Path.{_≡_, refl, _∙_}
 use mathlib.Core.List.{List}

@@ -1,10 +1,10 @@
 -- `labels::label::number` meets its contract. The invariant: gates before g have their labels, the others their bands. Assumes nothing.
 use Rattle.labels.proofs.GateLaws.{label-asks}
 use Rattle.labels.proofs.CountLaws.{number-begin}
-use Rattle.labels.specs.Numbering.{Numbering}
-use Rattle.labels.specs.Bands.{marks}
-use Rattle.labels.specs.Forest.{Forest}
-use Rattle.arithmetic.specs.Seg.{seg}
+use Rattle.labels.specs.Inside.Numbering.{Numbering}
+use Rattle.labels.specs.Inside.Bands.{marks}
+use Rattle.labels.specs.Inside.Forest.{Forest}
+use Rattle.lists.specs.Inside.Seg.{seg}
 use native.Mathlib.Omega.{arith}
 use mathlib.Core.Path.{_≡_, refl, _∙_, subst}
 use mathlib.Core.List.{List}

@@ -4,7 +4,7 @@ use mathlib.Core.Path.{sym, _∙_}
 use mathlib.Core.List.{List}
 use Prim.Native.Nat.{ℕ, _+_, _<_, _^_}
 use lib.ListN.{length, length-set}
-use Rattle.labels.specs.Forest.{Root}
+use Rattle.labels.specs.Inside.Forest.{Root}
 use Rattle.labels.proofs.ForestLaws.{some-after, gate-after, r-below, s-below, united-left, united-right}
 use Rattle.labels.proofs.label.unite.Statement.{statement}
 use Rattle.labels.proofs.label.unite.Tie as tie

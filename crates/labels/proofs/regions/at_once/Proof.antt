@@ -1,6 +1,6 @@
 -- `labels::regions::at_once` meets its contract. Assumes nothing.
 use Rattle.labels.proofs.WholeLaws.{tally-asks, number-asks, whole}
-use Rattle.labels.specs.Sheet.{Fitting}
+use Rattle.labels.specs.Inside.Sheet.{Fitting}
 use native.Mathlib.Omega.{arith}
 use mathlib.Core.Path.{_∙_}
 use borrow.Author.Needs.{needs}

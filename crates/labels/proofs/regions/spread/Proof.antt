@@ -1,7 +1,7 @@
 -- `labels::regions::spread` meets its contract. The invariant: gates before g have their band and their word. Assumes nothing.
 use Rattle.labels.proofs.SpreadLaws.{Spreading, spread-begin, spread-store, spread-end}
 use Rattle.labels.proofs.SheetLaws.{bands-long, words-long}
-use Rattle.arithmetic.specs.Seg.{seg}
+use Rattle.lists.specs.Inside.Seg.{seg}
 use native.Mathlib.Omega.{arith}
 use mathlib.Core.Path.{_≡_, refl, sym, _∙_}
 use Prim.Native.Nat.{ℕ, _+_, _-_, _≤_}

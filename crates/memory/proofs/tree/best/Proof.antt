@@ -1,5 +1,5 @@
 -- `memory::tree::best` meets its contract. Assumes nothing.
-use Rattle.memory.proofs.tree.TreeLaws.{best-of}
+use Rattle.memory.proofs.TreeLaws.{best-of}
 use borrow.Author.Needs.{needs}
 use Rattle.memory.proofs.tree.best.Statement.{statement}
 use Rattle.memory.proofs.tree.best.Tie as tie

@@ -1,5 +1,5 @@
 -- `memory::tree::build` meets its contract. Assumes nothing.
-use Rattle.memory.proofs.tree.TreeLaws.{Playing, Game, game-in, leaves-are, build-start, build-less, build-all}
+use Rattle.memory.proofs.TreeLaws.{Playing, Game, game-in, leaves-are, build-start, build-less, build-all}
 use native.Mathlib.Omega.{arith}
 use mathlib.Core.Path.{_∙_}
 use Prim.Native.Nat.{_-_, _≤_}

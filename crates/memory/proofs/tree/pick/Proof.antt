@@ -1,6 +1,6 @@
 -- `memory::tree::pick` meets its contract. Assumes nothing.
 use borrow.Author.Tests.{lt-ltb, le-ltb}
-use Rattle.memory.specs.Tree.{pick}
+use Rattle.memory.specs.Inside.Tree.{pick}
 use mathlib.Core.Path.{refl}
 use Rattle.memory.proofs.tree.pick.Statement.{statement}
 use Rattle.memory.proofs.tree.pick.Tie as tie

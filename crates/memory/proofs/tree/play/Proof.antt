@@ -1,5 +1,5 @@
 -- `memory::tree::play` meets its contract. Assumes nothing.
-use Rattle.memory.proofs.tree.TreeLaws.{Playing, Game, game-in, play-turn, play-end}
+use Rattle.memory.proofs.TreeLaws.{Playing, Game, game-in, play-turn, play-end}
 use native.Mathlib.Omega.{arith}
 use mathlib.Core.Path.{refl}
 use Prim.Native.Nat.{_<_}

@@ -1,5 +1,5 @@
 -- `memory::tree::weigh` meets its contract. Assumes nothing.
-use Rattle.memory.proofs.tree.TreeLaws.{weight-set}
+use Rattle.memory.proofs.TreeLaws.{weight-set}
 use native.Mathlib.Omega.{arith}
 use mathlib.Core.Path.{_∙_}
 use lib.ListN.{length-set}

@@ -1,11 +1,11 @@
 -- `merge::merge::absorb` meets its contract. Assumes nothing.
 use mathlib.Core.Path.{subst}
-use Rattle.merge.specs.Does.{Does}
-use Rattle.merge.specs.Steps.{absorbAt}
-use Rattle.merge.proofs.merge.View.{weight-at}
-use Rattle.merge.specs.Mem.{view}
-use Rattle.merge.specs.Table.{weight}
-use Rattle.merge.proofs.merge.Leaf.{absorb-does, sum-two}
+use Rattle.merge.specs.Inside.Does.{Does}
+use Rattle.merge.specs.Inside.Steps.{absorbAt}
+use Rattle.merge.proofs.View.{weight-at}
+use Rattle.merge.specs.Inside.Mem.{view}
+use Rattle.merge.specs.Inside.Table.{weight}
+use Rattle.merge.proofs.Leaf.{absorb-does, sum-two}
 use native.Mathlib.Omega.{arith}
 use mathlib.Core.Path.{sym}
 use mathlib.Core.List.{List}

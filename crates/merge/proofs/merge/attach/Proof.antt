@@ -1,5 +1,5 @@
 -- `merge::merge::attach` meets its contract. Assumes nothing.
-use Rattle.merge.proofs.merge.Leaf.{attach-does}
+use Rattle.merge.proofs.Leaf.{attach-does}
 use native.Mathlib.Omega.{arith}
 use Prim.Native.Nat.{_-_}
 use lib.ListN.{length-set}

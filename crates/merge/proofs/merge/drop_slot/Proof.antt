@@ -1,7 +1,7 @@
 -- `merge::merge::drop_slot` meets its contract. Assumes nothing.
-use Rattle.merge.proofs.merge.Passing.{drop-does}
-use Rattle.merge.specs.Table.{elen}
-use Rattle.merge.proofs.merge.View.{read}
+use Rattle.merge.proofs.Passing.{drop-does}
+use Rattle.merge.specs.Inside.Table.{elen}
+use Rattle.merge.proofs.View.{read}
 use native.Mathlib.Omega.{arith}
 use Prim.Native.Nat.{_-_}
 use lib.ListN.{length-set}

@@ -1,6 +1,6 @@
 -- `merge::merge::face` meets its contract. Assumes nothing.
-use Rattle.merge.proofs.merge.EndsIn.{ends-in}
-use Rattle.merge.proofs.merge.Leaf.{face-stays, face-turns}
+use Rattle.merge.proofs.EndsIn.{ends-in}
+use Rattle.merge.proofs.Leaf.{face-stays, face-turns}
 use native.Mathlib.Omega.{arith}
 use Prim.Native.Nat.{_+_, _-_, _*_, _<_}
 use lib.ListN.{getD, length-set}

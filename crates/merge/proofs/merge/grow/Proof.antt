@@ -1,7 +1,7 @@
 -- `merge::merge::grow` meets its contract. Assumes nothing.
-use Rattle.merge.specs.Table.{size, elen, rlen}
-use Rattle.merge.proofs.merge.View.{read}
-use Rattle.merge.proofs.merge.SpliceDoes.{grow-does}
+use Rattle.merge.specs.Inside.Table.{size, elen, rlen}
+use Rattle.merge.proofs.View.{read}
+use Rattle.merge.proofs.SpliceDoes.{grow-does}
 use native.Mathlib.Omega.{arith}
 use Prim.Native.Nat.{_-_}
 use lib.ListN.{length-set}

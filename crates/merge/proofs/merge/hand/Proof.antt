@@ -1,5 +1,5 @@
 -- `merge::merge::hand` meets its contract. Assumes nothing.
-use Rattle.merge.proofs.merge.MergeDoes.{hand-walk, hand-splice, hand-grow, hand-does}
+use Rattle.merge.proofs.MergeDoes.{hand-walk, hand-splice, hand-grow, hand-does}
 use Prim.Native.Nat.{_-_}
 use borrow.Author.Needs.{needs}
 use Rattle.merge.proofs.merge.hand.Statement.{statement}

@@ -1,5 +1,5 @@
 -- `merge::merge::is_spent` meets its contract. Assumes nothing.
-use Rattle.merge.proofs.merge.Passing.{spent-out, spent-word}
+use Rattle.merge.proofs.Passing.{spent-out, spent-word}
 use Prim.Native.Nat.{_-_}
 use borrow.Author.Needs.{needs}
 use Rattle.merge.proofs.merge.is_spent.Statement.{statement}

@@ -1,6 +1,6 @@
 -- `merge::merge::join_edge` meets its contract. Assumes nothing.
-use Rattle.merge.specs.Mem.{view}
-use Rattle.merge.proofs.merge.JoinDoes.{join-apart, join-attaches, face-room, join-faced}
+use Rattle.merge.specs.Inside.Mem.{view}
+use Rattle.merge.proofs.JoinDoes.{join-apart, join-attaches, face-room, join-faced}
 use Prim.Native.Nat.{_-_}
 use borrow.Author.Needs.{needs}
 use Rattle.merge.proofs.merge.join_edge.Statement.{statement}

@@ -1,5 +1,5 @@
 -- `merge::merge::joins` meets its contract. Assumes nothing.
-use Rattle.merge.proofs.merge.Leaf.{joins-out, joins-dead, joins-first, joins-second, joins-none}
+use Rattle.merge.proofs.Leaf.{joins-out, joins-dead, joins-first, joins-second, joins-none}
 use Prim.Native.Nat.{_-_}
 use borrow.Author.Needs.{needs}
 use Rattle.merge.proofs.merge.joins.Statement.{statement}

@@ -1,5 +1,5 @@
 -- `merge::merge::mate` meets its contract. Assumes nothing.
-use Rattle.merge.proofs.merge.Walks.{mate-first, mate-second}
+use Rattle.merge.proofs.Walks.{mate-first, mate-second}
 use native.Mathlib.Omega.{arith}
 use Rattle.merge.proofs.merge.mate.Statement.{statement}
 use Rattle.merge.proofs.merge.mate.Tie as tie

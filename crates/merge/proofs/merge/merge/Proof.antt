@@ -1,6 +1,6 @@
 -- `merge::merge::merge` meets its contract. Assumes nothing.
 use borrow.Author.Tests.{not-true, not-false}
-use Rattle.merge.proofs.merge.MergeDoes.{merge-stamp, merge-raise, merge-refused, merge-hand, merge-done}
+use Rattle.merge.proofs.MergeDoes.{merge-stamp, merge-raise, merge-refused, merge-hand, merge-done}
 use Prim.Native.Nat.{_-_}
 use borrow.Author.Needs.{needs}
 use Rattle.merge.proofs.merge.merge.Statement.{statement}

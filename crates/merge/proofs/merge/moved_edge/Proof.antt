@@ -3,8 +3,8 @@ use lib.Ieee.{binary32, fits, nan, Float, neg}
 use lib.Dec.{T}
 use mathlib.Core.Path.{subst}
 use mathlib.Core.Bool.{true, false}
-use Rattle.merge.proofs.merge.SoundSteps.{shift-ok, neg-ok}
-use Rattle.merge.proofs.merge.JoinDoes.{moved-dead, moved-first, moved-second, moved-far, moved-joins, moved-joins-second, moved-single}
+use Rattle.merge.proofs.SoundSteps.{shift-ok, neg-ok}
+use Rattle.merge.proofs.JoinDoes.{moved-dead, moved-first, moved-second, moved-far, moved-joins, moved-joins-second, moved-single}
 use mathlib.Core.Path.{sym, ap}
 use Prim.Native.Nat.{_-_}
 use lib.ListN.{getD}

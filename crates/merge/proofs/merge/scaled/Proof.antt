@@ -1,5 +1,5 @@
 -- `merge::merge::scaled` meets its contract. Assumes nothing.
-use Rattle.merge.proofs.merge.Bias.{less-fits, times-fits, times-back}
+use Rattle.merge.proofs.Bias.{less-fits, times-fits, times-back}
 use lib.IntN.{ℤ}
 use lib.Ieee.{binary32, ofInt}
 use mathlib.Core.Path.{ap, _∙_}

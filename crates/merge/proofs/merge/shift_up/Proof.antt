@@ -2,7 +2,7 @@
 use borrow.Author.Tests.{eq-eqb, ne-eqb}
 use lib.Ieee.Fits.{ofInt-fits}
 use lib.Ieee.{binary32, Float, neg, add}
-use Rattle.merge.specs.Steps.{shift}
+use Rattle.merge.specs.Inside.Steps.{shift}
 use mathlib.Core.Path.{refl, sym, ap, _∙_}
 use Prim.Native.Nat.{_-_}
 use borrow.Author.Needs.{needs}

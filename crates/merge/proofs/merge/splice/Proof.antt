@@ -1,5 +1,5 @@
 -- `merge::merge::splice` meets its contract. Assumes nothing.
-use Rattle.merge.proofs.merge.SpliceDoes.{splice-does}
+use Rattle.merge.proofs.SpliceDoes.{splice-does}
 use native.Mathlib.Omega.{arith}
 use Prim.Native.Nat.{_-_}
 use lib.ListN.{length-set}

@@ -1,5 +1,5 @@
 -- `merge::merge::stamp` meets its contract. Assumes nothing.
-use Rattle.merge.proofs.merge.Leaf.{stamp-does}
+use Rattle.merge.proofs.Leaf.{stamp-does}
 use Prim.Native.Nat.{_-_}
 use borrow.Author.Needs.{needs}
 use Rattle.merge.proofs.merge.stamp.Statement.{statement}

@@ -1,5 +1,5 @@
 -- `merge::merge::take_edge` meets its contract. Assumes nothing.
-use Rattle.merge.proofs.merge.JoinDoes.{face-room, take-out, take-does}
+use Rattle.merge.proofs.JoinDoes.{face-room, take-out, take-does}
 use Prim.Native.Nat.{_-_}
 use borrow.Author.Needs.{needs}
 use Rattle.merge.proofs.merge.take_edge.Statement.{statement}

@@ -1,8 +1,8 @@
 -- `merge::merge::walk_raise` meets its contract. Assumes nothing.
-use Rattle.merge.proofs.merge.Walks.{Raise, raise-start, raise-bounds, raise-low, raise-high, raise-turn, raise-end}
-use Rattle.merge.specs.Steps.{walkRaise}
-use Rattle.merge.specs.Mem.{view}
-use Rattle.merge.specs.Table.{rlen}
+use Rattle.merge.proofs.Walks.{Raise, raise-start, raise-bounds, raise-low, raise-high, raise-turn, raise-end}
+use Rattle.merge.specs.Inside.Steps.{walkRaise}
+use Rattle.merge.specs.Inside.Mem.{view}
+use Rattle.merge.specs.Inside.Table.{rlen}
 use native.Mathlib.Omega.{arith}
 use Prim.Native.Nat.{_+_, _-_, _*_, _≤_, _<_}
 use lib.ListN.{length, getD, length-set}

@@ -5,7 +5,7 @@ use mathlib.Core.List.{List}
 use Prim.Native.Nat.{ℕ, _+_}
 use lib.ListN.{replicate}
 use borrow.Author.Needs.{needs}
-use Rattle.arithmetic.specs.Seg.{put}
+use Rattle.lists.specs.Inside.Seg.{put}
 use Rattle.network.proofs.find.leave_alone.Statement.{statement}
 use Rattle.network.proofs.find.leave_alone.Tie as tie
 

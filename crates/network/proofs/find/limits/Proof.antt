@@ -7,7 +7,7 @@ use mir.ValLaws.{toZ-ofZ}
 use native.Mathlib.Omega.{arith}
 use Prim.Native.Nat.{_≤_}
 use borrow.Author.Needs.{needs}
-use Rattle.arithmetic.specs.Asked.{front}
+use Rattle.arithmetic.specs.Inside.Asked.{front}
 use Rattle.arithmetic.specs.Intervals.{atLeast0, limitsOf}
 use Rattle.network.proofs.find.limits.Statement.{statement}
 use Rattle.network.proofs.find.limits.Tie as tie

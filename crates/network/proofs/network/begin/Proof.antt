@@ -1,5 +1,5 @@
 -- `network::network::begin` meets its contract. Assumes nothing.
-use Rattle.network.proofs.network.StartRep.{begin-regions, begin-link, begin-done}
+use Rattle.network.proofs.StartRep.{begin-regions, begin-link, begin-done}
 use native.Mathlib.Omega.{arith}
 use borrow.Author.Needs.{needs}
 use Rattle.network.proofs.network.begin.Statement.{statement}

@@ -1,7 +1,7 @@
 -- `network::network::link` meets its contract. Assumes nothing.
-use Rattle.merge.specs.Table.{elen}
-use Rattle.merge.proofs.merge.View.{read}
-use Rattle.network.proofs.network.BeginDoes.{link-does}
+use Rattle.merge.specs.Inside.Table.{elen}
+use Rattle.merge.proofs.View.{read}
+use Rattle.network.proofs.BeginDoes.{link-does}
 use native.Mathlib.Omega.{arith}
 use Prim.Native.Nat.{_-_}
 use lib.ListN.{length-set}

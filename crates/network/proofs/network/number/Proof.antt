@@ -1,5 +1,5 @@
 -- `network::network::number` meets its contract. Assumes nothing.
-use Rattle.network.proofs.network.NumberIs.{above, below, sum-fits, sum-casts, sum-is, outside}
+use Rattle.network.proofs.NumberIs.{above, below, sum-fits, sum-casts, sum-is, outside}
 use Rattle.arithmetic.specs.Rounding.{roundEven}
 use Prim.Native.Nat.{_-_}
 use borrow.Author.Needs.{needs}

@@ -1,8 +1,8 @@
 -- `network::network::pop_edge` meets its contract. Assumes nothing.
 use Rattle.arithmetic.specs.Rounding.{real}
-use Rattle.network.specs.Popped.{Pops}
-use Rattle.merge.proofs.merge.EndsIn.{ends-in}
-use Rattle.network.proofs.network.Turns.{pop-none, pop-turned, pop-straight}
+use Rattle.network.specs.Inside.Popped.{Pops}
+use Rattle.merge.proofs.EndsIn.{ends-in}
+use Rattle.network.proofs.Turns.{pop-none, pop-turned, pop-straight}
 use native.Mathlib.Omega.{arith}
 use lib.Ieee.{neg}
 use Prim.Native.Nat.{_-_}

@@ -1,5 +1,5 @@
 -- `network::network::turn` meets its contract. Assumes nothing.
-use Rattle.network.proofs.network.Turns.{turn-ended, turn-refused, turn-picked, turn-chosen, taken-number, pops-none, pops-some}
+use Rattle.network.proofs.Turns.{turn-ended, turn-refused, turn-picked, turn-chosen, taken-number, pops-none, pops-some}
 use native.Mathlib.Omega.{arith}
 use Prim.Native.Nat.{_-_}
 use borrow.Author.Needs.{needs}

@@ -1,8 +1,8 @@
 -- `network::reduce::reduce` meets its contract. Assumes nothing.
-use Rattle.network.proofs.network.Reduction.{sizes-ask, space, raw-ask, l5, reduced}
+use Rattle.network.proofs.Reduction.{sizes-ask, space, raw-ask, l5, reduced}
 use borrow.Rule.Slice.PartMut.{putMid}
-use Rattle.arithmetic.specs.Seg.{seg}
-use Rattle.network.proofs.network.Reduction.{sizes-ask, space, raw-ask, reduced}
+use Rattle.lists.specs.Inside.Seg.{seg}
+use Rattle.network.proofs.Reduction.{sizes-ask, space, raw-ask, reduced}
 use native.Mathlib.Omega.{arith}
 use mathlib.Core.Path.{refl, _∙_}
 use Prim.Native.Nat.{_+_, _-_, _*_}

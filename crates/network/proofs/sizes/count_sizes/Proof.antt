@@ -1,9 +1,9 @@
 -- `network::sizes::count_sizes` meets its contract. Assumes nothing.
-use Rattle.arithmetic.specs.Seg.{seg, put}
-use Rattle.arithmetic.specs.Seq.{tabulate}
+use Rattle.lists.specs.Inside.Seg.{seg, put}
+use Rattle.lists.specs.Seq.{tabulate}
 use Rattle.network.specs.Network.{sizeIn}
-use Rattle.network.specs.Sizes.{Sizes}
-use Rattle.network.proofs.sizes.SizeLaws.{Sized, sized, sizes-fill, sizes-begin, sizes-end, sizes-whole}
+use Rattle.network.specs.Inside.Sizes.{Sizes}
+use Rattle.network.proofs.SizeLaws.{Sized, sized, sizes-fill, sizes-begin, sizes-end, sizes-whole}
 use native.Mathlib.Omega.{arith}
 use mathlib.Core.Path.{_≡_, refl}
 use Prim.Native.Nat.{_-_, _≤_}

@@ -2,7 +2,7 @@
 use lib.Dec.{lit<}
 use native.Mathlib.Nat.{add-zero}
 use Rattle.replay.specs.declared.words.Word.the-variants.{Number}
-use Rattle.replay.specs.Words.{digitsFrom}
+use Rattle.replay.specs.Inside.Words.{digitsFrom}
 use Rattle.replay.proofs.Laws.{room, digit-more, digit-none}
 use native.Mathlib.Omega.{arith}
 use mathlib.Core.Path.{_≡_, refl, sym, ap, _∙_}

@@ -1,6 +1,6 @@
 -- `replay::words::numbers` meets its contract. The invariant: each of the first i numbers is its word's. Assumes nothing.
 use Rattle.replay.specs.declared.words.Word.the-variants.{Number}
-use Rattle.replay.specs.Words.{wordAt}
+use Rattle.replay.specs.Inside.Words.{wordAt}
 use mathlib.Core.Bool.{true≢false}
 use Rattle.replay.proofs.Laws.{filled-more}
 use borrow.Author.Needs.{needs}

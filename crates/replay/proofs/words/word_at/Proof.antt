@@ -1,6 +1,6 @@
 -- `replay::words::word_at` meets its contract, by the byte that ends the word. Assumes nothing.
 use borrow.Author.Tests.{eq-eqb, ne-eqb}
-use Rattle.replay.specs.Words.{wordAt}
+use Rattle.replay.specs.Inside.Words.{wordAt}
 use borrow.Author.Needs.{needs}
 use mathlib.Core.Path.{refl, _∙_}
 use Rattle.replay.proofs.words.word_at.Statement.{statement}

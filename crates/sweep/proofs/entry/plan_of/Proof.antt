@@ -4,7 +4,7 @@ use borrow.Author.Needs.{needs}
 use Rattle.arithmetic.proofs.Plans.{range-fair}
 use Rattle.arithmetic.specs.declared.intervals.Extremes.{Extremes}
 use Rattle.arithmetic.specs.Intervals.{planOf, adds}
-use Rattle.arithmetic.specs.Asked.{Fair}
+use Rattle.arithmetic.specs.Inside.Asked.{Fair}
 use Rattle.sweep.proofs.entry.plan_of.Statement.{statement}
 use Rattle.sweep.proofs.entry.plan_of.Tie as tie
 

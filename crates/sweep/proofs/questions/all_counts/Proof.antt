@@ -1,6 +1,6 @@
 -- `sweep::questions::all_counts` meets its contract. The invariant: the gates from i on decide. Assumes nothing.
 use Rattle.sweep.proofs.VelocityLaws.{countTest, count-masked, count-valid, count-end}
-use Rattle.arithmetic.specs.Seq.{upto, all}
+use Rattle.lists.specs.Seq.{upto, all}
 use borrow.Author.Tests.{not-true, not-false}
 use mathlib.Core.Logic.{⊎-elim}
 use native.Mathlib.Omega.{arith}

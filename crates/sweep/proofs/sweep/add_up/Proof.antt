@@ -1,6 +1,6 @@
 -- `sweep::sweep::add_up` meets its contract. Assumes nothing.
 use Rattle.sweep.proofs.SumLaws.{Turn, turn, sums-begin, sums-end}
-use Rattle.sweep.specs.Mean.{sumFrom, sizeAt, heldAt}
+use Rattle.sweep.specs.Inside.Mean.{sumFrom, sizeAt, heldAt}
 use native.Mathlib.Omega.{arith}
 use mathlib.Core.Path.{_≡_, _∙_}
 use Prim.Native.Nat.{_+_, _-_, _≤_}

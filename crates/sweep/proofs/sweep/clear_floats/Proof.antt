@@ -3,8 +3,8 @@ use lib.Ieee.{ofBits, ofInt}
 use Rattle.arithmetic.specs.Rounding.{real}
 use lib.IntN.{pos}
 use Rattle.sweep.proofs.FillLaws.{fill-begin, fill-on, zero-end}
-use Rattle.arithmetic.specs.Seg.{put}
-use Rattle.arithmetic.specs.Seq.{tabulate}
+use Rattle.lists.specs.Inside.Seg.{put}
+use Rattle.lists.specs.Seq.{tabulate}
 use native.Mathlib.Omega.{arith}
 use mathlib.Core.Path.{_≡_, refl}
 use Prim.Native.Nat.{_-_, _≤_}

@@ -5,7 +5,7 @@ use lib.IntN.{ℤ, natAbs}
 use mir.Syntax.{w32}
 use mir.Val.{toZ, ofZ}
 use mir.ValLaws.{toZ-ofZ}
-use Rattle.merge.specs.Steps.{unbias}
+use Rattle.merge.specs.Inside.Steps.{unbias}
 use Rattle.sweep.specs.Sweep.{gateCount}
 use Rattle.sweep.proofs.SignedLaws.{first-fits, second-fits, valid-count, masked-count}
 use borrow.Author.Needs.{needs}

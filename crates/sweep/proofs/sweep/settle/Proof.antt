@@ -1,9 +1,9 @@
 -- `sweep::sweep::settle` meets its contract. Assumes nothing.
 use Rattle.sweep.proofs.FinishLaws.{writes-ask}
 use Rattle.sweep.specs.Sweep.{gateCount}
-use Rattle.memory.specs.Layout.{countsAt}
-use Rattle.merge.specs.Steps.{unbias}
-use Rattle.arithmetic.specs.Seq.{tabulate}
+use Rattle.memory.specs.Inside.Layout.{countsAt}
+use Rattle.merge.specs.Inside.Steps.{unbias}
+use Rattle.lists.specs.Seq.{tabulate}
 use lib.IntN.{ℤ}
 use mir.ValLaws.{toZ-ofZ}
 use mir.Val.{toZ, ofZ}

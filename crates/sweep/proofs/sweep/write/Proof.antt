@@ -1,7 +1,7 @@
 -- `sweep::sweep::write` meets its contract. Assumes nothing.
 use mathlib.Core.Path.{sym, ap, _∙_}
 use borrow.Author.Needs.{needs}
-use Rattle.sweep.specs.Finish.{lent, written}
+use Rattle.sweep.specs.Inside.Finish.{lent, written}
 use Rattle.network.specs.declared.find.Finding.{Finding}
 use Rattle.sweep.proofs.sweep.write.Statement.{statement}
 use Rattle.sweep.proofs.sweep.write.Tie as tie

@@ -3,12 +3,12 @@ use mir.Val.{toZ, ofZ}
 use mir.Syntax.{w32}
 use mir.ValLaws.{toZ-ofZ}
 use Rattle.sweep.specs.Sweep.{gateCount}
-use Rattle.memory.specs.Layout.{countsAt}
-use Rattle.merge.specs.Steps.{unbias}
+use Rattle.memory.specs.Inside.Layout.{countsAt}
+use Rattle.merge.specs.Inside.Steps.{unbias}
 use lib.IntN.{ℤ, natAbs}
 use Rattle.sweep.proofs.FillLaws.{fill-begin, fill-on, fill-all}
-use Rattle.arithmetic.specs.Seg.{put}
-use Rattle.arithmetic.specs.Seq.{tabulate}
+use Rattle.lists.specs.Inside.Seg.{put}
+use Rattle.lists.specs.Seq.{tabulate}
 use native.Mathlib.Omega.{arith}
 use mathlib.Core.Path.{_≡_, refl, sym, ap, _∙_, subst}
 use Prim.Native.Nat.{_+_, _-_, _≤_, _^_}

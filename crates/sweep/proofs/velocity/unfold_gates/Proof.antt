@@ -3,8 +3,8 @@ use Rattle.sweep.specs.Velocity.{unfoldedAt}
 use lib.Ieee.{nan}
 use lib.IntN.{ℤ, pos}
 use Rattle.sweep.proofs.VelocityLaws.{read-back, gateVelocity, written-none, written-more, written-all}
-use Rattle.arithmetic.specs.Asked.{front}
-use Rattle.arithmetic.specs.Seq.{tabulate}
+use Rattle.arithmetic.specs.Inside.Asked.{front}
+use Rattle.lists.specs.Seq.{tabulate}
 use borrow.Author.Needs.{needs}
 use native.Mathlib.Omega.{arith}
 use mathlib.Core.Path.{_≡_, refl, ap, _∙_}

@@ -1,0 +1,3 @@
+pub mod SeqLaws
+pub mod AllLaws
+pub mod SegLaws

@@ -1,0 +1,2 @@
+-- What internal contracts need: representation, invariants, and the records that a `requires` names.
+pub mod Seg

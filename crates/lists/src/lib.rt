@@ -1,0 +1,1 @@
+// Lists and parts of a lent slice: definitions and laws that every crate uses. No code.

@@ -1,0 +1,79 @@
+-- The tables of the merging code by name: where each lies in the lent words, and how long it is. m edges, n nodes. Definitions only.
+--
+-- A further table: its place in Layout, one line in `tables` here, and its name.
+use mathlib.Core.Bool.{Bool}
+use mathlib.Core.List.{List, [], _∷_}
+use Prim.Native.Nat.{ℕ, _+_, _*_}
+use lib.Dec.{eqb}
+use lib.ListN.{getD}
+use Rattle.memory.specs.Inside.Layout.{Part, part, weightAt, firstAt, secondAt, enextAt, rnextAt, stampAt, nodeSizeAt, elenAt, rlenAt, nodeCountAt}
+
+-- a table is its number in the list of them
+pub data Table : Type 0 where
+  table : ℕ → Table
+
+abbrev pub number : Table → ℕ
+number (table k) = k
+
+-- all tables, in order of place
+abbrev pub tables : ℕ → ℕ → List Part
+tables m n =
+    part weightAt m
+    ∷ part (firstAt m) m
+    ∷ part (secondAt m) m
+    ∷ part (enextAt m) (2 * m + n)
+    ∷ part (rnextAt m n) n
+    ∷ part (stampAt m n) n
+    ∷ part (nodeSizeAt m n) n
+    ∷ part (elenAt m n) n
+    ∷ part (rlenAt m n) n
+    ∷ part (nodeCountAt m n) n
+    ∷ []
+
+-- of each edge: its weight, 0 where it is dead, and its two ends
+abbrev pub weight : Table
+weight = table 0
+
+abbrev pub first : Table
+first = table 1
+
+abbrev pub second : Table
+second = table 2
+
+-- of each slot: the next of its chain
+abbrev pub enext : Table
+enext = table 3
+
+-- of each node: the next region of its chain
+abbrev pub rnext : Table
+rnext = table 4
+
+-- the number of the merge in which it was the base last, 0 if in none
+abbrev pub stamp : Table
+stamp = table 5
+
+-- its gates
+abbrev pub size : Table
+size = table 6
+
+-- the lengths of its two chains
+abbrev pub elen : Table
+elen = table 7
+
+abbrev pub rlen : Table
+rlen = table 8
+
+-- its count, with 1,000 added
+abbrev pub count : Table
+count = table 9
+
+-- where a table begins, and how many words it has
+abbrev pub from : Table → ℕ → ℕ → ℕ
+from t m n = getD (tables m n) (number t) (part 0 0) .from
+
+abbrev pub long : Table → ℕ → ℕ → ℕ
+long t m n = getD (tables m n) (number t) (part 0 0) .long
+
+-- the same table
+abbrev pub is : Table → Table → Bool
+is t u = eqb (number t) (number u)

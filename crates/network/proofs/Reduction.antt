@@ -1,0 +1,221 @@
+-- From labels to counts, call by call, over plain values. Assumes nothing.
+use Prim.Native.Nat.{ℕ, _+_, _*_, _-_, _≤_}
+use native.Mathlib.Omega.{arith}
+use mathlib.Core.Path.{_≡_, refl, sym, ap, _∙_}
+use mathlib.Core.Logic.{⊎-elim}
+use mathlib.Core.Bool.{true}
+use mathlib.Core.List.{List}
+use lib.IntN.{pos}
+use lib.ListN.{length, getD, set}
+use lib.Seq.{getD-set-same, getD-set-other}
+use lib.Ieee.{Float}
+use borrow.Rule.Slice.PartMut.{putMid}
+use Rattle.lists.specs.Seq.{tabulate}
+use Rattle.lists.proofs.SeqLaws.{tab-length}
+use Rattle.lists.specs.Inside.Seg.{seg, put, Apart}
+use Rattle.lists.proofs.SegLaws.{eq-or-ne, length-put, length-seg, getD-seg, getD-put-in, seg-put-below, seg-put-above, seg-put-same, seg-set-out, seg-part, put-mid, lent-seg}
+use Rattle.edges.specs.Edges.{Pair, pairs, used}
+use Rattle.network.specs.Network.{sizeIn, merges, replay, countOf, networkBy, goodBy}
+use Rattle.edges.specs.Inside.Sees.{shape}
+use Rattle.edges.specs.Inside.Whole.{Asked, Edged}
+use Rattle.network.specs.Inside.Sizes.{Sizes}
+use Rattle.merge.specs.Inside.Mem.{view}
+use Rattle.merge.specs.Inside.Table.{count}
+use Rattle.merge.specs.Inside.Steps.{unbias}
+use Rattle.network.specs.Inside.Begin.{Space, Raw, AllIs}
+use Rattle.memory.specs.Inside.Layout.{sizesAt, countsAt}
+use Rattle.network.specs.Inside.Reduce.{Reduces, Reduced}
+use Rattle.edges.specs.declared.edges.Frame.{Frame}
+use Rattle.network.specs.declared.network.Ran.{Ran}
+use Rattle.network.proofs.Joint.{Filled, raw}
+use Rattle.network.proofs.Started.{network, Left, refused, left, no-region-0}
+
+module _ (f : Frame) (u : List ℕ) (d vel : List Float) (n k : ℕ) (wide : Float) (q : Reduces f u d vel n k) where
+  abbrev L : List ℕ
+  L = seg u 0 n
+
+  abbrev ps : List Pair
+  ps = pairs (shape f) (seg u 0 n) vel
+
+  pub asked : Asked f u d vel n k (13 * n)
+  asked = record {
+    whole = q .whole;
+    small = omega (arith, q .small);
+    vels = q .vels;
+    label = q .label;
+    scratch = omega (arith, q .words, q .few);
+    above = omega arith;
+    words = omega (arith, q .words);
+    diffs = omega (arith, q .floats);
+  }
+
+  module _ (v1 : List ℕ) (d1 : List Float) (e : ℕ) (l1 : length v1 ≡ length u) (ld : length d1 ≡ length d) (E : Edged wide n u v1 d1 (13 * n) e (used k ps)) where
+    pub sizes-ask : Sizes v1 n n (k + 1)
+    sizes-ask = record {
+      above = omega arith;
+      room = omega (arith, q .words, q .few);
+      small = omega (arith, q .small);
+      label = λ g h. omega (arith, q .label g h, sym (getD-seg u 0 n g 0 h), ap (λ (i : ℕ). getD u i 0) {x = 0 + g} {y = g} (omega arith), ap (λ (x : List ℕ). getD x g 0) (E .labels), getD-seg v1 0 n g 0 h, ap (λ (i : ℕ). getD v1 i 0) {x = 0 + g} {y = g} (omega arith));
+    }
+
+    module _ (v2 : List ℕ) (e2 : v2 ≡ put v1 n (tabulate (k + 1) (sizeIn (seg v1 0 n)))) where
+      abbrev sizes : List ℕ
+      sizes = tabulate (k + 1) (sizeIn (seg u 0 n))
+
+      ls : length (tabulate (k + 1) (sizeIn (seg u 0 n))) ≡ k + 1
+      ls = tab-length (sizeIn (seg u 0 n)) (k + 1)
+
+      e2′ : v2 ≡ put v1 n (tabulate (k + 1) (sizeIn (seg u 0 n)))
+      e2′ = e2 ∙ ap (λ (x : List ℕ). put v1 n (tabulate (k + 1) (sizeIn x))) (E .labels)
+
+      l2 : length v2 ≡ length u
+      l2 = ap length e2′ ∙ length-put v1 n (tabulate (k + 1) (sizeIn (seg u 0 n))) ∙ l1
+
+      -- the sizes, and what lies before and after them
+      sizes-2 : seg v2 n (k + 1) ≡ tabulate (k + 1) (sizeIn (seg u 0 n))
+      sizes-2 = ap (λ (x : List ℕ). seg x n (k + 1)) e2′ ∙ ap (seg (put v1 n (tabulate (k + 1) (sizeIn (seg u 0 n)))) n) (sym ls) ∙ seg-put-same v1 n (tabulate (k + 1) (sizeIn (seg u 0 n))) (omega (arith, ls, l1, q .words, q .few))
+
+      pub copy-ask : (n + (k + 1) ≤ length v2) × (13 * n + 7 * e + 3 * (k + 1) + (k + 1) ≤ length v2) × Apart n (k + 1) (13 * n + 7 * e + 3 * (k + 1)) (k + 1)
+      copy-ask = (omega (arith, l2, q .words, q .few), omega (arith, l2, q .words, q .few, E .few), λ j a b c g. omega (arith, q .few, q .some))
+
+      module _ (v3 : List ℕ) (e3 : v3 ≡ put v2 (13 * n + 7 * e + 3 * (k + 1)) (seg v2 n (k + 1))) where
+        e3′ : v3 ≡ put v2 (13 * n + 7 * e + 3 * (k + 1)) (tabulate (k + 1) (sizeIn (seg u 0 n)))
+        e3′ = e3 ∙ ap (put v2 (13 * n + 7 * e + 3 * (k + 1))) sizes-2
+
+        l3 : length v3 ≡ length u
+        l3 = ap length e3′ ∙ length-put v2 (13 * n + 7 * e + 3 * (k + 1)) (tabulate (k + 1) (sizeIn (seg u 0 n))) ∙ l2
+
+        -- a table of edges is as the edges were found
+        table : (a b : ℕ) → 13 * n ≤ a → a + b ≤ 13 * n + 7 * e → seg v3 a b ≡ seg v1 a b
+        table a b g h =
+            ap (λ (x : List ℕ). seg x a b) e3′ ∙ seg-put-below v2 (13 * n + 7 * e + 3 * (k + 1)) (tabulate (k + 1) (sizeIn (seg u 0 n))) a b (omega arith)
+            ∙ ap (λ (x : List ℕ). seg x a b) e2′ ∙ seg-put-above v1 n (tabulate (k + 1) (sizeIn (seg u 0 n))) a b (omega (arith, ls, q .few, q .some))
+
+        module _ (c : ℕ) (ec : c ≡ 7 * e + 7 * (k + 1)) where
+          abbrev part : List ℕ
+          part = seg v3 (13 * n) c
+
+          room : 13 * n + c ≤ length v3
+          room = omega (arith, l3, q .words, q .few, E .few)
+
+          pub space : Space e (k + 1) (seg v3 (13 * n) c) d1
+          space = record {
+            words = omega (arith, length-seg v3 (13 * n) c room);
+            diffs = omega (arith, ld, q .floats, E .few);
+            small = omega (arith, q .small, q .few, E .few);
+          }
+
+          pub filled : Filled wide k e (seg u 0 n) (used k ps) (view e (k + 1) (seg v3 (13 * n) c) d1)
+          unfolding view
+          filled = record {
+            count = E .count;
+            weight = seg-part v3 (13 * n) c 0 e (omega arith) room ∙ ap (λ (a : ℕ). seg v3 a e) (omega arith) ∙ table (13 * n) e (omega arith) (omega arith) ∙ E .weight;
+            first = seg-part v3 (13 * n) c (3 * e) e (omega arith) room ∙ table (13 * n + 3 * e) e (omega arith) (omega arith) ∙ E .first;
+            second = seg-part v3 (13 * n) c (4 * e) e (omega arith) room ∙ table (13 * n + 4 * e) e (omega arith) (omega arith) ∙ E .second;
+            diff = E .diff;
+            size =
+                seg-part v3 (13 * n) c (7 * e + 3 * (k + 1)) (k + 1) (omega arith) room
+                ∙ ap (λ (x : List ℕ). seg x (13 * n + (7 * e + 3 * (k + 1))) (k + 1)) e3′
+                ∙ ap (λ (a : ℕ). seg (put v2 (13 * n + 7 * e + 3 * (k + 1)) (tabulate (k + 1) (sizeIn (seg u 0 n)))) a (k + 1)) (omega arith)
+                ∙ ap (seg (put v2 (13 * n + 7 * e + 3 * (k + 1)) (tabulate (k + 1) (sizeIn (seg u 0 n)))) (13 * n + 7 * e + 3 * (k + 1))) (sym ls)
+                ∙ seg-put-same v2 (13 * n + 7 * e + 3 * (k + 1)) (tabulate (k + 1) (sizeIn (seg u 0 n))) (omega (arith, ls, l2, q .words, q .few, E .few));
+          }
+
+          pub raw-ask : Raw e (k + 1) (view e (k + 1) (seg v3 (13 * n) c) d1)
+          raw-ask = raw wide k e (seg u 0 n) ps (view e (k + 1) (seg v3 (13 * n) c) d1) filled n (E .light) (omega (arith, q .small)) (length-seg u 0 n (omega (arith, q .words)))
+
+          module _ (y : List ℕ) (d2 : List Float) (r : Ran) (ly : length y ≡ length (seg v3 (13 * n) c)) (A : AllIs e (k + 1) (view e (k + 1) (seg v3 (13 * n) c) d1) y d2 r)
+              (v4 : List ℕ) (e4 : v4 ≡ putMid (13 * n) c v3 y) where
+            lc : length y ≡ c
+            lc = ly ∙ length-seg v3 (13 * n) c room
+
+            e4′ : v4 ≡ put v3 (13 * n) y
+            e4′ = e4 ∙ put-mid v3 (13 * n) c y lc room
+
+            l4 : length v4 ≡ length u
+            l4 = ap length e4′ ∙ length-put v3 (13 * n) y ∙ l3
+
+            pub copy2-ask : (13 * n + 7 * e + 6 * (k + 1) + (k + 1) ≤ length v4) × (n + (k + 1) + (k + 1) ≤ length v4) × Apart (13 * n + 7 * e + 6 * (k + 1)) (k + 1) (n + (k + 1)) (k + 1)
+            copy2-ask = (omega (arith, l4, q .words, q .few, E .few), omega (arith, l4, q .words, q .few), λ j a b g h. omega (arith, q .few, q .some))
+
+            -- the counts that merging left
+            counts-4 : seg v4 (13 * n + 7 * e + 6 * (k + 1)) (k + 1) ≡ seg y (7 * e + 6 * (k + 1)) (k + 1)
+            counts-4 =
+                ap (λ (a : ℕ). seg v4 a (k + 1)) {x = 13 * n + 7 * e + 6 * (k + 1)} {y = 13 * n + (7 * e + 6 * (k + 1))} (omega arith)
+                ∙ sym (seg-part v4 (13 * n) c (7 * e + 6 * (k + 1)) (k + 1) (omega arith) (omega (arith, l4, q .words, q .few, E .few)))
+                ∙ ap (λ (x : List ℕ). seg x (7 * e + 6 * (k + 1)) (k + 1)) (ap (λ (x : List ℕ). seg x (13 * n) c) e4 ∙ lent-seg v3 (13 * n) c y lc room)
+
+            module _ (v5 v6 : List ℕ) (e5 : v5 ≡ put v4 (n + (k + 1)) (seg v4 (13 * n + 7 * e + 6 * (k + 1)) (k + 1))) (e6 : v6 ≡ set v5 (n + (k + 1)) 1000) where
+              C : List ℕ
+              C = seg v4 (13 * n + 7 * e + 6 * (k + 1)) (k + 1)
+
+              lC : length (seg v4 (13 * n + 7 * e + 6 * (k + 1)) (k + 1)) ≡ k + 1
+              lC = length-seg v4 (13 * n + 7 * e + 6 * (k + 1)) (k + 1) (copy2-ask .0)
+
+              pub l5 : length v5 ≡ length u
+              l5 = ap length e5 ∙ length-put v4 (n + (k + 1)) (seg v4 (13 * n + 7 * e + 6 * (k + 1)) (k + 1)) ∙ l4
+
+              -- what lies below the counts is as it was
+              low : (a b : ℕ) → a + b ≤ n + (k + 1) → seg v6 a b ≡ seg v3 a b
+              low a b h =
+                  ap (λ (x : List ℕ). seg x a b) e6 ∙ seg-set-out v5 (n + (k + 1)) 1000 a b (λ p g. omega arith)
+                  ∙ ap (λ (x : List ℕ). seg x a b) e5 ∙ seg-put-below v4 (n + (k + 1)) (seg v4 (13 * n + 7 * e + 6 * (k + 1)) (k + 1)) a b h
+                  ∙ ap (λ (x : List ℕ). seg x a b) e4′ ∙ seg-put-below v3 (13 * n) y a b (omega (arith, q .few, q .some))
+
+              -- the count of label l
+              count-of : (l : ℕ) → 1 ≤ l → l ≤ k → getD v6 (n + (k + 1) + l) 0 ≡ getD (view e (k + 1) y d2 .at count) l 0
+              unfolding view
+              count-of l a b =
+                  ap (λ (x : List ℕ). getD x (n + (k + 1) + l) 0) e6 ∙ getD-set-other v5 (n + (k + 1)) (n + (k + 1) + l) 1000 0 (λ p. omega arith)
+                  ∙ ap (λ (x : List ℕ). getD x (n + (k + 1) + l) 0) e5
+                  ∙ getD-put-in v4 (n + (k + 1)) (seg v4 (13 * n + 7 * e + 6 * (k + 1)) (k + 1)) l 0 (omega (arith, lC)) (omega (arith, copy2-ask .1))
+                  ∙ ap (λ (x : List ℕ). getD x l 0) counts-4
+
+              count-0 : getD v6 (n + (k + 1) + 0) 0 ≡ 1000
+              count-0 =
+                  ap (λ (i : ℕ). getD v6 i 0) {x = n + (k + 1) + 0} {y = n + (k + 1)} (omega arith)
+                  ∙ ap (λ (x : List ℕ). getD x (n + (k + 1)) 0) e6 ∙ getD-set-same v5 (n + (k + 1)) 1000 0 (omega (arith, l5, q .words, q .few))
+
+              net : networkBy wide (shape f) k (seg u 0 n) vel ≡ network wide k e (seg u 0 n) ps (view e (k + 1) (seg v3 (13 * n) c) d1) filled
+              net = unfold networkBy network in refl
+
+              pub reduced : Reduced (networkBy wide (shape f) k (seg u 0 n) vel) n k u v6 r
+              reduced = rw net (record {
+                refused = λ g. unfold goodBy in refused wide k e (seg u 0 n) ps (view e (k + 1) (seg v3 (13 * n) c) d1) filled y d2 r A g;
+                settled = λ g. leaves g .settled;
+                tables = record {
+                  counts = λ g l h. ⊎-elim
+                      (λ z. ap (λ (i : ℕ). unbias (getD v6 (countsAt n k + i) 0)) z ∙ ap unbias count-0′ ∙ zero-count ∙ ap (countOf _) (sym z))
+                      (λ z. ap unbias (count-of′ l (omega arith) h) ∙ leaves g .counts l (omega arith) h)
+                      (eq-or-ne l 0);
+                  most = λ g l h. ⊎-elim
+                      (λ z. omega (arith, ap (λ (i : ℕ). getD v6 (countsAt n k + i) 0) z, count-0′))
+                      (λ z. omega (arith, count-of′ l (omega arith) h, leaves g .most l h))
+                      (eq-or-ne l 0);
+                  sizes = unfold sizesAt in low n (k + 1) (omega arith) ∙ sizes-3;
+                  labels = low 0 n (omega arith) ∙ labels-3;
+                };
+              })
+                where
+                  leaves : goodBy (network wide k e (seg u 0 n) ps (view e (k + 1) (seg v3 (13 * n) c) d1) filled) ≡ true → Left wide k e (seg u 0 n) ps (view e (k + 1) (seg v3 (13 * n) c) d1) filled y d2 r
+                  leaves g = unfold goodBy in left wide k e (seg u 0 n) ps (view e (k + 1) (seg v3 (13 * n) c) d1) filled y d2 r A g
+
+                  no-turn : unbias 1000 ≡ pos 0
+                  no-turn = unfold unbias in refl
+
+                  zero-count : unbias 1000 ≡ countOf (replay (network wide k e (seg u 0 n) ps (view e (k + 1) (seg v3 (13 * n) c) d1) filled) (merges (network wide k e (seg u 0 n) ps (view e (k + 1) (seg v3 (13 * n) c) d1) filled)) .regions) 0
+                  zero-count = no-turn ∙ sym (no-region-0 wide k e (seg u 0 n) ps (view e (k + 1) (seg v3 (13 * n) c) d1) filled)
+
+                  count-0′ : getD v6 (countsAt n k + 0) 0 ≡ 1000
+                  count-0′ = unfold countsAt in count-0
+
+                  count-of′ : (l : ℕ) → 1 ≤ l → l ≤ k → getD v6 (countsAt n k + l) 0 ≡ getD (view e (k + 1) y d2 .at count) l 0
+                  count-of′ l a b = unfold countsAt in count-of l a b
+
+                  sizes-3 : seg v3 n (k + 1) ≡ tabulate (k + 1) (sizeIn (seg u 0 n))
+                  sizes-3 = ap (λ (x : List ℕ). seg x n (k + 1)) e3′ ∙ seg-put-below v2 (13 * n + 7 * e + 3 * (k + 1)) (tabulate (k + 1) (sizeIn (seg u 0 n))) n (k + 1) (omega (arith, q .few, q .some)) ∙ sizes-2
+
+                  labels-3 : seg v3 0 n ≡ seg u 0 n
+                  labels-3 =
+                      ap (λ (x : List ℕ). seg x 0 n) e3′ ∙ seg-put-below v2 (13 * n + 7 * e + 3 * (k + 1)) (tabulate (k + 1) (sizeIn (seg u 0 n))) 0 n (omega arith)
+                      ∙ ap (λ (x : List ℕ). seg x 0 n) e2′ ∙ seg-put-below v1 n (tabulate (k + 1) (sizeIn (seg u 0 n))) 0 n (omega arith) ∙ E .labels

@@ -1,0 +1,40 @@
+-- The run that stops at a refusal, in terms of the network's merges, their events and their replay. Assumes nothing.
+use mathlib.Core.Path.{_≡_, refl, sym, ap, _∙_}
+use mathlib.Core.Bool.{Bool, true, false, _&&_, cond}
+use mathlib.Core.List.{List, _∷_}
+use mathlib.Core.Option.{Option, none, some}
+use Prim.Native.Nat.{ℕ, zero, suc, _+_}
+use native.Mathlib.Omega.{arith}
+use lib.ListN.{length}
+use Rattle.lists.proofs.SeqLaws.{map-upto-length}
+use Rattle.network.specs.Network.{Edge, State, event, step, choose, follow, run, merges, trace, replay, inRange}
+use Rattle.network.specs.Inside.Net.{stateOf}
+use Rattle.network.specs.Inside.Settle.{Done, onward, settle}
+use Rattle.lists.specs.Seq.{all}
+
+-- accepted exactly if every event of the merge list is, with the replay's last state
+unfoldable pub outcome : State → List ℕ → ℕ → Option Done
+outcome t l k = cond (all inRange (trace t l)) (some (record { last = replay t l; merges = k + length l })) none
+
+pub settle-run : (f : ℕ) (t : State) (k : ℕ) → settle f t k ≡ outcome t (run f t) k
+unfolding settle outcome run trace replay all onward follow
+settle-run zero t k = let z : k ≡ k + 0 = omega arith in ap (λ (x : ℕ). some (record { last = t; merges = x })) z
+settle-run (suc f) t k = go (choose (t .edges)) (settle-run f)
+  where
+    go : (o : Option Edge) → ((u : State) (i : ℕ) → settle f u i ≡ outcome u (run f u) i)
+        → onward o t k (settle f) ≡ cond (all inRange (trace t (follow o t (run f)))) (some (record { last = replay t (follow o t (run f)); merges = k + length (follow o t (run f)) })) none
+    go none ih = let z : k ≡ k + 0 = omega arith in ap (λ (x : ℕ). some (record { last = t; merges = x })) z
+    go (some e) ih = test (inRange (event t (e .num))) (ih (step t (e .num)) (suc k))
+      where
+        u : State
+        u = step t (e .num)
+
+        test : (b : Bool) → settle f u (suc k) ≡ outcome u (run f u) (suc k)
+            → cond b (settle f u (suc k)) none ≡ cond (b && all inRange (trace u (run f u))) (some (record { last = replay u (run f u); merges = k + length (e .num ∷ run f u) })) none
+        test false h = refl
+        test true h = let z : suc k + length (run f u) ≡ k + suc (length (run f u)) = omega arith in
+            h ∙ ap (λ (x : ℕ). cond (all inRange (trace u (run f u))) (some (record { last = replay u (run f u); merges = x })) none) z
+
+pub settle-merges : (m n : ℕ) (gates node : ℕ → ℕ) (s : Rattle.merge.specs.Inside.Mem.Mem) → settle m (stateOf m n gates node s) 0 ≡ outcome (stateOf m n gates node s) (merges (stateOf m n gates node s)) 0
+unfolding merges stateOf
+settle-merges m n gates node s = settle-run m (stateOf m n gates node s) 0 ∙ ap (λ (x : ℕ). outcome (stateOf m n gates node s) (run x (stateOf m n gates node s)) 0) (sym (map-upto-length (Rattle.network.specs.Inside.Net.edgeOf s) m 0))

@@ -1,0 +1,3 @@
+-- What internal contracts need: representation, invariants, and the records that a `requires` names.
+pub mod Gates
+pub mod Words

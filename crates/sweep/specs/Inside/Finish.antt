@@ -1,0 +1,60 @@
+-- The offset and the counts of all gates, from the tables of the work memory. Definitions only.
+use Prim.Native.Nat.{ℕ, _+_, _*_, _≤_, _<_, _^_}
+use mathlib.Core.Path.{_≡_}
+use mathlib.Core.Bool.{cond}
+use mathlib.Core.List.{List, [], _∷_}
+use lib.Dec.{eqb}
+use lib.IntN.{ℤ, pos, subℕ}
+use lib.ListN.{length, getD, replicate}
+use lib.Ieee.{binary64, div}
+use Rattle.lists.specs.Seq.{tabulate}
+use Rattle.arithmetic.specs.Rounding.{roundEven, real}
+use Rattle.merge.specs.Inside.Steps.{unbias}
+use Rattle.memory.specs.Inside.Layout.{countsAt}
+use Rattle.network.specs.declared.find.Run.{Run}
+use Rattle.network.specs.declared.find.Finding.{Finding}
+use Rattle.network.specs.declared.find.Finding.the-variants.{Regions, Refused}
+use Rattle.sweep.specs.Sweep.{orZero, gateCount}
+use Rattle.sweep.specs.Call.{Memory, Answer, memoryOf}
+use Rattle.sweep.specs.Inside.Mean.{sumFrom, sizeAt, heldAt, Tabled}
+
+-- the mean of sums: gates, and counts with 1,000 added to each
+abbrev pub meanBy : ℕ → ℕ → ℤ
+meanBy gates held = orZero (roundEven (div binary64 (real (subℕ held (1000 * gates))) (real (pos gates))))
+
+-- what centring takes away
+abbrev pub offsetBy : List ℕ → ℕ → ℕ → ℕ → ℤ
+offsetBy w n k centred = cond (eqb centred 1) (meanBy (sumFrom (sizeAt w n) 1 k) (sumFrom (heldAt w n k) 1 k)) (pos 0)
+
+-- the count of each gate
+abbrev pub countsBy : List ℕ → ℕ → ℕ → List ℕ → ℕ → List ℤ
+countsBy w n k mask centred = tabulate n (λ g. gateCount (offsetBy w n k centred) (getD mask g 0) (unbias (getD w (countsAt n k + getD w g 0) 0)))
+
+-- what this asks: tables and labels in the words, one mask byte and one count a gate
+pub record Finishes (w : List ℕ) (n k : ℕ) (mask : List ℕ) (long : ℕ) : Type 0 where
+  pub tabled : Tabled w n k
+  pub masks : length mask ≡ n
+  pub counts : long ≡ n
+  pub label : (g : ℕ) → g < n → getD w g 0 ≤ k
+
+-- counts and pair, where the work memory does not matter
+abbrev pub lent : List ℤ → List ℕ → Memory
+lent cs p = record { counts = cs; pair = p; words = []; floats = [] }
+
+-- what was found in these words, written: counts and pair, or the refusal by question 9
+abbrev pub written : Finding → List ℕ → List ℕ → ℕ → List ℤ → List ℕ → Answer
+written (Regions r) w mask centred cs p = record {
+  number = 0;
+  memory = lent (countsBy w (length mask) (r .regions) mask centred) (r .regions ∷ r .merges ∷ []);
+}
+written Refused w mask centred cs p = record { number = 9; memory = lent cs p }
+
+-- what writing asks
+pub record Ready (f : Finding) (w mask : List ℕ) (long two : ℕ) : Type 0 where
+  pub tables : (r : Run) → f ≡ Regions r → Finishes w (length mask) (r .regions) mask long
+  pub few : (r : Run) → f ≡ Regions r → (r .regions < 2 ^ 32) × (r .merges < 2 ^ 32)
+  pub pair : two ≡ 2
+
+-- both work memories all zero
+abbrev pub allZero : Memory → Memory
+allZero m = memoryOf (m .counts) (m .pair) (replicate (length (m .words)) 0) (replicate (length (m .floats)) (real (pos 0)))
