@@ -18,9 +18,9 @@ use Rattle.arithmetic.specs.declared.intervals.Extremes.{Extremes}
 use Rattle.arithmetic.specs.declared.intervals.Extremes.the-variants.{Both, NoneValid}
 use Rattle.arithmetic.specs.declared.intervals.Plan.{Plan}
 use Rattle.arithmetic.specs.Rounding.{within, ceilingWhole, real}
-use Rattle.arithmetic.specs.Intervals.{fair, width, overStart, overEnd, atLeast0, beyond, widened, noAdds, adds, planOf, number, spaced, limitsOf, startOf, endOf, least, greatest, range, numberFor, limitsFor}
+use Rattle.arithmetic.specs.Intervals.{velocityInRange, width, overStart, overEnd, atLeast0, beyond, widened, noAdds, adds, planOf, number, spaced, limitsOf, startOf, endOf, least, greatest, range, numberFor, limitsFor}
 use Rattle.arithmetic.proofs.Quotient.{nyquist, wide, speed, over-start, over-end, quotient, is-within}
-use Rattle.arithmetic.specs.Inside.Asked.{Asked, Fair, front}
+use Rattle.arithmetic.specs.Inside.Asked.{Asked, ExtremesInRange, front}
 use Rattle.lists.specs.Seq.{all}
 
 -- ---- signed sums
@@ -126,14 +126,14 @@ pub T-of : {b : Bool} → b ≡ true → T b
 T-of e = subst T (sym e) tt
 
 -- ---- the ceilings' arguments are in range
-pub start-within : (nyq hi : Float) (S : ℕ) → T (fits binary64 nyq) → T (fits binary64 hi) → Asked nyq S → T (fair hi) → T (within (div binary64 (overStart nyq hi) (width nyq S)))
+pub start-within : (nyq hi : Float) (S : ℕ) → T (fits binary64 nyq) → T (fits binary64 hi) → Asked nyq S → T (velocityInRange hi) → T (within (div binary64 (overStart nyq hi) (width nyq S)))
 start-within nyq hi S f g a h =
     let n = nyquist nyq f a in
     let w = wide nyq S n (a .some) (a .few) in
     let q = quotient nyq (overStart nyq hi) S n w (over-start nyq hi n (speed hi g h)) (a .few) in
     is-within (div binary64 (overStart nyq hi) (width nyq S)) (q .sign) (q .size) (q .has) (q .within)
 
-pub end-within : (nyq lo : Float) (S : ℕ) → T (fits binary64 nyq) → T (fits binary64 lo) → Asked nyq S → T (fair lo) → T (within (div binary64 (overEnd nyq lo) (width nyq S)))
+pub end-within : (nyq lo : Float) (S : ℕ) → T (fits binary64 nyq) → T (fits binary64 lo) → Asked nyq S → T (velocityInRange lo) → T (within (div binary64 (overEnd nyq lo) (width nyq S)))
 end-within nyq lo S f g a h =
     let n = nyquist nyq f a in
     let w = wide nyq S n (a .some) (a .few) in
@@ -171,8 +171,8 @@ pub beyond-second : (nyq lo hi : Float) → {b : Bool} → lt nyq hi ≡ false �
 unfolding beyond
 beyond-second nyq lo hi h k = ap (λ (b : Bool). b || lt lo (neg nyq)) h ∙ k
 
-pub fair-both : (e : Extremes) (lo hi : Float) → e ≡ Both lo hi → Fair e → T (fair lo) × T (fair hi)
-fair-both e lo hi p f = subst (λ (x : Extremes). Fair x) p f
+pub fair-both : (e : Extremes) (lo hi : Float) → e ≡ Both lo hi → ExtremesInRange e → T (velocityInRange lo) × T (velocityInRange hi)
+fair-both e lo hi p f = subst (λ (x : Extremes). ExtremesInRange x) p f
 
 pub plan-is : (nyq lo hi w : Float) (S : ℕ) (a b n : ℤ) → w ≡ width nyq S → a ≡ ceilingWhole (div binary64 (overStart nyq hi) w) → b ≡ ceilingWhole (div binary64 (overEnd nyq lo) w) → n ≡ pos (S + 1) +ℤ a +ℤ b
     → record { «add_start» = a; «add_end» = b; number = n } ≡ planOf S (widened nyq (width nyq S) lo hi)
@@ -198,24 +198,24 @@ pub plan-limits-are : (r : Plan) (nyq : Float) (S : ℕ) (e e' : Extremes) → r
 unfolding planOf limitsFor
 plan-limits-are r nyq S e e' p q = ap (λ (x : Plan). limitsOf nyq S (x .«add_start») (x .«add_end») (x .number)) p ∙ ap (λ (x : Extremes). limitsFor nyq S x) q
 
-cond-fair : (b : Bool) (x y : Float) → T (fair x) → T (fair y) → T (fair (cond b x y))
+cond-fair : (b : Bool) (x y : Float) → T (velocityInRange x) → T (velocityInRange y) → T (velocityInRange (cond b x y))
 cond-fair true x y h k = h
 cond-fair false x y h k = k
 
-least-fair : (x : Float) (l : List Float) → T (fair x) → T (all fair l) → T (fair (least x l))
+least-fair : (x : Float) (l : List Float) → T (velocityInRange x) → T (all velocityInRange l) → T (velocityInRange (least x l))
 unfolding least all
 least-fair x [] f h = f
-least-fair x (v ∷ l) f h = least-fair (cond (lt v x) v x) l (cond-fair (lt v x) v x (and-l (fair v) (all fair l) h) f) (and-r (fair v) (all fair l) h)
+least-fair x (v ∷ l) f h = least-fair (cond (lt v x) v x) l (cond-fair (lt v x) v x (and-l (velocityInRange v) (all velocityInRange l) h) f) (and-r (velocityInRange v) (all velocityInRange l) h)
 
-greatest-fair : (x : Float) (l : List Float) → T (fair x) → T (all fair l) → T (fair (greatest x l))
+greatest-fair : (x : Float) (l : List Float) → T (velocityInRange x) → T (all velocityInRange l) → T (velocityInRange (greatest x l))
 unfolding greatest all
 greatest-fair x [] f h = f
-greatest-fair x (v ∷ l) f h = greatest-fair (cond (lt x v) v x) l (cond-fair (lt x v) v x (and-l (fair v) (all fair l) h) f) (and-r (fair v) (all fair l) h)
+greatest-fair x (v ∷ l) f h = greatest-fair (cond (lt x v) v x) l (cond-fair (lt x v) v x (and-l (velocityInRange v) (all velocityInRange l) h) f) (and-r (velocityInRange v) (all velocityInRange l) h)
 
-pub range-fair : (l : List Float) → T (all fair l) → Fair (range l)
+pub range-fair : (l : List Float) → T (all velocityInRange l) → ExtremesInRange (range l)
 unfolding range all
 range-fair [] h = tt
-range-fair (v ∷ l) h = (least-fair v l (and-l (fair v) (all fair l) h) (and-r (fair v) (all fair l) h), greatest-fair v l (and-l (fair v) (all fair l) h) (and-r (fair v) (all fair l) h))
+range-fair (v ∷ l) h = (least-fair v l (and-l (velocityInRange v) (all velocityInRange l) h) (and-r (velocityInRange v) (all velocityInRange l) h), greatest-fair v l (and-l (velocityInRange v) (all velocityInRange l) h) (and-r (velocityInRange v) (all velocityInRange l) h))
 
 pub not-many : (z : ℤ) → ltZ (pos 10000) z ≡ false → atLeast0 z ≤ 10000
 not-many (pos n) h = ltb-false 10000 n h

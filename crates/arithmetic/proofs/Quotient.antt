@@ -12,7 +12,7 @@ use lib.Ieee.Fits.{and-l, and-r, down-pos}
 use lib.Ieee.Exact.{HasValue}
 use lib.Ieee.Positive.{first-pos}
 use Rattle.arithmetic.specs.Rounding.{within, ceiling, ceilingWhole, real}
-use Rattle.arithmetic.specs.Intervals.{fair, folded, width, overStart, overEnd}
+use Rattle.arithmetic.specs.Intervals.{velocityInRange, twoNyquist, width, overStart, overEnd}
 use Rattle.arithmetic.proofs.Signed.{plus, minus, Is, values-le, add-rounds, sub-rounds, neg-has, mul-values, div-values}
 use Rattle.arithmetic.proofs.Units.{unit, tiny, unit-is, tiny-large, unit-pos, rounded, near64, has64, thrice, one-over, one-under, one-has, Approx, approx, on-grid, between-finite, whole-has}
 use Rattle.arithmetic.specs.Inside.Asked.{Asked}
@@ -68,7 +68,7 @@ pub record Wide (nyq : Float) (ν S : ℕ) : Type 0 where
   pub under : 2 * ν ≤ size * S + 2 * tiny
 
 pub wide : (nyq : Float) (S : ℕ) → (n : Nyquist nyq) → 1 ≤ S → S ≤ 9999 → Wide nyq (n .size) S
-unfolding width folded real
+unfolding width twoNyquist real
 wide nyq S n some few =
     let ν = n .size in
     let two = ofInt binary64 (pos 2) in
@@ -128,8 +128,8 @@ top-has s = (refl, is unit tiny unit-is)
     is : (u t : ℕ) → u ≡ 17179869184 * t → 1 * 16384 * u ≡ 281474976710656 * t * 1
     is u t e = omega arith
 
-pub speed : (v : Float) → T (fits binary64 v) → T (fair v) → Speed v
-unfolding fair
+pub speed : (v : Float) → T (fits binary64 v) → T (velocityInRange v) → Speed v
+unfolding velocityInRange
 speed v f h =
     let l = and-l (le (fin true 1 (pos 14)) v) (le v (fin false 1 (pos 14))) h in
     let k = and-r (le (fin true 1 (pos 14)) v) (le v (fin false 1 (pos 14))) h in

@@ -16,14 +16,14 @@ use lib.Ieee.Fits.{add-fits, cond-fits, fits-widens}
 use Rattle.arithmetic.specs.Rounding.{real}
 use Rattle.arithmetic.specs.declared.intervals.Extremes.{Extremes}
 use Rattle.arithmetic.specs.declared.intervals.Extremes.the-variants.{Both, NoneValid}
-use Rattle.arithmetic.specs.Intervals.{fair, valid, least, greatest, range, width, overStart, overEnd, beyond, widened, noAdds, adds, number, spaced, stepOf, limitAt, atLeast0, startOf, endOf, limitsOf, limitsFor, numberFor}
+use Rattle.arithmetic.specs.Intervals.{velocityInRange, valid, least, greatest, range, width, overStart, overEnd, beyond, widened, noAdds, adds, number, spaced, stepOf, limitAt, atLeast0, startOf, endOf, limitsOf, limitsFor, numberFor}
 use Rattle.arithmetic.proofs.Units.{unit, tiny, value-finite}
 use Rattle.arithmetic.proofs.Plans.{range-fair}
 use Rattle.arithmetic.proofs.Quotient.{Nyquist, nyquist, Wide, wide, speed, over-start, over-end, Add, add-of}
 use Rattle.arithmetic.proofs.Itself.{float-le-trans, lt-not-le}
 use Rattle.arithmetic.proofs.Steps.{rise, last, limit-finite}
 use Rattle.arithmetic.proofs.Ends.{start-end, end-end, gap, start-most}
-use Rattle.arithmetic.specs.Inside.Asked.{Asked, Fair, Held, Rising}
+use Rattle.arithmetic.specs.Inside.Asked.{Asked, ExtremesInRange, Held, Rising}
 use Rattle.lists.specs.Seq.{tabulate, all}
 use Rattle.lists.proofs.SeqLaws.{tab-length, tab-at}
 
@@ -142,7 +142,7 @@ no-add W = record { whole = lit≤ tt; wide = le-trans (le-of-eq (zero-mul W)) (
     none : (x : ℕ) → 0 ≤ x
     none x = omega arith
 
-adds-of : (nyq : Float) (S : ℕ) (e : Extremes) (n : Nyquist nyq) (w : Wide nyq (n .size) S) → 1 ≤ S → S ≤ 9999 → Held e → Fair e → Add (adds nyq S e .start) (w .size) × Add (adds nyq S e .end) (w .size)
+adds-of : (nyq : Float) (S : ℕ) (e : Extremes) (n : Nyquist nyq) (w : Wide nyq (n .size) S) → 1 ≤ S → S ≤ 9999 → Held e → ExtremesInRange e → Add (adds nyq S e .start) (w .size) × Add (adds nyq S e .end) (w .size)
 unfolding adds noAdds widened
 adds-of nyq S NoneValid n w some few f h = (no-add (w .size), no-add (w .size))
 adds-of nyq S (Both lo hi) n w some few f h = go (beyond nyq lo hi)
@@ -154,7 +154,7 @@ adds-of nyq S (Both lo hi) n w some few f h = go (beyond nyq lo hi)
     )
     go false = (no-add (w .size), no-add (w .size))
 
-pub limits-never-fall : (nyq : Float) (S : ℕ) (e : Extremes) → T (fits binary64 nyq) → Held e → Asked nyq S → Fair e → atLeast0 (number S (adds nyq S e)) ≤ 10000 → Rising (limitsFor nyq S e)
+pub limits-never-fall : (nyq : Float) (S : ℕ) (e : Extremes) → T (fits binary64 nyq) → Held e → Asked nyq S → ExtremesInRange e → atLeast0 (number S (adds nyq S e)) ≤ 10000 → Rising (limitsFor nyq S e)
 unfolding limitsFor number
 limits-never-fall nyq S e f g a h l =
     let n = nyquist nyq f a in
@@ -162,7 +162,7 @@ limits-never-fall nyq S e f g a h l =
     let d = adds-of nyq S e n w (a .some) (a .few) g h in
     limits-rise nyq S n w (adds nyq S e .start) (adds nyq S e .end) (a .few) (d .0) (d .1) l
 
-pub limits-are-finite : (nyq : Float) (S : ℕ) (e : Extremes) → T (fits binary64 nyq) → Held e → Asked nyq S → Fair e → atLeast0 (number S (adds nyq S e)) ≤ 10000 → AllFinite (limitsFor nyq S e)
+pub limits-are-finite : (nyq : Float) (S : ℕ) (e : Extremes) → T (fits binary64 nyq) → Held e → Asked nyq S → ExtremesInRange e → atLeast0 (number S (adds nyq S e)) ≤ 10000 → AllFinite (limitsFor nyq S e)
 unfolding limitsFor number
 limits-are-finite nyq S e f g a h l =
     let n = nyquist nyq f a in
@@ -253,7 +253,7 @@ pub slice-held : (vs : List Float) → ((i : ℕ) → T (fits binary32 (getD vs 
 slice-held [] h = tt
 slice-held (v ∷ vs) h = (fits-widens v (h 0), slice-held vs (λ (i : ℕ). h (suc i)))
 
-pub sweep-limits-rise : (nyq : Float) (S : ℕ) (vs : List Float) (ms : List ℕ) → T (fits binary32 nyq) → ((i : ℕ) → T (fits binary32 (getD vs i nan))) → Asked nyq S → T (all fair (valid vs ms))
+pub sweep-limits-rise : (nyq : Float) (S : ℕ) (vs : List Float) (ms : List ℕ) → T (fits binary32 nyq) → ((i : ℕ) → T (fits binary32 (getD vs i nan))) → Asked nyq S → T (all velocityInRange (valid vs ms))
     → atLeast0 (numberFor nyq S (range (valid vs ms))) ≤ 10000 → Rising (limitsFor nyq S (range (valid vs ms)))
 unfolding numberFor
 sweep-limits-rise nyq S vs ms f h a g l =

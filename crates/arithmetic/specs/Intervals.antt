@@ -40,12 +40,12 @@ include NoneValid v = Both v v
 include (Both lo hi) v = Both (cond (lt v lo) v lo) (cond (lt hi v) v hi)
 
 -- 2 × Nyquist
-unfoldable pub folded : Float → Float
-folded nyq = mul binary64 (real (pos 2)) nyq
+unfoldable pub twoNyquist : Float → Float
+twoNyquist nyq = mul binary64 (real (pos 2)) nyq
 
 -- the width of an interval
 unfoldable pub width : Float → ℕ → Float
-width nyq splits = div binary64 (folded nyq) (real (pos splits))
+width nyq splits = div binary64 (twoNyquist nyq) (real (pos splits))
 
 -- whether a valid velocity is above Nyquist or below -Nyquist
 unfoldable pub beyond : Float → Float → Float → Bool
@@ -125,9 +125,9 @@ unfoldable pub limitsFor : Float → ℕ → Extremes → List Float
 limitsFor nyq splits e = let a = adds nyq splits e in limitsOf nyq splits (a .start) (a .end) (number splits a)
 
 -- question 5: a Nyquist from 0.125 to 1,024
-unfoldable pub sized : Float → Bool
-sized nyq = le (fin false 1 (negsuc 2)) nyq && le nyq (fin false 1 (pos 10))
+unfoldable pub nyquistInRange : Float → Bool
+nyquistInRange nyq = le (fin false 1 (negsuc 2)) nyq && le nyq (fin false 1 (pos 10))
 
 -- question 7: a velocity from -16,384 to 16,384
-unfoldable pub fair : Float → Bool
-fair v = le (fin true 1 (pos 14)) v && le v (fin false 1 (pos 14))
+unfoldable pub velocityInRange : Float → Bool
+velocityInRange v = le (fin true 1 (pos 14)) v && le v (fin false 1 (pos 14))

@@ -9,7 +9,7 @@ ghost use lib.Ieee as Ieee;
 ghost use lib.Ieee.{binary64, div, isNan};
 ghost use Rattle.arithmetic.specs.Rounding.{within, ceilingWhole};
 ghost use Rattle.arithmetic.specs.Intervals as I;
-ghost use Rattle.arithmetic.specs.Inside.Asked.{Asked, Fair, front};
+ghost use Rattle.arithmetic.specs.Inside.Asked.{Asked, ExtremesInRange, front};
 
 // The least and the greatest valid velocity, or that there is none.
 pub enum Extremes {
@@ -109,7 +109,7 @@ fn count(splits: u32, a: i32, b: i32) -> i64
 // The adds where a velocity is beyond Nyquist.
 fn widened(nyquist: f64, splits: u32, lo: f64, hi: f64) -> Plan
     requires { ⌜ Asked nyquist splits ⌝ }
-    requires { ⌜ T (I.fair lo) × T (I.fair hi) ⌝ }
+    requires { ⌜ T (I.velocityInRange lo) × T (I.velocityInRange hi) ⌝ }
     ensures { λ r. ⌜ r ≡ I.planOf splits (I.widened nyquist (I.width nyquist splits) lo hi) ⌝ }
 {
     let w = width(nyquist, splits);
@@ -135,7 +135,7 @@ fn plain(splits: u32) -> Plan
 
 pub fn plan_limits(nyquist: f32, splits: u32, e: Extremes) -> Plan
     requires { ⌜ Asked nyquist splits ⌝ }
-    requires { ⌜ Fair e ⌝ }
+    requires { ⌜ ExtremesInRange e ⌝ }
     ensures { λ r. ⌜ r ≡ I.planOf splits (I.adds nyquist splits e) ⌝ }
 {
     match e {

@@ -15,14 +15,13 @@ use Rattle.lists.specs.Seq.{upto, each, sum, All}
 use Rattle.lists.proofs.SeqLaws.{upto-length, upto-at}
 use Rattle.memory.specs.Inside.Sort.{sorted}
 use Rattle.memory.proofs.SortLaws.{all-sorted}
-use Rattle.edges.specs.Edges.{Shape, left, right, top, bottom, sees, Pair, difference, pairs, used}
-use Rattle.edges.specs.declared.edges.Frame.{Frame}
-use Rattle.edges.specs.Inside.Sees.{shape}
-use Rattle.edges.specs.Inside.GatePairs.{GatePair, both, gatePairTo, gatePairsAt, gatePairs, pairOf, Adds, Sheet}
+use Rattle.edges.specs.Edges.{Shape, Left, Right, Top, Bottom, sees, Pair, difference, pairs, used}
+use Rattle.edges.specs.declared.edges.Shape.{Shape}
+use Rattle.edges.specs.Inside.GatePairs.{GatePair, both, gatePairTo, gatePairsAt, gatePairs, pairOf, AddsPairs, Sheet}
 use Rattle.edges.specs.Inside.Order.{ordered, runs}
 use Rattle.edges.specs.Inside.Sorts.{labelsOf, Sorts, Sorted}
-use Rattle.edges.specs.Inside.Gather.{pairAt, later, Ready, tables, Gathers, Gathered}
-use Rattle.edges.specs.Inside.Whole.{Asked, Edged}
+use Rattle.edges.specs.Inside.Gather.{pairAt, later, ReadsPairs, tables, Gathers, Gathered}
+use Rattle.edges.specs.Inside.Whole.{FindsEdges, Edged}
 use Rattle.lists.proofs.AllLaws.{all-append, all-each, all-index, index-all}
 use Rattle.edges.proofs.Stored.{gates, fars, adds-labels, adds-length, adds-gates, adds-fars}
 use Rattle.edges.proofs.GatePairLaws.{sees-in}
@@ -51,9 +50,9 @@ module _ (s : Shape) (L : List ℕ) (n : ℕ) (w : n ≡ s .rays * s .gates) whe
 
   at-within : (g : ℕ) → g < n → All (Within n) (gatePairsAt s L g)
   unfolding gatePairsAt
-  at-within g i = go (eqb (getD L g 0) 0) (all-each (Within n) (λ d. gatePairTo L g (sees s L d g)) (left ∷ right ∷ top ∷ bottom ∷ []) (λ d. to-within g (sees s L d g) i (λ h e. omega (arith, sees-in s d L g h (omega arith) e))))
+  at-within g i = go (eqb (getD L g 0) 0) (all-each (Within n) (λ d. gatePairTo L g (sees s L d g)) (Left ∷ Right ∷ Top ∷ Bottom ∷ []) (λ d. to-within g (sees s L d g) i (λ h e. omega (arith, sees-in s d L g h (omega arith) e))))
     where
-      go : (b : Bool) → All (Within n) (each (λ d. gatePairTo L g (sees s L d g)) (left ∷ right ∷ top ∷ bottom ∷ [])) → All (Within n) (cond b [] (each (λ d. gatePairTo L g (sees s L d g)) (left ∷ right ∷ top ∷ bottom ∷ [])))
+      go : (b : Bool) → All (Within n) (each (λ d. gatePairTo L g (sees s L d g)) (Left ∷ Right ∷ Top ∷ Bottom ∷ [])) → All (Within n) (cond b [] (each (λ d. gatePairTo L g (sees s L d g)) (Left ∷ Right ∷ Top ∷ Bottom ∷ [])))
       go true h = tt
       go false h = h
 
@@ -84,40 +83,40 @@ keys-same w vel n (t ∷ ts) f key h s = rw (h t (s .0), keys-same w vel n ts f 
 
 -- ---- the three calls
 
-module _ (f : Frame) (u : List ℕ) (a vel : List Float) (n k t : ℕ) (q : Asked f u a vel n k t) where
+module _ (f : Shape) (u : List ℕ) (a vel : List Float) (n k t : ℕ) (q : FindsEdges f u a vel n k t) where
   ts : List GatePair
-  ts = gatePairs (shape f) (seg u 0 n)
+  ts = gatePairs f (seg u 0 n)
 
   pub sheet : Sheet f n u
   sheet = record { whole = q .whole; room = omega (arith, q .scratch); small = omega (arith, q .small) }
 
-  module _ (w : List ℕ) (m : ℕ) (p : Adds n u w 0 m (gatePairs (shape f) (seg u 0 n))) (few : m ≤ 4 * n) where
+  module _ (w : List ℕ) (m : ℕ) (p : AddsPairs n u w 0 m (gatePairs f (seg u 0 n))) (few : m ≤ 4 * n) where
     lw : length w ≡ length u
-    lw = adds-length n u w 0 m (gatePairs (shape f) (seg u 0 n)) p
+    lw = adds-length n u w 0 m (gatePairs f (seg u 0 n)) p
 
     labels-w : seg w 0 n ≡ seg u 0 n
-    labels-w = adds-labels n u w 0 m (gatePairs (shape f) (seg u 0 n)) p
+    labels-w = adds-labels n u w 0 m (gatePairs f (seg u 0 n)) p
 
-    inside : All (Within n) (gatePairs (shape f) (seg u 0 n))
-    inside = links-within (shape f) (seg u 0 n) n (q .whole) (length-seg u 0 n (omega (arith, q .scratch)))
+    inside : All (Within n) (gatePairs f (seg u 0 n))
+    inside = links-within f (seg u 0 n) n (q .whole) (length-seg u 0 n (omega (arith, q .scratch)))
 
-    ms : m ≡ length (gatePairs (shape f) (seg u 0 n))
+    ms : m ≡ length (gatePairs f (seg u 0 n))
     ms = omega (arith, p .count)
 
-    gates-w : seg w n m ≡ gates (gatePairs (shape f) (seg u 0 n))
-    gates-w = adds-gates n u w m (gatePairs (shape f) (seg u 0 n)) p (omega (arith, q .scratch)) few
+    gates-w : seg w n m ≡ gates (gatePairs f (seg u 0 n))
+    gates-w = adds-gates n u w m (gatePairs f (seg u 0 n)) p (omega (arith, q .scratch)) few
 
-    fars-w : seg w (5 * n) m ≡ fars (gatePairs (shape f) (seg u 0 n))
-    fars-w = adds-fars n u w m (gatePairs (shape f) (seg u 0 n)) p (omega (arith, q .scratch)) few
+    fars-w : seg w (5 * n) m ≡ fars (gatePairs f (seg u 0 n))
+    fars-w = adds-fars n u w m (gatePairs f (seg u 0 n)) p (omega (arith, q .scratch)) few
 
-    gate-at : (i : ℕ) → i < m → getD w (n + i) 0 ≡ (getD (gatePairs (shape f) (seg u 0 n)) i (both 0 0)) .gate
-    gate-at i h = sym (getD-seg w n m i 0 h) ∙ ap (λ (l : List ℕ). getD l i 0) gates-w ∙ map-getD (λ (x : GatePair). x .gate) (gatePairs (shape f) (seg u 0 n)) i (both 0 0) 0 (omega (arith, ms))
+    gate-at : (i : ℕ) → i < m → getD w (n + i) 0 ≡ (getD (gatePairs f (seg u 0 n)) i (both 0 0)) .gate
+    gate-at i h = sym (getD-seg w n m i 0 h) ∙ ap (λ (l : List ℕ). getD l i 0) gates-w ∙ map-getD (λ (x : GatePair). x .gate) (gatePairs f (seg u 0 n)) i (both 0 0) 0 (omega (arith, ms))
 
-    far-at : (i : ℕ) → i < m → getD w (5 * n + i) 0 ≡ (getD (gatePairs (shape f) (seg u 0 n)) i (both 0 0)) .far
-    far-at i h = sym (getD-seg w (5 * n) m i 0 h) ∙ ap (λ (l : List ℕ). getD l i 0) fars-w ∙ map-getD (λ (x : GatePair). x .far) (gatePairs (shape f) (seg u 0 n)) i (both 0 0) 0 (omega (arith, ms))
+    far-at : (i : ℕ) → i < m → getD w (5 * n + i) 0 ≡ (getD (gatePairs f (seg u 0 n)) i (both 0 0)) .far
+    far-at i h = sym (getD-seg w (5 * n) m i 0 h) ∙ ap (λ (l : List ℕ). getD l i 0) fars-w ∙ map-getD (λ (x : GatePair). x .far) (gatePairs f (seg u 0 n)) i (both 0 0) 0 (omega (arith, ms))
 
-    within-at : (i : ℕ) → i < m → Within n (getD (gatePairs (shape f) (seg u 0 n)) i (both 0 0))
-    within-at i h = all-index (Within n) (gatePairs (shape f) (seg u 0 n)) (both 0 0) inside i (omega (arith, ms))
+    within-at : (i : ℕ) → i < m → Within n (getD (gatePairs f (seg u 0 n)) i (both 0 0))
+    within-at i h = all-index (Within n) (gatePairs f (seg u 0 n)) (both 0 0) inside i (omega (arith, ms))
 
     pub sorts : Sorts w n m (k + 1)
     sorts = record {
@@ -130,21 +129,21 @@ module _ (f : Frame) (u : List ℕ) (a vel : List Float) (n k t : ℕ) (q : Aske
     }
 
     ps : List Pair
-    ps = map (pairOf (seg u 0 n) vel) (gatePairs (shape f) (seg u 0 n))
+    ps = map (pairOf (seg u 0 n) vel) (gatePairs f (seg u 0 n))
 
-    keys-one : labelsOf w n m ≡ map (λ p. p .one) (map (pairOf (seg u 0 n) vel) (gatePairs (shape f) (seg u 0 n)))
+    keys-one : labelsOf w n m ≡ map (λ p. p .one) (map (pairOf (seg u 0 n) vel) (gatePairs f (seg u 0 n)))
     unfolding labelsOf pairOf
     keys-one =
         ap (map (λ x. getD w x 0)) gates-w
-        ∙ keys-same w vel n (gatePairs (shape f) (seg u 0 n)) (λ (x : GatePair). x .gate) (λ p. p .one) (λ x i. label-at w n (x .gate) (i .gate)) inside
-        ∙ ap (λ (l : List ℕ). map (λ (p : Pair). p .one) (map (pairOf l vel) (gatePairs (shape f) (seg u 0 n)))) labels-w
+        ∙ keys-same w vel n (gatePairs f (seg u 0 n)) (λ (x : GatePair). x .gate) (λ p. p .one) (λ x i. label-at w n (x .gate) (i .gate)) inside
+        ∙ ap (λ (l : List ℕ). map (λ (p : Pair). p .one) (map (pairOf l vel) (gatePairs f (seg u 0 n)))) labels-w
 
-    keys-two : labelsOf w (5 * n) m ≡ map (λ p. p .two) (map (pairOf (seg u 0 n) vel) (gatePairs (shape f) (seg u 0 n)))
+    keys-two : labelsOf w (5 * n) m ≡ map (λ p. p .two) (map (pairOf (seg u 0 n) vel) (gatePairs f (seg u 0 n)))
     unfolding labelsOf pairOf
     keys-two =
         ap (map (λ x. getD w x 0)) fars-w
-        ∙ keys-same w vel n (gatePairs (shape f) (seg u 0 n)) (λ (x : GatePair). x .far) (λ p. p .two) (λ x i. label-at w n (x .far) (i .far)) inside
-        ∙ ap (λ (l : List ℕ). map (λ (p : Pair). p .two) (map (pairOf l vel) (gatePairs (shape f) (seg u 0 n)))) labels-w
+        ∙ keys-same w vel n (gatePairs f (seg u 0 n)) (λ (x : GatePair). x .far) (λ p. p .two) (λ x i. label-at w n (x .far) (i .far)) inside
+        ∙ ap (λ (l : List ℕ). map (λ (p : Pair). p .two) (map (pairOf l vel) (gatePairs f (seg u 0 n)))) labels-w
 
     module _ (v : List ℕ) (lv : length v ≡ length w) (o : Sorted w v n m (k + 1)) where
       numbers : length (seg v (9 * n) m) ≡ m
@@ -161,25 +160,25 @@ module _ (f : Frame) (u : List ℕ) (a vel : List Float) (n k t : ℕ) (q : Aske
           let b : length (seg u 0 n) ≡ n = length-seg u 0 n (omega (arith, q .scratch)) in
           ext-getD 0 (seg v 0 n) (seg u 0 n) (a ∙ sym b) (λ j h. label-at v n j (omega arith) ∙ o .kept j (omega arith) ∙ sym (label-at w n j (omega arith)) ∙ ap (λ (l : List ℕ). getD l j 0) labels-w)
 
-      place : (i : ℕ) → i < m → pairAt v vel n i ≡ getD (map (pairOf (seg u 0 n) vel) (gatePairs (shape f) (seg u 0 n))) (getD (seg v (9 * n) m) i 0) blank
+      place : (i : ℕ) → i < m → pairAt v vel n i ≡ getD (map (pairOf (seg u 0 n) vel) (gatePairs f (seg u 0 n))) (getD (seg v (9 * n) m) i 0) blank
       unfolding pairAt pairOf
       place i h =
           let X : ℕ = getD (seg v (9 * n) m) i 0 in
           let x : getD v (9 * n + i) 0 ≡ X = sym (getD-seg v (9 * n) m i 0 h) in
           let xl : X < m = number-lt i h in
-          let g : getD v (n + X) 0 ≡ (getD (gatePairs (shape f) (seg u 0 n)) X (both 0 0)) .gate = o .kept (n + X) (omega (arith, few)) ∙ gate-at X xl in
-          let r : getD v (5 * n + X) 0 ≡ (getD (gatePairs (shape f) (seg u 0 n)) X (both 0 0)) .far = o .kept (5 * n + X) (omega (arith, few)) ∙ far-at X xl in
+          let g : getD v (n + X) 0 ≡ (getD (gatePairs f (seg u 0 n)) X (both 0 0)) .gate = o .kept (n + X) (omega (arith, few)) ∙ gate-at X xl in
+          let r : getD v (5 * n + X) 0 ≡ (getD (gatePairs f (seg u 0 n)) X (both 0 0)) .far = o .kept (5 * n + X) (omega (arith, few)) ∙ far-at X xl in
           ap (λ (y : ℕ). pairOf (seg v 0 n) vel (both (getD v (n + y) 0) (getD v (5 * n + y) 0))) x
           ∙ ap (λ (y : ℕ). pairOf (seg v 0 n) vel (both y (getD v (5 * n + X) 0))) g
-          ∙ ap (λ (y : ℕ). pairOf (seg v 0 n) vel (both ((getD (gatePairs (shape f) (seg u 0 n)) X (both 0 0)) .gate) y)) r
-          ∙ ap (λ (l : List ℕ). pairOf l vel (getD (gatePairs (shape f) (seg u 0 n)) X (both 0 0))) labels-v
-          ∙ sym (map-getD (pairOf (seg u 0 n) vel) (gatePairs (shape f) (seg u 0 n)) X (both 0 0) blank (omega (arith, ms)))
+          ∙ ap (λ (y : ℕ). pairOf (seg v 0 n) vel (both ((getD (gatePairs f (seg u 0 n)) X (both 0 0)) .gate) y)) r
+          ∙ ap (λ (l : List ℕ). pairOf l vel (getD (gatePairs f (seg u 0 n)) X (both 0 0))) labels-v
+          ∙ sym (map-getD (pairOf (seg u 0 n) vel) (gatePairs f (seg u 0 n)) X (both 0 0) blank (omega (arith, ms)))
 
-      later-is : later v vel n m 0 ≡ ordered (suc k) (map (pairOf (seg u 0 n) vel) (gatePairs (shape f) (seg u 0 n)))
+      later-is : later v vel n m 0 ≡ ordered (suc k) (map (pairOf (seg u 0 n) vel) (gatePairs f (seg u 0 n)))
       unfolding later
       later-is =
-          let P : List Pair = map (pairOf (seg u 0 n) vel) (gatePairs (shape f) (seg u 0 n)) in
-          let lp : length P ≡ m = length-map (gatePairs (shape f) (seg u 0 n)) (pairOf (seg u 0 n) vel) ∙ sym ms in
+          let P : List Pair = map (pairOf (seg u 0 n) vel) (gatePairs f (seg u 0 n)) in
+          let lp : length P ≡ m = length-map (gatePairs f (seg u 0 n)) (pairOf (seg u 0 n) vel) ∙ sym ms in
           ap (λ (x : ℕ). map (pairAt v vel n) (upto x 0)) {x = m - 0} {y = length (seg v (9 * n) m)} (omega (arith, numbers))
           ∙ map-places (pairAt v vel n) (λ x. getD P x blank) (seg v (9 * n) m) 0 (λ i h. ap (pairAt v vel n) {x = 0 + i} {y = i} (omega arith) ∙ place i (omega (arith, numbers)))
           ∙ ap (map (λ x. getD P x blank)) (o .order)
@@ -189,10 +188,10 @@ module _ (f : Frame) (u : List ℕ) (a vel : List Float) (n k t : ℕ) (q : Aske
           ∙ two-passes P (k + 1)
           ∙ ap (λ (x : ℕ). ordered x P) {x = k + 1} {y = suc k} (omega arith)
 
-      runs-are : runs (later v vel n m 0) ≡ used k (pairs (shape f) (seg u 0 n) vel)
-      runs-are = ap runs later-is ∙ sym (used-runs (seg u 0 n) vel (shape f) k)
+      runs-are : runs (later v vel n m 0) ≡ used k (pairs f (seg u 0 n) vel)
+      runs-are = ap runs later-is ∙ sym (used-runs (seg u 0 n) vel f k)
 
-      pub ready : Ready v vel n m
+      pub ready : ReadsPairs v vel n m
       ready = record {
         room = omega (arith, q .scratch, lv, lw, few);
         few = few;
@@ -221,9 +220,9 @@ module _ (f : Frame) (u : List ℕ) (a vel : List Float) (n k t : ℕ) (q : Aske
           fits = omega (arith, rc);
         }
 
-        pub edged : (wide : Float) (y : List ℕ) (b : List Float) (e : ℕ) → Gathered wide v y a b t c e (runs (later v vel n m 0)) → Edged wide n u y b t e (used k (pairs (shape f) (seg u 0 n) vel))
+        pub edged : (twoNyquist : Float) (y : List ℕ) (b : List Float) (e : ℕ) → Gathered twoNyquist v y a b t c e (runs (later v vel n m 0)) → Edged twoNyquist n u y b t e (used k (pairs f (seg u 0 n) vel))
         unfolding tables
-        edged wide y b e r =
+        edged twoNyquist y b e r =
             let R : List EdgeRecord = runs (later v vel n m 0) in
             let fit : e ≤ c = omega (arith, r .count, rc) in
             let ce : c ≡ e = rc ∙ sym (r .count) in
@@ -231,7 +230,7 @@ module _ (f : Frame) (u : List ℕ) (a vel : List Float) (n k t : ℕ) (q : Aske
             let lX : length (map (λ (r : EdgeRecord). r .count) R) ≡ e = length-map R (λ r. r .count) ∙ sym (r .count) in
             let lY : length (map (λ (r : EdgeRecord). r .one) R) ≡ e = length-map R (λ r. r .one) ∙ sym (r .count) in
             let lZ : length (map (λ (r : EdgeRecord). r .two) R) ≡ e = length-map R (λ r. r .two) ∙ sym (r .count) in
-            let lD : length (map (difference wide) R) ≡ e = length-map R (difference wide) ∙ sym (r .count) in
+            let lD : length (map (difference twoNyquist) R) ≡ e = length-map R (difference twoNyquist) ∙ sym (r .count) in
             let W1 : List ℕ = put v t (map (λ r. r .count) R) in
             let W2 : List ℕ = put W1 (t + 3 * c) (map (λ r. r .one) R) in
             let l1 : length W1 ≡ length v = length-put v t (map (λ r. r .count) R) in
@@ -259,7 +258,7 @@ module _ (f : Frame) (u : List ℕ) (a vel : List Float) (n k t : ℕ) (q : Aske
                   ∙ ap (map (λ (r : EdgeRecord). r .two)) runs-are;
               diff =
                   ap (λ (l : List Float). seg l 0 e) (r .diffs)
-                  ∙ ap (λ (x : ℕ). seg (put a 0 (map (difference wide) R)) 0 x) (sym lD) ∙ seg-put-same a 0 (map (difference wide) R) (omega (arith, q .diffs))
-                  ∙ ap (map (difference wide)) runs-are;
+                  ∙ ap (λ (x : ℕ). seg (put a 0 (map (difference twoNyquist) R)) 0 x) (sym lD) ∙ seg-put-same a 0 (map (difference twoNyquist) R) (omega (arith, q .diffs))
+                  ∙ ap (map (difference twoNyquist)) runs-are;
               labels = ap (λ (l : List ℕ). seg l 0 n) (r .words) ∙ tables-labels v t c R n (omega (arith, q .above)) ∙ labels-v;
             }

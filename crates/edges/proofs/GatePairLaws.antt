@@ -11,7 +11,7 @@ use lib.Ieee.{Float}
 use borrow.Author.Tests.{le-ltb, eqb-true}
 use Rattle.lists.specs.Seq.{upto, keep, each}
 use Rattle.lists.proofs.SeqLaws.{keep-each, map-each, each-same}
-use Rattle.edges.specs.Edges.{Shape, Direction, left, right, top, bottom, next, look, sees, skip, pairTo, pairsAt, pairs}
+use Rattle.edges.specs.Edges.{Shape, Direction, Left, Right, Top, Bottom, next, look, sees, skip, pairTo, pairsAt, pairs}
 use Rattle.edges.specs.Inside.GatePairs.{both, gatePairTo, gatePairsAt, gatePairs, pairOf, greater}
 use Rattle.edges.proofs.Next.{next-in}
 
@@ -87,13 +87,13 @@ module _ (L : List ℕ) (vel : List Float) (g : ℕ) where
   unfolding pairsAt gatePairsAt
   at-same s = go (eqb (getD L g 0) 0)
     where
-      all : keep greater (each (λ d. pairTo L vel g (sees s L d g)) (left ∷ right ∷ top ∷ bottom ∷ [])) ≡ map (pairOf L vel) (each (λ d. gatePairTo L g (sees s L d g)) (left ∷ right ∷ top ∷ bottom ∷ []))
+      all : keep greater (each (λ d. pairTo L vel g (sees s L d g)) (Left ∷ Right ∷ Top ∷ Bottom ∷ [])) ≡ map (pairOf L vel) (each (λ d. gatePairTo L g (sees s L d g)) (Left ∷ Right ∷ Top ∷ Bottom ∷ []))
       all =
-          keep-each greater (λ d. pairTo L vel g (sees s L d g)) (left ∷ right ∷ top ∷ bottom ∷ [])
-          ∙ each-same (λ d. keep greater (pairTo L vel g (sees s L d g))) (λ d. map (pairOf L vel) (gatePairTo L g (sees s L d g))) (left ∷ right ∷ top ∷ bottom ∷ []) (λ d. to-same (sees s L d g))
-          ∙ sym (map-each (pairOf L vel) (λ d. gatePairTo L g (sees s L d g)) (left ∷ right ∷ top ∷ bottom ∷ []))
+          keep-each greater (λ d. pairTo L vel g (sees s L d g)) (Left ∷ Right ∷ Top ∷ Bottom ∷ [])
+          ∙ each-same (λ d. keep greater (pairTo L vel g (sees s L d g))) (λ d. map (pairOf L vel) (gatePairTo L g (sees s L d g))) (Left ∷ Right ∷ Top ∷ Bottom ∷ []) (λ d. to-same (sees s L d g))
+          ∙ sym (map-each (pairOf L vel) (λ d. gatePairTo L g (sees s L d g)) (Left ∷ Right ∷ Top ∷ Bottom ∷ []))
 
-      go : (b : Bool) → keep greater (cond b [] (each (λ d. pairTo L vel g (sees s L d g)) (left ∷ right ∷ top ∷ bottom ∷ []))) ≡ map (pairOf L vel) (cond b [] (each (λ d. gatePairTo L g (sees s L d g)) (left ∷ right ∷ top ∷ bottom ∷ [])))
+      go : (b : Bool) → keep greater (cond b [] (each (λ d. pairTo L vel g (sees s L d g)) (Left ∷ Right ∷ Top ∷ Bottom ∷ []))) ≡ map (pairOf L vel) (cond b [] (each (λ d. gatePairTo L g (sees s L d g)) (Left ∷ Right ∷ Top ∷ Bottom ∷ [])))
       go true = none-kept greater (pairOf L vel)
       go false = all
 

@@ -13,7 +13,7 @@ use Rattle.lists.proofs.SegLaws.{length-put, put-snoc, set-put-below, getD-put-
 use Rattle.edges.specs.Edges.{Pair, begun, plus, difference}
 use Rattle.edges.specs.Inside.GatePairs.{pairOf}
 use Rattle.edges.specs.Inside.Order.{alike, runsFrom}
-use Rattle.edges.specs.Inside.Gather.{pairAt, later, Ready, written, tables}
+use Rattle.edges.specs.Inside.Gather.{pairAt, later, ReadsPairs, written, tables}
 use Rattle.edges.proofs.PairTurn.{label-at}
 use Rattle.edges.specs.declared.edges.EdgeRecord.{EdgeRecord}
 
@@ -28,7 +28,7 @@ pub record Found (w : List ℕ) (vel : List Float) (n m i : ℕ) : Type 0 where
   pub few : m ≤ 4 * n
   pub little : n < 2 ^ 32
 
-pub found : (w : List ℕ) (vel : List Float) (n m i : ℕ) → Ready w vel n m → i < m → Found w vel n m i
+pub found : (w : List ℕ) (vel : List Float) (n m i : ℕ) → ReadsPairs w vel n m → i < m → Found w vel n m i
 found w vel n m i r h =
     let x : ℕ = getD w (9 * n + i) 0 in
     let xl : x < m = r .index i h in
@@ -43,7 +43,7 @@ found w vel n m i r h =
       little = r .little;
     }
 
-pub is-pair : (w : List ℕ) (vel : List Float) (n m i : ℕ) → Ready w vel n m → i < m → (a b : ℕ) (v u : Float)
+pub is-pair : (w : List ℕ) (vel : List Float) (n m i : ℕ) → ReadsPairs w vel n m → i < m → (a b : ℕ) (v u : Float)
     → a ≡ getD w (getD w (n + getD w (9 * n + i) 0) 0) 0 → b ≡ getD w (getD w (5 * n + getD w (9 * n + i) 0) 0) 0
     → v ≡ getD vel (getD w (n + getD w (9 * n + i) 0) 0) nan → u ≡ getD vel (getD w (5 * n + getD w (9 * n + i) 0) 0) nan
     → _≡_ {A = Pair} (record { one = a; two = b; vel1 = v; vel2 = u }) (pairAt w vel n i)
@@ -55,7 +55,7 @@ is-pair w vel n m i r h a b v u ea eb ev eu =
     λ j. record { one = la j; two = lb j; vel1 = ev j; vel2 = eu j }
 
 -- its labels, whatever the velocities are
-pub are-labels : (w : List ℕ) (vel : List Float) (n m i : ℕ) → Ready w vel n m → i < m → (v : List Float)
+pub are-labels : (w : List ℕ) (vel : List Float) (n m i : ℕ) → ReadsPairs w vel n m → i < m → (v : List Float)
     → (getD w (getD w (n + getD w (9 * n + i) 0) 0) 0 ≡ pairAt w v n i .one) × (getD w (getD w (5 * n + getD w (9 * n + i) 0) 0) 0 ≡ pairAt w v n i .two)
 unfolding pairAt pairOf
 are-labels w vel n m i r h v =
@@ -105,11 +105,11 @@ pub tables-length : (w : List ℕ) (t c : ℕ) (rs : List EdgeRecord) → length
 unfolding tables
 tables-length w t c rs = simp length-put refl
 
-pub diffs-snoc : (wide : Float) (d : List Float) (e : ℕ) (rs : List EdgeRecord) (r : EdgeRecord) → e ≡ length rs → set (put d 0 (map (difference wide) rs)) e (difference wide r) ≡ put d 0 (map (difference wide) (rs ++ (r ∷ [])))
-diffs-snoc wide d e rs r l =
-    ap (λ (x : ℕ). set (put d 0 (map (difference wide) rs)) x (difference wide r)) {x = e} {y = 0 + e} (omega arith)
-    ∙ snoc-at d 0 (map (difference wide) rs) e (difference wide r) (length-map rs (difference wide) ∙ sym l)
-    ∙ ap (put d 0) (sym (map-append (difference wide) rs (r ∷ [])))
+pub diffs-snoc : (twoNyquist : Float) (d : List Float) (e : ℕ) (rs : List EdgeRecord) (r : EdgeRecord) → e ≡ length rs → set (put d 0 (map (difference twoNyquist) rs)) e (difference twoNyquist r) ≡ put d 0 (map (difference twoNyquist) (rs ++ (r ∷ [])))
+diffs-snoc twoNyquist d e rs r l =
+    ap (λ (x : ℕ). set (put d 0 (map (difference twoNyquist) rs)) x (difference twoNyquist r)) {x = e} {y = 0 + e} (omega arith)
+    ∙ snoc-at d 0 (map (difference twoNyquist) rs) e (difference twoNyquist r) (length-map rs (difference twoNyquist) ∙ sym l)
+    ∙ ap (put d 0) (sym (map-append (difference twoNyquist) rs (r ∷ [])))
 
 -- ---- pairs
 

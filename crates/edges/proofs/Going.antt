@@ -13,15 +13,15 @@ use Rattle.edges.specs.declared.edges.Gathering.{Gathering}
 use Rattle.edges.specs.declared.edges.Raw.{Raw}
 use Rattle.edges.specs.Inside.GatePairs.{both, pairOf}
 use Rattle.edges.specs.Inside.Order.{alike, runs, runsFrom}
-use Rattle.edges.specs.Inside.Gather.{pairIs, pairAt, later, Ready, written, tables, Slot, Turned, Gathers, Gathered}
+use Rattle.edges.specs.Inside.Gather.{pairIs, pairAt, later, ReadsPairs, written, tables, Slot, GathersPair, Gathers, Gathered}
 use Rattle.edges.proofs.GatherLaws.{tables-snoc, tables-below, tables-labels, tables-length, diffs-snoc, later-cons, later-end, runs-some}
 use Rattle.edges.specs.declared.edges.EdgeRecord.{EdgeRecord}
 
 -- i pairs are read: these records are written, s is open, and what is left gives the rest
-pub record Going (wide : Float) (u : List ℕ) (a vel : List Float) (n m t c : ℕ) (w : List ℕ) (d : List Float) (s : Gathering) (i : ℕ) : Type 0 where
+pub record Going (twoNyquist : Float) (u : List ℕ) (a vel : List Float) (n m t c : ℕ) (w : List ℕ) (d : List Float) (s : Gathering) (i : ℕ) : Type 0 where
   pub done : List EdgeRecord
   pub mem : w ≡ tables u t c done
-  pub diffs : d ≡ put a 0 (map (difference wide) done)
+  pub diffs : d ≡ put a 0 (map (difference twoNyquist) done)
   pub edges : s .edges ≡ length done
   pub rest : done ++ runsFrom (s .«record») (later u vel n m i) ≡ runs (later u vel n m 0)
   pub few : s .«record» .count ≤ i
@@ -34,8 +34,8 @@ runs-off : (r : EdgeRecord) (p : Pair) (l : List Pair) → alike r p ≡ false �
 unfolding runsFrom
 runs-off r p l e = rw e refl
 
-module _ (wide : Float) (u : List ℕ) (a vel : List Float) (n m t c : ℕ) (lay : Gathers u a vel n m t c) where
-  pub going-begin : (s : Gathering) → 0 < m → s .«record» ≡ begun (pairAt u vel n 0) → s .edges ≡ 0 → Going wide u a vel n m t c u a s 1
+module _ (twoNyquist : Float) (u : List ℕ) (a vel : List Float) (n m t c : ℕ) (lay : Gathers u a vel n m t c) where
+  pub going-begin : (s : Gathering) → 0 < m → s .«record» ≡ begun (pairAt u vel n 0) → s .edges ≡ 0 → Going twoNyquist u a vel n m t c u a s 1
   unfolding tables put runs begun
   going-begin s h e z = record {
     done = [];
@@ -46,7 +46,7 @@ module _ (wide : Float) (u : List ℕ) (a vel : List Float) (n m t c : ℕ) (lay
     few = omega (arith, ap (λ (r : EdgeRecord). r .count) e);
   }
 
-  module _ (w : List ℕ) (d : List Float) (s : Gathering) (i : ℕ) (g : Going wide u a vel n m t c w d s i) where
+  module _ (w : List ℕ) (d : List Float) (s : Gathering) (i : ℕ) (g : Going twoNyquist u a vel n m t c w d s i) where
     below : (j : ℕ) → j < 9 * n + m → getD w j 0 ≡ getD u j 0
     below j h = ap (λ (l : List ℕ). getD l j 0) (g .mem) ∙ tables-below u t c (g .done) j (omega (arith, lay .above))
 
@@ -54,11 +54,11 @@ module _ (wide : Float) (u : List ℕ) (a vel : List Float) (n m t c : ℕ) (lay
     lw = ap length (g .mem) ∙ tables-length u t c (g .done)
 
     pub ld : length d ≡ length a
-    ld = ap length (g .diffs) ∙ length-put a 0 (map (difference wide) (g .done))
+    ld = ap length (g .diffs) ∙ length-put a 0 (map (difference twoNyquist) (g .done))
 
-    pub going-ready : Ready w vel n m
+    pub going-ready : ReadsPairs w vel n m
     going-ready =
-        let r : Ready u vel n m = lay .ready in
+        let r : ReadsPairs u vel n m = lay .ready in
         record {
           room = omega (arith, r .room, lw);
           few = r .few;
@@ -93,20 +93,20 @@ module _ (wide : Float) (u : List ℕ) (a vel : List Float) (n m t c : ℕ) (lay
     closed : (v : List ℕ) → v ≡ written w t c (s .edges) (s .«record») → v ≡ tables u t c (g .done ++ (s .«record» ∷ []))
     closed v e = e ∙ ap (λ (l : List ℕ). written l t c (s .edges) (s .«record»)) (g .mem) ∙ tables-snoc u t c (s .edges) (g .done) (s .«record») (g .edges) (going-slot .place)
 
-    closed-diffs : (b : List Float) → b ≡ set d (s .edges) (difference wide (s .«record»)) → b ≡ put a 0 (map (difference wide) (g .done ++ (s .«record» ∷ [])))
-    closed-diffs b e = e ∙ ap (λ (l : List Float). set l (s .edges) (difference wide (s .«record»))) (g .diffs) ∙ diffs-snoc wide a (s .edges) (g .done) (s .«record») (g .edges)
+    closed-diffs : (b : List Float) → b ≡ set d (s .edges) (difference twoNyquist (s .«record»)) → b ≡ put a 0 (map (difference twoNyquist) (g .done ++ (s .«record» ∷ [])))
+    closed-diffs b e = e ∙ ap (λ (l : List Float). set l (s .edges) (difference twoNyquist (s .«record»))) (g .diffs) ∙ diffs-snoc twoNyquist a (s .edges) (g .done) (s .«record») (g .edges)
 
     one-more : length (g .done ++ (s .«record» ∷ [])) ≡ s .edges + 1
     one-more = omega (arith, length-append (g .done) (s .«record» ∷ []), g .edges)
 
-    pub going-on : (v : List ℕ) (b : List Float) (r : Gathering) → i < m → Turned wide t c (pairAt w vel n i) s r w v d b → Going wide u a vel n m t c v b r (i + 1)
+    pub going-on : (v : List ℕ) (b : List Float) (r : Gathering) → i < m → GathersPair twoNyquist t c (pairAt w vel n i) s r w v d b → Going twoNyquist u a vel n m t c v b r (i + 1)
     unfolding runsFrom plus begun
     going-on v b r h q = go (alike (s .«record») (pairAt w vel n i)) refl
       where
         before : g .done ++ runsFrom (s .«record») (pairAt u vel n i ∷ later u vel n m (i + 1)) ≡ runs (later u vel n m 0)
         before = rw (later-cons u vel n m i h) at (g .rest)
 
-        go : (x : Bool) → alike (s .«record») (pairAt w vel n i) ≡ x → Going wide u a vel n m t c v b r (i + 1)
+        go : (x : Bool) → alike (s .«record») (pairAt w vel n i) ≡ x → Going twoNyquist u a vel n m t c v b r (i + 1)
         go true e = let o = q .on e in record {
           done = g .done;
           mem = o .0 ∙ g .mem;
@@ -131,28 +131,28 @@ module _ (wide : Float) (u : List ℕ) (a vel : List Float) (n m t c : ℕ) (lay
           few = omega (arith, ap (λ (z : EdgeRecord). z .count) (o .2));
         }
 
-    pub going-end : (v : List ℕ) (b : List Float) → m ≤ i → v ≡ written w t c (s .edges) (s .«record») → b ≡ set d (s .edges) (difference wide (s .«record»)) → Gathered wide u v a b t c (s .edges + 1) (runs (later u vel n m 0))
+    pub going-end : (v : List ℕ) (b : List Float) → m ≤ i → v ≡ written w t c (s .edges) (s .«record») → b ≡ set d (s .edges) (difference twoNyquist (s .«record»)) → Gathered twoNyquist u v a b t c (s .edges + 1) (runs (later u vel n m 0))
     unfolding runsFrom
     going-end v b h e f =
         let z : g .done ++ (s .«record» ∷ []) ≡ runs (later u vel n m 0) = rw (later-end u vel n m i h) at (g .rest) in
         record {
           words = closed v e ∙ ap (tables u t c) z;
-          diffs = closed-diffs b f ∙ ap (λ (l : List EdgeRecord). put a 0 (map (difference wide) l)) z;
+          diffs = closed-diffs b f ∙ ap (λ (l : List EdgeRecord). put a 0 (map (difference twoNyquist) l)) z;
           count = sym one-more ∙ ap length z;
         }
 
-pub none-gathered : (wide : Float) (u : List ℕ) (a vel : List Float) (n m t c : ℕ) → m ≡ 0 → Gathered wide u u a a t c 0 (runs (later u vel n m 0))
+pub none-gathered : (twoNyquist : Float) (u : List ℕ) (a vel : List Float) (n m t c : ℕ) → m ≡ 0 → Gathered twoNyquist u u a a t c 0 (runs (later u vel n m 0))
 unfolding tables put runs
-none-gathered wide u a vel n m t c z = rw (later-end u vel n m 0 (omega arith)) (record { words = refl; diffs = refl; count = refl })
+none-gathered twoNyquist u a vel n m t c z = rw (later-end u vel n m 0 (omega arith)) (record { words = refl; diffs = refl; count = refl })
 
-module _ (wide : Float) (t c : ℕ) (P : Pair) (s r : Gathering) (p : Raw) (b : Bool) (pi : pairIs p ≡ P) (al : b ≡ alike (s .«record») (pairIs p)) where
-  pub turned-on : b ≡ true → r .«record» ≡ plus (s .«record») (pairIs p) → r .edges ≡ s .edges → (w : List ℕ) (d : List Float) → Turned wide t c P s r w w d d
+module _ (twoNyquist : Float) (t c : ℕ) (P : Pair) (s r : Gathering) (p : Raw) (b : Bool) (pi : pairIs p ≡ P) (al : b ≡ alike (s .«record») (pairIs p)) where
+  pub turned-on : b ≡ true → r .«record» ≡ plus (s .«record») (pairIs p) → r .edges ≡ s .edges → (w : List ℕ) (d : List Float) → GathersPair twoNyquist t c P s r w w d d
   turned-on h x y w d = record {
     on = λ e. (refl, refl, x ∙ ap (plus (s .«record»)) pi, y);
     off = λ e. absurd (true≢false (sym h ∙ al ∙ ap (alike (s .«record»)) pi ∙ e));
   }
 
-  pub turned-off : b ≡ false → r .«record» ≡ begun (pairIs p) → r .edges ≡ s .edges + 1 → (w v : List ℕ) (d a : List Float) → v ≡ written w t c (s .edges) (s .«record») → a ≡ set d (s .edges) (difference wide (s .«record»)) → Turned wide t c P s r w v d a
+  pub turned-off : b ≡ false → r .«record» ≡ begun (pairIs p) → r .edges ≡ s .edges + 1 → (w v : List ℕ) (d a : List Float) → v ≡ written w t c (s .edges) (s .«record») → a ≡ set d (s .edges) (difference twoNyquist (s .«record»)) → GathersPair twoNyquist t c P s r w v d a
   turned-off h x y w v d a e f = record {
     on = λ q. absurd (true≢false (sym q ∙ sym (ap (alike (s .«record»)) pi) ∙ sym al ∙ h));
     off = λ q. (e, f, x ∙ ap begun pi, y);

@@ -12,7 +12,7 @@ use borrow.Author.Tests.{ltb-true}
 use Rattle.lists.specs.Seq.{upto, keep, each, All}
 use Rattle.lists.proofs.SeqLaws.{keep-each, keep-of-map, keep-same, map-each, each-same, keep-swap}
 use Rattle.memory.specs.Inside.Sort.{keyIs, sorted}
-use Rattle.edges.specs.Edges.{Shape, Direction, left, right, top, bottom, sees, skip, Pair, firstIs, secondIs, pairs, records, used}
+use Rattle.edges.specs.Edges.{Shape, Direction, Left, Right, Top, Bottom, sees, skip, Pair, firstIs, secondIs, pairs, records, used}
 use Rattle.edges.specs.Inside.GatePairs.{GatePair, both, gatePairTo, gatePairsAt, gatePairs, pairOf}
 use Rattle.edges.specs.Inside.Order.{ordered, runs}
 use Rattle.edges.proofs.GatePairLaws.{look-labelled, links-same}
@@ -77,9 +77,9 @@ module _ (L : List ℕ) (vel : List Float) where
 
   at-good : (s : Shape) (g : ℕ) → All Labelled (map (pairOf L vel) (gatePairsAt s L g))
   unfolding gatePairsAt sees
-  at-good s g = go (eqb (getD L g 0) 0) (each-good (λ d. gatePairTo L g (sees s L d g)) (left ∷ right ∷ top ∷ bottom ∷ []) (λ d. to-good s d g (sees s L d g) (λ h e. look-labelled s d L (suc (skip s d)) g h e)))
+  at-good s g = go (eqb (getD L g 0) 0) (each-good (λ d. gatePairTo L g (sees s L d g)) (Left ∷ Right ∷ Top ∷ Bottom ∷ []) (λ d. to-good s d g (sees s L d g) (λ h e. look-labelled s d L (suc (skip s d)) g h e)))
     where
-      go : (b : Bool) → All Labelled (map (pairOf L vel) (each (λ d. gatePairTo L g (sees s L d g)) (left ∷ right ∷ top ∷ bottom ∷ []))) → All Labelled (map (pairOf L vel) (cond b [] (each (λ d. gatePairTo L g (sees s L d g)) (left ∷ right ∷ top ∷ bottom ∷ []))))
+      go : (b : Bool) → All Labelled (map (pairOf L vel) (each (λ d. gatePairTo L g (sees s L d g)) (Left ∷ Right ∷ Top ∷ Bottom ∷ []))) → All Labelled (map (pairOf L vel) (cond b [] (each (λ d. gatePairTo L g (sees s L d g)) (Left ∷ Right ∷ Top ∷ Bottom ∷ []))))
       go true h = tt
       go false h = h
 

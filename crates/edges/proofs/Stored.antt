@@ -7,7 +7,7 @@ use lib.ListN.{length, set, length-map, length-append}
 use Rattle.lists.specs.Inside.Seg.{seg, put}
 use Rattle.lists.proofs.SegLaws.{length-put, set-put-above, seg-put-below, seg-put-same}
 use Rattle.lists.proofs.SeqLaws.{map-append}
-use Rattle.edges.specs.Inside.GatePairs.{GatePair, stored, Adds}
+use Rattle.edges.specs.Inside.GatePairs.{GatePair, stored, AddsPairs}
 
 module _ {A : Type 0} where
   pub put-append : (w : List A) (b : ℕ) (us vs : List A) → put (put w b us) (b + length us) vs ≡ put w b (us ++ vs)
@@ -55,27 +55,27 @@ stored-labels w n c ts = seg-put-below (put w (n + c) (gates ts)) (5 * n + c) (f
 
 -- ---- what callers use
 
-pub adds-none : (n : ℕ) (w : List ℕ) (c : ℕ) → Adds n w w c c []
+pub adds-none : (n : ℕ) (w : List ℕ) (c : ℕ) → AddsPairs n w w c c []
 unfolding stored put
 adds-none n w c = record { mem = refl; count = omega arith }
 
-pub adds-one : (n : ℕ) (w : List ℕ) (c g h : ℕ) → Adds n w (set (set w (n + c) g) (5 * n + c) h) c (c + 1) (record { gate = g; far = h } ∷ [])
+pub adds-one : (n : ℕ) (w : List ℕ) (c g h : ℕ) → AddsPairs n w (set (set w (n + c) g) (5 * n + c) h) c (c + 1) (record { gate = g; far = h } ∷ [])
 adds-one n w c g h = record { mem = sym (stored-one w n c g h); count = omega arith }
 
-pub adds-then : (n : ℕ) (u v w : List ℕ) (a b c : ℕ) (xs ys : List GatePair) → Adds n u v a b xs → Adds n v w b c ys → c ≤ 4 * n → Adds n u w a c (xs ++ ys)
+pub adds-then : (n : ℕ) (u v w : List ℕ) (a b c : ℕ) (xs ys : List GatePair) → AddsPairs n u v a b xs → AddsPairs n v w b c ys → c ≤ 4 * n → AddsPairs n u w a c (xs ++ ys)
 adds-then n u v w a b c xs ys p q h = record {
   mem = q .mem ∙ ap (λ (l : List ℕ). stored l n b ys) (p .mem) ∙ ap (λ (x : ℕ). stored (stored u n a xs) n x ys) (p .count) ∙ stored-append u n a xs ys (omega (arith, p .count, q .count));
   count = omega (arith, p .count, q .count, length-append xs ys);
 }
 
-pub adds-labels : (n : ℕ) (w v : List ℕ) (c e : ℕ) (ts : List GatePair) → Adds n w v c e ts → seg v 0 n ≡ seg w 0 n
+pub adds-labels : (n : ℕ) (w v : List ℕ) (c e : ℕ) (ts : List GatePair) → AddsPairs n w v c e ts → seg v 0 n ≡ seg w 0 n
 adds-labels n w v c e ts p = ap (λ (l : List ℕ). seg l 0 n) (p .mem) ∙ stored-labels w n c ts
 
-pub adds-length : (n : ℕ) (w v : List ℕ) (c e : ℕ) (ts : List GatePair) → Adds n w v c e ts → length v ≡ length w
+pub adds-length : (n : ℕ) (w v : List ℕ) (c e : ℕ) (ts : List GatePair) → AddsPairs n w v c e ts → length v ≡ length w
 adds-length n w v c e ts p = ap length (p .mem) ∙ length-stored w n c ts
 
 -- the stored pairs, read
-pub adds-gates : (n : ℕ) (w v : List ℕ) (e : ℕ) (ts : List GatePair) → Adds n w v 0 e ts → 9 * n ≤ length w → e ≤ 4 * n → seg v n e ≡ gates ts
+pub adds-gates : (n : ℕ) (w v : List ℕ) (e : ℕ) (ts : List GatePair) → AddsPairs n w v 0 e ts → 9 * n ≤ length w → e ≤ 4 * n → seg v n e ≡ gates ts
 unfolding stored
 adds-gates n w v e ts p r h =
     let lg : length (gates ts) ≡ length ts = length-map ts (λ (t : GatePair). t .gate) in
@@ -86,7 +86,7 @@ adds-gates n w v e ts p r h =
     ∙ ap (λ (x : ℕ). seg (put w n (gates ts)) n x) ee
     ∙ seg-put-same w n (gates ts) (omega arith)
 
-pub adds-fars : (n : ℕ) (w v : List ℕ) (e : ℕ) (ts : List GatePair) → Adds n w v 0 e ts → 9 * n ≤ length w → e ≤ 4 * n → seg v (5 * n) e ≡ fars ts
+pub adds-fars : (n : ℕ) (w v : List ℕ) (e : ℕ) (ts : List GatePair) → AddsPairs n w v 0 e ts → 9 * n ≤ length w → e ≤ 4 * n → seg v (5 * n) e ≡ fars ts
 unfolding stored
 adds-fars n w v e ts p r h =
     let lf : length (fars ts) ≡ length ts = length-map ts (λ (t : GatePair). t .far) in

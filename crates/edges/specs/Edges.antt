@@ -1,5 +1,6 @@
--- edges.rs: looks, pairs, and the edge records. An `EdgeRecord` is the code's own struct: two labels, the number of their pairs, and the sums
--- of the velocities at either end. Definitions only.
+-- edges.rs: looks, pairs, and the edge records. Three types are the code's own: a `Shape` is rays, gates per ray, the two skips, and whether
+-- rays wrap; a `Direction` is Left or Right, from ray to ray, or Top or Bottom, along a ray; an `EdgeRecord` is two labels, the number of
+-- their pairs, and the sums of the velocities at either end.
 use Prim.Native.Nat.{ℕ, zero, suc, _+_, _-_, _*_, _%_}
 use mathlib.Core.Bool.{Bool, cond, not}
 use mathlib.Core.List.{List, [], _∷_, foldl}
@@ -9,33 +10,24 @@ use lib.ListN.{length, getD}
 use lib.Ieee.{Float, nan, binary64, add, sub, div}
 use Rattle.lists.specs.Seq.{upto, keep, each}
 use Rattle.arithmetic.specs.Rounding.{narrowed}
-use Rattle.edges.specs.declared.edges.EdgeRecord.{EdgeRecord}
-
--- rays, gates per ray, the two skips, and whether rays wrap
-pub record Shape : Type 0 where
-  pub rays : ℕ
-  pub gates : ℕ
-  pub skipRays : ℕ
-  pub skipGates : ℕ
-  pub wrap : ℕ
-
--- left and right go from ray to ray, top and bottom along a ray
-pub data Direction : Type 0 where
-  left right top bottom : Direction
+pub use Rattle.edges.specs.declared.edges.Shape.{Shape}
+pub use Rattle.edges.specs.declared.edges.Direction.{Direction}
+pub use Rattle.edges.specs.declared.edges.Direction.the-variants.{Left, Right, Top, Bottom}
+pub use Rattle.edges.specs.declared.edges.EdgeRecord.{EdgeRecord}
 
 -- the gate one step from gate g, if it doesn't leave the sweep
 unfoldable pub next : Shape → Direction → ℕ → Option ℕ
-next s left g = cond (leb (s .gates) g) (some (g - s .gates)) (cond (eqb (s .wrap) 1) (some (g + (s .rays - 1) * s .gates)) none)
-next s right g = cond (ltb (g + s .gates) (s .rays * s .gates)) (some (g + s .gates)) (cond (eqb (s .wrap) 1) (some (g % s .gates)) none)
-next s top g = cond (not (eqb (g % s .gates) 0)) (some (g - 1)) none
-next s bottom g = cond (not (eqb (suc g % s .gates) 0)) (some (suc g)) none
+next s Left g = cond (leb (s .gates) g) (some (g - s .gates)) (cond (eqb (s .wrap) 1) (some (g + (s .rays - 1) * s .gates)) none)
+next s Right g = cond (ltb (g + s .gates) (s .rays * s .gates)) (some (g + s .gates)) (cond (eqb (s .wrap) 1) (some (g % s .gates)) none)
+next s Top g = cond (not (eqb (g % s .gates) 0)) (some (g - 1)) none
+next s Bottom g = cond (not (eqb (suc g % s .gates) 0)) (some (suc g)) none
 
 -- how many further steps a look takes over label 0
 unfoldable pub skip : Shape → Direction → ℕ
-skip s left = s .skipRays
-skip s right = s .skipRays
-skip s top = s .skipGates
-skip s bottom = s .skipGates
+skip s Left = s .«skip_between_rays»
+skip s Right = s .«skip_between_rays»
+skip s Top = s .«skip_along_ray»
+skip s Bottom = s .«skip_along_ray»
 
 -- the first labelled gate within k steps of gate g
 unfoldable pub look : Shape → Direction → List ℕ → ℕ → ℕ → Option ℕ
@@ -67,7 +59,7 @@ pairTo labels vel g (some h) =
 unfoldable pub pairsAt : Shape → List ℕ → List Float → ℕ → List Pair
 pairsAt s labels vel g =
     cond (eqb (getD labels g 0) 0) []
-    (each (λ d. pairTo labels vel g (sees s labels d g)) (left ∷ right ∷ top ∷ bottom ∷ []))
+    (each (λ d. pairTo labels vel g (sees s labels d g)) (Left ∷ Right ∷ Top ∷ Bottom ∷ []))
 
 -- all pairs, in scan order
 unfoldable pub pairs : Shape → List ℕ → List Float → List Pair

@@ -7,13 +7,13 @@ ghost use mathlib.Core.List.{List};
 ghost use lib.Ieee.{Float};
 ghost use lib.ListN.{length, set};
 ghost use Rattle.lists.specs.Inside.Seg.{seg, put};
-ghost use Rattle.edges.specs.Edges.{next, left, right, top, bottom, look, sees, skip, begun, plus, difference, pairs, used};
-ghost use Rattle.edges.specs.Inside.Whole.{Asked, Edged};
-ghost use Rattle.edges.specs.Inside.Gather.{pairIs, pairAt, later, Ready, Legible, LabelsAt, written, Slot, Turned, Gathers, Gathered};
+ghost use Rattle.edges.specs.Edges.{next, Left, Right, Top, Bottom, sees, skip, begun, plus, difference, pairs, used};
+ghost use Rattle.edges.specs.Inside.Whole.{FindsEdges, Edged};
+ghost use Rattle.edges.specs.Inside.Gather.{pairIs, pairAt, later, ReadsPairs, Legible, LabelsAt, written, Slot, GathersPair, Gathers, Gathered};
 ghost use Rattle.edges.specs.Inside.Order.{alike, runs};
 ghost use Rattle.edges.specs.Inside.Sorts.{labelsOf, Reads, Sorts, Sorted};
-ghost use Rattle.edges.specs.Inside.GatePairs.{gatePairTo, gatePairsAt, gatePairs, Adds, Sheet, Place};
-ghost use Rattle.edges.specs.Inside.Sees.{answer, way, shape, Inside, Looks};
+ghost use Rattle.edges.specs.Inside.GatePairs.{gatePairTo, gatePairsAt, gatePairs, AddsPairs, Sheet, Place};
+ghost use Rattle.edges.specs.Inside.Sees.{answer, Inside, Looks};
 
 // Two labels, the number of their pairs, and the sums of the velocities at either end.
 pub struct EdgeRecord {
@@ -25,15 +25,15 @@ pub struct EdgeRecord {
 }
 
 // Rays, gates per ray, the two skips, and whether rays wrap.
-pub struct Frame {
+pub struct Shape {
     pub rays: usize,
     pub gates: usize,
-    pub across: usize,
-    pub along: usize,
+    pub skip_between_rays: usize,
+    pub skip_along_ray: usize,
     pub wrap: u32,
 }
 
-pub enum Way {
+pub enum Direction {
     Left,
     Right,
     Top,
@@ -46,9 +46,9 @@ pub enum Seen {
 }
 
 // One step to the ray before.
-fn to_left(f: Frame, g: usize) -> Seen
+fn to_left(f: Shape, g: usize) -> Seen
     requires { ⌜ Inside f g ⌝ }
-    ensures { λ r. ⌜ answer r ≡ next (shape f) left g ⌝ }
+    ensures { λ r. ⌜ answer r ≡ next f Left g ⌝ }
 {
     let gates = f.gates;
     if gates <= g {
@@ -61,9 +61,9 @@ fn to_left(f: Frame, g: usize) -> Seen
 }
 
 // One step to the ray after.
-fn to_right(f: Frame, g: usize) -> Seen
+fn to_right(f: Shape, g: usize) -> Seen
     requires { ⌜ Inside f g ⌝ }
-    ensures { λ r. ⌜ answer r ≡ next (shape f) right g ⌝ }
+    ensures { λ r. ⌜ answer r ≡ next f Right g ⌝ }
 {
     let gates = f.gates;
     if g + gates < f.rays * gates {
@@ -76,9 +76,9 @@ fn to_right(f: Frame, g: usize) -> Seen
 }
 
 // One step back on the ray.
-fn to_top(f: Frame, g: usize) -> Seen
+fn to_top(f: Shape, g: usize) -> Seen
     requires { ⌜ Inside f g ⌝ }
-    ensures { λ r. ⌜ answer r ≡ next (shape f) top g ⌝ }
+    ensures { λ r. ⌜ answer r ≡ next f Top g ⌝ }
 {
     if g % f.gates == 0 {
         return Seen::Nothing;
@@ -87,9 +87,9 @@ fn to_top(f: Frame, g: usize) -> Seen
 }
 
 // One step on along the ray.
-fn to_bottom(f: Frame, g: usize) -> Seen
+fn to_bottom(f: Shape, g: usize) -> Seen
     requires { ⌜ Inside f g ⌝ }
-    ensures { λ r. ⌜ answer r ≡ next (shape f) bottom g ⌝ }
+    ensures { λ r. ⌜ answer r ≡ next f Bottom g ⌝ }
 {
     if (g + 1) % f.gates == 0 {
         return Seen::Nothing;
@@ -98,39 +98,39 @@ fn to_bottom(f: Frame, g: usize) -> Seen
 }
 
 // One step.
-pub fn step(f: Frame, d: Way, g: usize) -> Seen
+pub fn next(f: Shape, d: Direction, g: usize) -> Seen
     requires { ⌜ Inside f g ⌝ }
-    ensures { λ r. ⌜ answer r ≡ next (shape f) (way d) g ⌝ }
+    ensures { λ r. ⌜ answer r ≡ next f d g ⌝ }
 {
     match d {
-        Way::Left => to_left(f, g),
-        Way::Right => to_right(f, g),
-        Way::Top => to_top(f, g),
-        Way::Bottom => to_bottom(f, g),
+        Direction::Left => to_left(f, g),
+        Direction::Right => to_right(f, g),
+        Direction::Top => to_top(f, g),
+        Direction::Bottom => to_bottom(f, g),
     }
 }
 
 // How many further steps a look takes.
-pub fn reach(f: Frame, d: Way) -> usize
-    ensures { λ r. ⌜ r ≡ skip (shape f) (way d) ⌝ }
+pub fn skip(f: Shape, d: Direction) -> usize
+    ensures { λ r. ⌜ r ≡ skip f d ⌝ }
 {
     match d {
-        Way::Left => f.across,
-        Way::Right => f.across,
-        Way::Top => f.along,
-        Way::Bottom => f.along,
+        Direction::Left => f.skip_between_rays,
+        Direction::Right => f.skip_between_rays,
+        Direction::Top => f.skip_along_ray,
+        Direction::Bottom => f.skip_along_ray,
     }
 }
 
 // The gate that gate g sees.
-pub fn look(labels: &[u32], f: Frame, d: Way, g: usize) -> Seen
+pub fn sees(labels: &[u32], f: Shape, d: Direction, g: usize) -> Seen
     requires { ⌜ Looks f (now labels) g ⌝ }
-    ensures { λ r. ⌜ answer r ≡ sees (shape f) (now (labels .entry)) (way d) g ⌝ }
+    ensures { λ r. ⌜ answer r ≡ sees f (now (labels .entry)) d g ⌝ }
 {
-    let mut left = reach(f, d);
+    let mut left = skip(f, d);
     let mut h = g;
     loop {
-        let s = step(f, d, h);
+        let s = next(f, d, h);
         let Seen::At(j) = s else {
             return Seen::Nothing;
         };
@@ -146,11 +146,11 @@ pub fn look(labels: &[u32], f: Frame, d: Way, g: usize) -> Seen
 }
 
 // Gate g and the gate that it sees one way, as pair c, if its label is the greater. Gives how many pairs there are then.
-pub fn pair_one(w: &mut [u32], n: usize, f: Frame, d: Way, g: usize, c: usize) -> usize
+pub fn pair_one(w: &mut [u32], n: usize, f: Shape, d: Direction, g: usize, c: usize) -> usize
     requires { ⌜ Place f n (now w) g c 1 ⌝ }
-    ensures { λ r. ⌜ Adds n (now (w .entry)) (now (w .exit)) c r (gatePairTo (seg (now (w .entry)) 0 n) g (sees (shape f) (seg (now (w .entry)) 0 n) (way d) g)) ⌝ }
+    ensures { λ r. ⌜ AddsPairs n (now (w .entry)) (now (w .exit)) c r (gatePairTo (seg (now (w .entry)) 0 n) g (sees f (seg (now (w .entry)) 0 n) d g)) ⌝ }
 {
-    let s = look(&w[0..n], f, d, g);
+    let s = sees(&w[0..n], f, d, g);
     let Seen::At(h) = s else {
         return c;
     };
@@ -163,23 +163,23 @@ pub fn pair_one(w: &mut [u32], n: usize, f: Frame, d: Way, g: usize, c: usize) -
 }
 
 // The pairs of gate g.
-pub fn pair_gate(w: &mut [u32], n: usize, f: Frame, g: usize, c: usize) -> usize
+pub fn pair_gate(w: &mut [u32], n: usize, f: Shape, g: usize, c: usize) -> usize
     requires { ⌜ Place f n (now w) g c 4 ⌝ }
-    ensures { λ r. ⌜ Adds n (now (w .entry)) (now (w .exit)) c r (gatePairsAt (shape f) (seg (now (w .entry)) 0 n) g) ⌝ }
+    ensures { λ r. ⌜ AddsPairs n (now (w .entry)) (now (w .exit)) c r (gatePairsAt f (seg (now (w .entry)) 0 n) g) ⌝ }
 {
     if w[g] == 0 {
         return c;
     }
-    let c1 = pair_one(w, n, f, Way::Left, g, c);
-    let c2 = pair_one(w, n, f, Way::Right, g, c1);
-    let c3 = pair_one(w, n, f, Way::Top, g, c2);
-    pair_one(w, n, f, Way::Bottom, g, c3)
+    let c1 = pair_one(w, n, f, Direction::Left, g, c);
+    let c2 = pair_one(w, n, f, Direction::Right, g, c1);
+    let c3 = pair_one(w, n, f, Direction::Top, g, c2);
+    pair_one(w, n, f, Direction::Bottom, g, c3)
 }
 
 // All pairs, in scan order.
-pub fn pair_all(w: &mut [u32], n: usize, f: Frame) -> usize
+pub fn pair_all(w: &mut [u32], n: usize, f: Shape) -> usize
     requires { ⌜ Sheet f n (now w) ⌝ }
-    ensures { λ r. ⌜ Adds n (now (w .entry)) (now (w .exit)) 0 r (gatePairs (shape f) (seg (now (w .entry)) 0 n)) ⌝ }
+    ensures { λ r. ⌜ AddsPairs n (now (w .entry)) (now (w .exit)) 0 r (gatePairs f (seg (now (w .entry)) 0 n)) ⌝ }
     ensures { λ r. ⌜ r ≤ 4 * n ⌝ }
 {
     let mut c = 0;
@@ -238,7 +238,7 @@ pub struct Labels {
 
 // The i-th of the sorted pairs.
 pub fn pair_at(w: &[u32], vel: &[f32], n: usize, m: usize, i: usize) -> Raw
-    requires { ⌜ Ready (now w) (now vel) n m ⌝ }
+    requires { ⌜ ReadsPairs (now w) (now vel) n m ⌝ }
     requires { ⌜ i < m ⌝ }
     ensures { λ r. ⌜ pairIs r ≡ pairAt (now (w .entry)) (now (vel .entry)) n i ⌝ }
 {
@@ -281,10 +281,10 @@ pub fn go_on(s: EdgeRecord, p: Raw) -> EdgeRecord
 }
 
 // The difference of a record.
-pub fn difference(s: EdgeRecord, wide: f64) -> f64
-    ensures { λ r. ⌜ r ≡ difference wide s ⌝ }
+pub fn difference(s: EdgeRecord, two_nyquist: f64) -> f64
+    ensures { λ r. ⌜ r ≡ difference «two_nyquist» s ⌝ }
 {
-    let y = arithmetic::narrow::to_f32((s.sum1 - s.sum2) / wide);
+    let y = arithmetic::narrow::to_f32((s.sum1 - s.sum2) / two_nyquist);
     std::num::f32_to_f64_with_nan(y)
 }
 
@@ -294,18 +294,18 @@ pub fn put_edge(
     d: &mut [f64],
     t: usize,
     c: usize,
-    wide: f64,
+    two_nyquist: f64,
     s: EdgeRecord,
     e: usize,
 )
     requires { ⌜ (t + 5 * c ≤ length (now w)) × (c ≤ length (now d)) × (e < c) ⌝ }
     ensures { λ _. ⌜ now (w .exit) ≡ written (now (w .entry)) t c e s ⌝ }
-    ensures { λ _. ⌜ now (d .exit) ≡ set (now (d .entry)) e (difference wide s) ⌝ }
+    ensures { λ _. ⌜ now (d .exit) ≡ set (now (d .entry)) e (difference «two_nyquist» s) ⌝ }
 {
     w[t + e] = s.count;
     w[t + 3 * c + e] = s.one;
     w[t + 4 * c + e] = s.two;
-    d[e] = difference(s, wide);
+    d[e] = difference(s, two_nyquist);
 }
 
 // Whether a pair has a record's labels.
@@ -327,14 +327,14 @@ pub fn gather_one(
     m: usize,
     t: usize,
     c: usize,
-    wide: f64,
+    two_nyquist: f64,
     s: Gathering,
     i: usize,
 ) -> Gathering
-    requires { ⌜ Ready (now w) (now vel) n m ⌝ }
+    requires { ⌜ ReadsPairs (now w) (now vel) n m ⌝ }
     requires { ⌜ Slot (now w) (now d) n m t c (s .edges) ⌝ }
     requires { ⌜ (i < m) × (s .«record» .count + 1 < 2 ^ 32) ⌝ }
-    ensures { λ r. ⌜ Turned wide t c (pairAt (now (w .entry)) (now (vel .entry)) n i) s r (now (w .entry)) (now (w .exit)) (now (d .entry)) (now (d .exit)) ⌝ }
+    ensures { λ r. ⌜ GathersPair «two_nyquist» t c (pairAt (now (w .entry)) (now (vel .entry)) n i) s r (now (w .entry)) (now (w .exit)) (now (d .entry)) (now (d .exit)) ⌝ }
 {
     let p = pair_at(w, vel, n, m, i);
     if same_labels(s.record, p) {
@@ -343,7 +343,7 @@ pub fn gather_one(
             edges: s.edges,
         };
     }
-    put_edge(w, d, t, c, wide, s.record, s.edges);
+    put_edge(w, d, t, c, two_nyquist, s.record, s.edges);
     Gathering {
         record: begin(p),
         edges: s.edges + 1,
@@ -359,10 +359,10 @@ pub fn gather(
     m: usize,
     t: usize,
     c: usize,
-    wide: f64,
+    two_nyquist: f64,
 ) -> usize
     requires { ⌜ Gathers (now w) (now d) (now vel) n m t c ⌝ }
-    ensures { λ r. ⌜ Gathered wide (now (w .entry)) (now (w .exit)) (now (d .entry)) (now (d .exit)) t c r (runs (later (now (w .entry)) (now (vel .entry)) n m 0)) ⌝ }
+    ensures { λ r. ⌜ Gathered «two_nyquist» (now (w .entry)) (now (w .exit)) (now (d .entry)) (now (d .exit)) t c r (runs (later (now (w .entry)) (now (vel .entry)) n m 0)) ⌝ }
 {
     if m == 0 {
         return 0;
@@ -374,10 +374,10 @@ pub fn gather(
     };
     let mut i = 1;
     while i < m {
-        s = gather_one(w, d, vel, n, m, t, c, wide, s, i);
+        s = gather_one(w, d, vel, n, m, t, c, two_nyquist, s, i);
         i += 1;
     }
-    put_edge(w, d, t, c, wide, s.record, s.edges);
+    put_edge(w, d, t, c, two_nyquist, s.record, s.edges);
     s.edges + 1
 }
 
@@ -435,17 +435,17 @@ pub fn find_edges(
     w: &mut [u32],
     d: &mut [f64],
     vel: &[f32],
-    f: Frame,
+    f: Shape,
     n: usize,
     k: usize,
     t: usize,
-    wide: f64,
+    two_nyquist: f64,
 ) -> usize
-    requires { ⌜ Asked f (now w) (now d) (now vel) n k t ⌝ }
-    ensures { λ r. ⌜ Edged wide n (now (w .entry)) (now (w .exit)) (now (d .exit)) t r (used k (pairs (shape f) (seg (now (w .entry)) 0 n) (now (vel .entry)))) ⌝ }
+    requires { ⌜ FindsEdges f (now w) (now d) (now vel) n k t ⌝ }
+    ensures { λ r. ⌜ Edged «two_nyquist» n (now (w .entry)) (now (w .exit)) (now (d .exit)) t r (used k (pairs f (seg (now (w .entry)) 0 n) (now (vel .entry)))) ⌝ }
 {
     let m = pair_all(w, n, f);
     sort_pairs(w, n, m, k + 1);
     let e = count_runs(w, n, m);
-    gather(w, d, vel, n, m, t, e, wide)
+    gather(w, d, vel, n, m, t, e, two_nyquist)
 }

@@ -2,7 +2,7 @@
 ghost use mathlib.Core.Path.{_≡_};
 ghost use Rattle.sweep.specs.Call.{call, memoryOf, answerBy};
 ghost use Rattle.sweep.specs.Entry.{sweepOf};
-ghost use Rattle.sweep.specs.Velocity.{callVelocity, counted, writtenBy};
+ghost use Rattle.sweep.specs.Velocity.{callVelocity, counted, velocityAnswerBy};
 
 // A sweep's fold counts, with the numbers of regions and of merges.
 #[no_mangle]
@@ -54,7 +54,7 @@ pub extern "C" fn jivakkol_unfold_velocity(
 ) -> u32
     ensures { λ r. ⌜ (
         let u = counted rays gates nyquist (now (velocity .entry)) (now (valid .entry)) (now (folds .entry)) in
-        writtenBy r (now (unfolded .exit)) ≡ callVelocity u (now (unfolded .entry))
+        velocityAnswerBy r (now (unfolded .exit)) ≡ callVelocity u (now (unfolded .entry))
         ) ⌝ }
 {
     sweep::velocity::unfold_velocity(rays, gates, nyquist, velocity, valid, folds, unfolded)

@@ -10,7 +10,7 @@ use borrow.Author.Tests.{eqb-true, eqb-false, leb-true, leb-false, le-leb, lt-le
 use Rattle.labels.proofs.ForestLaws.{join-at, join-keeps, some-pred}
 use Rattle.labels.proofs.OwnLaws.{own-in, own-out}
 use Rattle.labels.proofs.RankLaws.{bit, rank-cons, test-mono, rank-mono}
-use Rattle.labels.specs.Label.{Link, swap, join, own, rank}
+use Rattle.labels.specs.Label.{Neighbours, swap, join, own, rank}
 use Rattle.lists.specs.Seq.{upto, keep}
 
 -- ---- one join
@@ -27,7 +27,7 @@ swap-ends x y = go (eqb x (max x y)) (eqb y (max x y)) refl refl
     go false false e f = omega (arith, eqb-false x (max x y) e, eqb-false y (max x y) f)
 
 -- the ends of a link get one root
-join-ends : (rs : List ℕ) (l : Link) → getD (join rs l) (l .a) 0 ≡ getD (join rs l) (l .b) 0
+join-ends : (rs : List ℕ) (l : Neighbours) → getD (join rs l) (l .a) 0 ≡ getD (join rs l) (l .b) 0
 join-ends rs l = join-at rs l (l .a) ∙ swap-ends (getD rs (l .a) 0) (getD rs (l .b) 0) ∙ sym (join-at rs l (l .b))
 
 -- ---- all joins
@@ -37,41 +37,41 @@ pub data In {A : Type 0} : A → List A → Type 0 where
   there : {x y : A} {xs : List A} → In x xs → In x (y ∷ xs)
 
 -- links lead from one gate to the other, either way
-pub data Joined (ls : List Link) : ℕ → ℕ → Type 0 where
+pub data Joined (ls : List Neighbours) : ℕ → ℕ → Type 0 where
   stay : (g : ℕ) → Joined ls g g
-  along : {h : ℕ} (l : Link) → In l ls → Joined ls (l .b) h → Joined ls (l .a) h
-  back : {h : ℕ} (l : Link) → In l ls → Joined ls (l .a) h → Joined ls (l .b) h
+  along : {h : ℕ} (l : Neighbours) → In l ls → Joined ls (l .b) h → Joined ls (l .a) h
+  back : {h : ℕ} (l : Neighbours) → In l ls → Joined ls (l .a) h → Joined ls (l .b) h
 
-keeps : (ls : List Link) (rs : List ℕ) (i j : ℕ) → getD rs i 0 ≡ getD rs j 0 → getD (foldl join rs ls) i 0 ≡ getD (foldl join rs ls) j 0
+keeps : (ls : List Neighbours) (rs : List ℕ) (i j : ℕ) → getD rs i 0 ≡ getD rs j 0 → getD (foldl join rs ls) i 0 ≡ getD (foldl join rs ls) j 0
 keeps [] rs i j e = e
 keeps (l ∷ ls) rs i j e = keeps ls (join rs l) i j (join-keeps rs l i j e)
 
-ends : (ls : List Link) (rs : List ℕ) (l : Link) → In l ls → getD (foldl join rs ls) (l .a) 0 ≡ getD (foldl join rs ls) (l .b) 0
+ends : (ls : List Neighbours) (rs : List ℕ) (l : Neighbours) → In l ls → getD (foldl join rs ls) (l .a) 0 ≡ getD (foldl join rs ls) (l .b) 0
 ends ls rs l (here {xs = xs}) = keeps xs (join rs l) (l .a) (l .b) (join-ends rs l)
 ends ls rs l (there {y = y} {xs = xs} m) = ends xs (join rs y) l m
 
-pub joined-one-root : (ls : List Link) (rs : List ℕ) (i j : ℕ) → Joined ls i j → getD (foldl join rs ls) i 0 ≡ getD (foldl join rs ls) j 0
+pub joined-one-root : (ls : List Neighbours) (rs : List ℕ) (i j : ℕ) → Joined ls i j → getD (foldl join rs ls) i 0 ≡ getD (foldl join rs ls) j 0
 joined-one-root ls rs i j (stay g) = refl
 joined-one-root ls rs i j (along l m p) = ends ls rs l m ∙ joined-one-root ls rs (l .b) j p
 joined-one-root ls rs i j (back l m p) = sym (ends ls rs l m) ∙ joined-one-root ls rs (l .a) j p
 
 -- ---- the other way: a root is a gate that links lead to
 
-pub joined-trans : (ls : List Link) (i j k : ℕ) → Joined ls i j → Joined ls j k → Joined ls i k
+pub joined-trans : (ls : List Neighbours) (i j k : ℕ) → Joined ls i j → Joined ls j k → Joined ls i k
 joined-trans ls i j k (stay g) q = q
 joined-trans ls i j k (along l m p) q = along l m (joined-trans ls (l .b) j k p q)
 joined-trans ls i j k (back l m p) q = back l m (joined-trans ls (l .a) j k p q)
 
-pub joined-sym : (ls : List Link) (i j : ℕ) → Joined ls i j → Joined ls j i
+pub joined-sym : (ls : List Neighbours) (i j : ℕ) → Joined ls i j → Joined ls j i
 joined-sym ls i j (stay g) = stay g
 joined-sym ls i j (along l m p) = joined-trans ls j (l .b) (l .a) (joined-sym ls (l .b) j p) (back l m (stay (l .a)))
 joined-sym ls i j (back l m p) = joined-trans ls j (l .a) (l .b) (joined-sym ls (l .a) j p) (along l m (stay (l .b)))
 
 -- each root is joined to its gate, and not later
-abbrev pub Rooted : List Link → List ℕ → Type 0
+abbrev pub Rooted : List Neighbours → List ℕ → Type 0
 Rooted ls rs = (i r : ℕ) → getD rs i 0 ≡ suc r → Joined ls i r × (r ≤ i)
 
-rooted-join : (ls : List Link) (rs : List ℕ) (l : Link) → In l ls → Rooted ls rs → Rooted ls (join rs l)
+rooted-join : (ls : List Neighbours) (rs : List ℕ) (l : Neighbours) → In l ls → Rooted ls rs → Rooted ls (join rs l)
 unfolding swap
 rooted-join ls rs l m R i r h = go (eqb (getD rs i 0) (max x y)) refl (sym (join-at rs l i) ∙ h)
   where
@@ -102,7 +102,7 @@ rooted-join ls rs l m R i r h = go (eqb (getD rs i 0) (max x y)) refl (sym (join
     go true e f = order (leb x y) refl (eqb-true (getD rs i 0) (max x y) e) (sym (ap (λ (t : Bool). cond t (min x y) (getD rs i 0)) e) ∙ f)
     go false e f = R i r (sym (ap (λ (t : Bool). cond t (min x y) (getD rs i 0)) e) ∙ f)
 
-pub rooted-all : (ms ls : List Link) (rs : List ℕ) → ((l : Link) → In l ms → In l ls) → Rooted ls rs → Rooted ls (foldl join rs ms)
+pub rooted-all : (ms ls : List Neighbours) (rs : List ℕ) → ((l : Neighbours) → In l ms → In l ls) → Rooted ls rs → Rooted ls (foldl join rs ms)
 rooted-all [] ls rs sub R = R
 rooted-all (l ∷ ms) ls rs sub R = rooted-all ms ls (join rs l) (λ k m. sub k (there m)) (rooted-join ls rs l (sub l here) R)
 
@@ -115,7 +115,7 @@ own-is inside i r h = go (getD inside i false) refl
     go true e = omega (arith, own-in inside i e)
     go false e = omega (arith, own-out inside i e)
 
-pub rooted-own : (ls : List Link) (inside : List Bool) → Rooted ls (own inside)
+pub rooted-own : (ls : List Neighbours) (inside : List Bool) → Rooted ls (own inside)
 rooted-own ls inside i r h = subst (λ (k : ℕ). Joined ls i k × (k ≤ i)) (sym (own-is inside i r h)) (stay i, omega arith)
 
 -- ---- labels: the rank of a root tells roots apart

@@ -15,7 +15,7 @@ use Rattle.lists.proofs.SegLaws.{eq-or-ne}
 use Rattle.labels.proofs.ForestLaws.{not-both, read-set, gate-in, gate-out}
 use Rattle.labels.proofs.RankLaws.{rank-zero, rank-hit, rank-miss, rank-le}
 use Rattle.labels.specs.Inside.Bands.{marks, part}
-use Rattle.labels.specs.Inside.Numbering.{final, Counted, Numbering, Ahead}
+use Rattle.labels.specs.Inside.Numbering.{final, CountedBefore, Numbering, Ahead}
 use Rattle.labels.proofs.BandLaws.{marks-in, marks-out, length-marks}
 use Rattle.labels.proofs.JointLaws.{part-in, part-out, length-part}
 
@@ -77,10 +77,10 @@ module _ (iv w rs : List ℕ) (F : Forest (marks iv) w rs) where
         (ap (rank (firsts (part iv rs j))) (add-one g) ∙ k, k)
 
     -- ---- counting
-    pub count-skip : (c : List ℕ) → (getD rs g 0 ≡ suc g → ⊥) → Counted iv rs c g → Counted iv rs c (g + 1)
+    pub count-skip : (c : List ℕ) → (getD rs g 0 ≡ suc g → ⊥) → CountedBefore iv rs c g → CountedBefore iv rs c (g + 1)
     count-skip c n C j q = C j q ∙ sym (miss n j)
 
-    pub count-first : (c : List ℕ) (b : ℕ) → getD rs g 0 ≡ suc g → getD iv g 0 ≡ suc b → b < length c → Counted iv rs c g → Counted iv rs (set c b (getD c b 0 + 1)) (g + 1)
+    pub count-first : (c : List ℕ) (b : ℕ) → getD rs g 0 ≡ suc g → getD iv g 0 ≡ suc b → b < length c → CountedBefore iv rs c g → CountedBefore iv rs (set c b (getD c b 0 + 1)) (g + 1)
     count-first c b e f l C j q = ⊎-elim
         (λ k. k .1 ∙ omega (arith, C b l, hit e b f .0) ∙ ap (λ (y : ℕ). rank (firsts (part iv rs y)) (g + 1)) (sym (k .0)))
         (λ k. k .1 ∙ C j (omega (arith, length-set c b (getD c b 0 + 1))) ∙ sym (other j (λ s. k .0 (omega arith))))
@@ -184,10 +184,10 @@ pub rank-upto : (rs : List ℕ) (g : ℕ) → g ≤ length rs → rank (firsts r
 rank-upto rs zero h = omega (arith, rank-zero rs)
 rank-upto rs (suc g) h = ⊎-elim (λ e. omega (arith, rank-hit rs g h e, rank-upto rs g (omega arith))) (λ n. omega (arith, rank-miss rs g h n, rank-upto rs g (omega arith))) (eq-or-ne (getD rs g 0) (suc g))
 
-pub count-begin : (iv rs c : List ℕ) → c ≡ replicate (length c) 0 → Counted iv rs c 0
+pub count-begin : (iv rs c : List ℕ) → c ≡ replicate (length c) 0 → CountedBefore iv rs c 0
 count-begin iv rs c e j q = ap (λ (y : List ℕ). getD y j 0) e ∙ getD-replicate (length c) j 0 0 q ∙ sym (rank-zero (part iv rs j))
 
-pub count-bound : (iv w rs : List ℕ) → Forest (marks iv) w rs → (c : List ℕ) (g : ℕ) → g ≤ length w → Counted iv rs c g → (j : ℕ) → j < length c → getD c j 0 ≤ g
+pub count-bound : (iv w rs : List ℕ) → Forest (marks iv) w rs → (c : List ℕ) (g : ℕ) → g ≤ length w → CountedBefore iv rs c g → (j : ℕ) → j < length c → getD c j 0 ≤ g
 count-bound iv w rs F c g h C j q = omega (arith, C j q, rank-upto (part iv rs j) g (omega (arith, length-part iv rs j, iv-long iv w rs F)))
 
 pub number-begin : (iv rs c : List ℕ) → ((i r : ℕ) → getD rs i 0 ≡ suc r → getD iv r 0 ≡ getD iv i 0) → Numbering iv rs c iv c 0

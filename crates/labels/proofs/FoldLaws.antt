@@ -21,12 +21,12 @@ use Rattle.labels.proofs.OverLaws.{over-old, over-new, added-at, added-
 use Rattle.labels.proofs.RegionFacts.{map-at}
 use Rattle.labels.proofs.WindowLaws.{windows-step, windows-end}
 use Rattle.labels.specs.Inside.Bands.{Bands, window, marks, part, joint}
-use Rattle.labels.specs.Inside.Numbering.{final, sizes, Counted}
+use Rattle.labels.specs.Inside.Numbering.{final, sizes, CountedBefore}
 use Rattle.labels.proofs.JointLaws.{roots-part, length-part, part-in, part-out}
 use Rattle.labels.proofs.CountLaws.{iv-long}
 
 -- the counters hold the sizes, by which the sums of sizes grow
-pub sizes-grow : (iv w rs c : List ℕ) → Forest (marks iv) w rs → Counted iv rs c (length w) → (j : ℕ) → j < length c → sizes iv rs (suc j) ≡ sizes iv rs j + getD c j 0
+pub sizes-grow : (iv w rs c : List ℕ) → Forest (marks iv) w rs → CountedBefore iv rs c (length w) → (j : ℕ) → j < length c → sizes iv rs (suc j) ≡ sizes iv rs j + getD c j 0
 unfolding sizes
 sizes-grow iv w rs c F C j h = ap (λ (x : ℕ). sizes iv rs j + x) (sym (C j h ∙ ap (rank (firsts (part iv rs j))) (iv-long iv w rs F ∙ sym (length-part iv rs j)) ∙ rank-end (part iv rs j)))
 

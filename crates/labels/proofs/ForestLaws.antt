@@ -11,7 +11,7 @@ use lib.ListN.{length, getD, set, length-set, length-map, List·getD-map}
 use lib.Seq.{getD-set-same, getD-set-other}
 use borrow.Author.Tests.{eqb-true, eqb-false}
 use Rattle.lists.proofs.SegLaws.{eq-or-ne}
-use Rattle.labels.specs.Label.{Link, swap, join}
+use Rattle.labels.specs.Label.{Neighbours, swap, join}
 use Rattle.labels.specs.Inside.Forest.{Parent, Forest, Some, Root}
 use native.Mathlib.Nat.{not-suc-le-zero}
 
@@ -136,22 +136,22 @@ swap-zero x y = go (eqb 0 (max x y)) refl
     go true e = omega (arith, eqb-true 0 (max x y) e)
     go false e = refl
 
-pub join-at : (rs : List ℕ) (l : Link) (i : ℕ) → getD (join rs l) i 0 ≡ swap (getD rs (l .a) 0) (getD rs (l .b) 0) (getD rs i 0)
+pub join-at : (rs : List ℕ) (l : Neighbours) (i : ℕ) → getD (join rs l) i 0 ≡ swap (getD rs (l .a) 0) (getD rs (l .b) 0) (getD rs i 0)
 unfolding join
 join-at rs l i =
     let x = getD rs (l .a) 0 in
     let y = getD rs (l .b) 0 in
     subst (λ (d : ℕ). getD (map (swap x y) rs) i d ≡ swap x y (getD rs i 0)) (swap-zero x y) (List·getD-map (swap x y) rs i 0)
 
-pub length-join : (rs : List ℕ) (l : Link) → length (join rs l) ≡ length rs
+pub length-join : (rs : List ℕ) (l : Neighbours) → length (join rs l) ≡ length rs
 unfolding join
 length-join rs l = length-map rs (swap (getD rs (l .a) 0) (getD rs (l .b) 0))
 
-pub join-keeps : (rs : List ℕ) (l : Link) (i j : ℕ) → getD rs i 0 ≡ getD rs j 0 → getD (join rs l) i 0 ≡ getD (join rs l) j 0
+pub join-keeps : (rs : List ℕ) (l : Neighbours) (i j : ℕ) → getD rs i 0 ≡ getD rs j 0 → getD (join rs l) i 0 ≡ getD (join rs l) j 0
 join-keeps rs l i j e = join-at rs l i ∙ ap (swap (getD rs (l .a) 0) (getD rs (l .b) 0)) e ∙ sym (join-at rs l j)
 
 -- a root after a join, where the greater root was 1 + hi and the lesser 1 + lo
-pub join-cases : (rs : List ℕ) (l : Link) (lo hi i : ℕ) → max (getD rs (l .a) 0) (getD rs (l .b) 0) ≡ suc hi → min (getD rs (l .a) 0) (getD rs (l .b) 0) ≡ suc lo
+pub join-cases : (rs : List ℕ) (l : Neighbours) (lo hi i : ℕ) → max (getD rs (l .a) 0) (getD rs (l .b) 0) ≡ suc hi → min (getD rs (l .a) 0) (getD rs (l .b) 0) ≡ suc lo
     → ((getD rs i 0 ≡ suc hi) × (getD (join rs l) i 0 ≡ suc lo)) ⊎ ((getD rs i 0 ≡ suc hi → ⊥) × (getD (join rs l) i 0 ≡ getD rs i 0))
 unfolding swap
 join-cases rs l lo hi i p q = go (eqb (getD rs i 0) (max x y)) refl (join-at rs l i)
@@ -167,7 +167,7 @@ join-cases rs l lo hi i p q = go (eqb (getD rs i 0) (max x y)) refl (join-at rs 
     go true e f = inl (eqb-true (getD rs i 0) (max x y) e ∙ p, f ∙ ap (λ (t : Bool). cond t (min x y) (getD rs i 0)) e ∙ q)
     go false e f = inr (λ h. eqb-false (getD rs i 0) (max x y) e (h ∙ sym p), f ∙ ap (λ (t : Bool). cond t (min x y) (getD rs i 0)) e)
 
-module _ (inside : List Bool) (w rs : List ℕ) (F : Forest inside w rs) (l : Link) (lo hi : ℕ)
+module _ (inside : List Bool) (w rs : List ℕ) (F : Forest inside w rs) (l : Neighbours) (lo hi : ℕ)
     (greater : max (getD rs (l .a) 0) (getD rs (l .b) 0) ≡ suc hi) (lesser : min (getD rs (l .a) 0) (getD rs (l .b) 0) ≡ suc lo)
     (self-hi : getD rs hi 0 ≡ suc hi) (self-lo : getD rs lo 0 ≡ suc lo) (in-hi : getD inside hi false ≡ true) (in-lo : getD inside lo false ≡ true) where
   pub merged : Forest inside (set w hi (suc lo)) (join rs l)

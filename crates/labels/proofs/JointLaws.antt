@@ -12,7 +12,7 @@ use lib.Dec.{eqb, leb}
 use lib.ListN.{length, getD, length-map, List·getD-map, List·getD-eq-default}
 use lib.Seq.{ext-getD}
 use borrow.Author.Tests.{lt-leb, le-leb, leb-true, leb-false, eq-eqb, ne-eqb, eqb-true}
-use Rattle.labels.specs.Label.{Link, own, join, swap, above, before, linksAt, links, roots}
+use Rattle.labels.specs.Label.{Neighbours, own, join, swap, above, before, linksAt, links, roots}
 use Rattle.labels.specs.Inside.Forest.{Forest}
 use Rattle.lists.proofs.SeqLaws.{tab-at, tab-length}
 use Rattle.lists.proofs.SegLaws.{eq-or-ne, lt-or-le}
@@ -28,25 +28,25 @@ mod-pos zero d n = absurd (n (zero-mod d))
 mod-pos (suc g) d n = omega arith
 
 -- ---- a link that three tests decide
-none-first : (q r : Bool) (x : Link) → cond (false && q && r) (x ∷ []) [] ≡ []
+none-first : (q r : Bool) (x : Neighbours) → cond (false && q && r) (x ∷ []) [] ≡ []
 none-first true true x = refl
 none-first true false x = refl
 none-first false true x = refl
 none-first false false x = refl
 
-none-mid : (p r : Bool) (x : Link) → cond (p && false && r) (x ∷ []) [] ≡ []
+none-mid : (p r : Bool) (x : Neighbours) → cond (p && false && r) (x ∷ []) [] ≡ []
 none-mid true true x = refl
 none-mid true false x = refl
 none-mid false true x = refl
 none-mid false false x = refl
 
-none-last : (p q : Bool) (x : Link) → cond (p && q && false) (x ∷ []) [] ≡ []
+none-last : (p q : Bool) (x : Neighbours) → cond (p && q && false) (x ∷ []) [] ≡ []
 none-last true true x = refl
 none-last true false x = refl
 none-last false true x = refl
 none-last false false x = refl
 
-every : (p q r : Bool) (x : Link) → p ≡ true → q ≡ true → r ≡ true → cond (p && q && r) (x ∷ []) [] ≡ x ∷ []
+every : (p q r : Bool) (x : Neighbours) → p ≡ true → q ≡ true → r ≡ true → cond (p && q && r) (x ∷ []) [] ≡ x ∷ []
 every p q r x e f g =
     ap (λ (t : Bool). cond (t && q && r) (x ∷ []) []) e
     ∙ ap (λ (t : Bool). cond (true && t && r) (x ∷ []) []) f
@@ -90,18 +90,18 @@ module _ (gates : ℕ) (iv : List ℕ) (g : ℕ) where
   unfolding linksIn aboveIn beforeIn
   links-none h =
       ap (λ (t : Bool). cond (not t && leb gates g && eqb (getD iv (g - gates) 0) (getD iv g 0)) (record { a = g - gates; b = g } ∷ []) [] ++ cond (not t && not (eqb (g % gates) 0) && eqb (getD iv (g - 1) 0) (getD iv g 0)) (record { a = g - 1; b = g } ∷ []) []) (eq-eqb (getD iv g 0) 0 h)
-      ∙ ap (λ (t : List Link). t ++ cond (false && not (eqb (g % gates) 0) && eqb (getD iv (g - 1) 0) (getD iv g 0)) (record { a = g - 1; b = g } ∷ []) []) (none-first (leb gates g) (eqb (getD iv (g - gates) 0) (getD iv g 0)) (record { a = g - gates; b = g }))
+      ∙ ap (λ (t : List Neighbours). t ++ cond (false && not (eqb (g % gates) 0) && eqb (getD iv (g - 1) 0) (getD iv g 0)) (record { a = g - 1; b = g } ∷ []) []) (none-first (leb gates g) (eqb (getD iv (g - gates) 0) (getD iv g 0)) (record { a = g - gates; b = g }))
       ∙ none-first (not (eqb (g % gates) 0)) (eqb (getD iv (g - 1) 0) (getD iv g 0)) (record { a = g - 1; b = g })
 
   pub by-both : (w rs : List ℕ) → Forest (marks iv) w (foldl join (foldl join rs (aboveIn gates iv g)) (beforeIn gates iv g)) → Forest (marks iv) w (foldl join rs (linksIn gates iv g))
   unfolding linksIn
   by-both w rs F = subst (λ (t : List ℕ). Forest (marks iv) w t) (sym (foldl-append join rs (aboveIn gates iv g) (beforeIn gates iv g))) F
 
-pub by-none : (iv w rs : List ℕ) (ls : List Link) → ls ≡ [] → Forest (marks iv) w rs → Forest (marks iv) w (foldl join rs ls)
-by-none iv w rs ls e F = subst (λ (l : List Link). Forest (marks iv) w (foldl join rs l)) (sym e) F
+pub by-none : (iv w rs : List ℕ) (ls : List Neighbours) → ls ≡ [] → Forest (marks iv) w rs → Forest (marks iv) w (foldl join rs ls)
+by-none iv w rs ls e F = subst (λ (l : List Neighbours). Forest (marks iv) w (foldl join rs l)) (sym e) F
 
-pub by-one : (iv w rs : List ℕ) (ls : List Link) (l : Link) → ls ≡ l ∷ [] → Forest (marks iv) w (join rs l) → Forest (marks iv) w (foldl join rs ls)
-by-one iv w rs ls l e F = subst (λ (k : List Link). Forest (marks iv) w (foldl join rs k)) (sym e) F
+pub by-one : (iv w rs : List ℕ) (ls : List Neighbours) (l : Neighbours) → ls ≡ l ∷ [] → Forest (marks iv) w (join rs l) → Forest (marks iv) w (foldl join rs ls)
+by-one iv w rs ls l e F = subst (λ (k : List Neighbours). Forest (marks iv) w (foldl join rs k)) (sym e) F
 
 -- ---- the links that are left
 pub later-none : (gates : ℕ) (iv : List ℕ) (g : ℕ) → length iv ≤ g → laterIn gates iv g ≡ []
@@ -143,7 +143,7 @@ module _ (iv : List ℕ) (j : ℕ) where
     some : (i : ℕ) → (getD iv i 0 ≡ 0 → ⊥) → 0 < getD R i 0
 
   -- a join of gates that have roots leaves every root there
-  some-kept : (R : List ℕ) (l : Link) → 0 < getD R (l .a) 0 → 0 < getD R (l .b) 0 → (i : ℕ) → 0 < getD R i 0 → 0 < getD (join R l) i 0
+  some-kept : (R : List ℕ) (l : Neighbours) → 0 < getD R (l .a) 0 → 0 < getD R (l .b) 0 → (i : ℕ) → 0 < getD R i 0 → 0 < getD (join R l) i 0
   unfolding swap
   some-kept R l p q i h = subst (λ (y : ℕ). 0 < y) (sym (join-at R l i)) (go (eqb (getD R i 0) (max (getD R (l .a) 0) (getD R (l .b) 0))))
     where
@@ -152,7 +152,7 @@ module _ (iv : List ℕ) (j : ℕ) where
       go false = h
 
   -- a join of two gates of one band keeps each root in its band
-  band-kept : (R : List ℕ) (l : Link) → getD iv (l .a) 0 ≡ getD iv (l .b) 0 → ((i r : ℕ) → getD R i 0 ≡ suc r → getD iv r 0 ≡ getD iv i 0) → (i r : ℕ) → getD (join R l) i 0 ≡ suc r → getD iv r 0 ≡ getD iv i 0
+  band-kept : (R : List ℕ) (l : Neighbours) → getD iv (l .a) 0 ≡ getD iv (l .b) 0 → ((i r : ℕ) → getD R i 0 ≡ suc r → getD iv r 0 ≡ getD iv i 0) → (i r : ℕ) → getD (join R l) i 0 ≡ suc r → getD iv r 0 ≡ getD iv i 0
   unfolding swap
   band-kept R l e O i r h = go (eqb (getD R i 0) (max x y)) refl (sym (join-at R l i) ∙ h)
     where
@@ -181,7 +181,7 @@ module _ (iv : List ℕ) (j : ℕ) where
       go false q f = O i r (sym (ap (λ (t : Bool). cond t (min x y) (getD R i 0)) q) ∙ f)
 
   -- a join in the band is the same join
-  proj-same : (rs R : List ℕ) (l : Link) → getD iv (l .a) 0 ≡ suc j → getD iv (l .b) 0 ≡ suc j → Proj rs R → Proj (join rs l) (join R l)
+  proj-same : (rs R : List ℕ) (l : Neighbours) → getD iv (l .a) 0 ≡ suc j → getD iv (l .b) 0 ≡ suc j → Proj rs R → Proj (join rs l) (join R l)
   proj-same rs R l e f P =
       record {
         at = λ i h. join-at rs l i ∙ ap (λ (y : ℕ). swap (getD rs (l .a) 0) (getD rs (l .b) 0) y) (P .at i h) ∙ ap (λ (y : ℕ). swap y (getD rs (l .b) 0) (getD R i 0)) (P .at (l .a) e) ∙ ap (λ (y : ℕ). swap (getD R (l .a) 0) y (getD R i 0)) (P .at (l .b) f) ∙ sym (join-at R l i);
@@ -191,7 +191,7 @@ module _ (iv : List ℕ) (j : ℕ) where
       }
 
   -- a join in another band changes nothing here
-  proj-other : (rs R : List ℕ) (l : Link) → getD iv (l .a) 0 ≡ getD iv (l .b) 0 → (getD iv (l .b) 0 ≡ suc j → ⊥) → (getD iv (l .b) 0 ≡ 0 → ⊥) → Proj rs R → Proj rs (join R l)
+  proj-other : (rs R : List ℕ) (l : Neighbours) → getD iv (l .a) 0 ≡ getD iv (l .b) 0 → (getD iv (l .b) 0 ≡ suc j → ⊥) → (getD iv (l .b) 0 ≡ 0 → ⊥) → Proj rs R → Proj rs (join R l)
   unfolding swap
   proj-other rs R l e n m P =
       record {
@@ -228,22 +228,22 @@ module _ (iv : List ℕ) (j : ℕ) where
           go false q = refl
 
   -- ---- the links of one kind at one gate
-  module _ (rs R : List ℕ) (P : Proj rs R) (l : Link) where
-    none-none : (L M : List Link) → L ≡ [] → M ≡ [] → Proj (foldl join rs L) (foldl join R M)
-    none-none L M e f = subst (λ (x : List Link). Proj (foldl join rs x) (foldl join R M)) (sym e) (subst (λ (x : List Link). Proj rs (foldl join R x)) (sym f) P)
+  module _ (rs R : List ℕ) (P : Proj rs R) (l : Neighbours) where
+    none-none : (L M : List Neighbours) → L ≡ [] → M ≡ [] → Proj (foldl join rs L) (foldl join R M)
+    none-none L M e f = subst (λ (x : List Neighbours). Proj (foldl join rs x) (foldl join R M)) (sym e) (subst (λ (x : List Neighbours). Proj rs (foldl join R x)) (sym f) P)
 
-    none-one : (L M : List Link) → L ≡ [] → M ≡ l ∷ [] → Proj rs (join R l) → Proj (foldl join rs L) (foldl join R M)
-    none-one L M e f Q = subst (λ (x : List Link). Proj (foldl join rs x) (foldl join R M)) (sym e) (subst (λ (x : List Link). Proj rs (foldl join R x)) (sym f) Q)
+    none-one : (L M : List Neighbours) → L ≡ [] → M ≡ l ∷ [] → Proj rs (join R l) → Proj (foldl join rs L) (foldl join R M)
+    none-one L M e f Q = subst (λ (x : List Neighbours). Proj (foldl join rs x) (foldl join R M)) (sym e) (subst (λ (x : List Neighbours). Proj rs (foldl join R x)) (sym f) Q)
 
-    one-one : (L M : List Link) → L ≡ l ∷ [] → M ≡ l ∷ [] → Proj (join rs l) (join R l) → Proj (foldl join rs L) (foldl join R M)
-    one-one L M e f Q = subst (λ (x : List Link). Proj (foldl join rs x) (foldl join R M)) (sym e) (subst (λ (x : List Link). Proj (join rs l) (foldl join R x)) (sym f) Q)
+    one-one : (L M : List Neighbours) → L ≡ l ∷ [] → M ≡ l ∷ [] → Proj (join rs l) (join R l) → Proj (foldl join rs L) (foldl join R M)
+    one-one L M e f Q = subst (λ (x : List Neighbours). Proj (foldl join rs x) (foldl join R M)) (sym e) (subst (λ (x : List Neighbours). Proj (join rs l) (foldl join R x)) (sym f) Q)
 
     -- p₁, r₁: the ends are in band j; p₂: the later end has a band; r₂: both have one band
     module _ (p₁ q r₁ p₂ r₂ : Bool) (P₁ : p₁ ≡ eqb (getD iv (l .b) 0) (suc j)) (R₁ : r₁ ≡ eqb (getD iv (l .a) 0) (suc j)) (P₂ : p₂ ≡ not (eqb (getD iv (l .b) 0) 0)) (R₂ : r₂ ≡ eqb (getD iv (l .a) 0) (getD iv (l .b) 0)) where
-      L : List Link
+      L : List Neighbours
       L = cond (p₁ && q && r₁) (l ∷ []) []
 
-      M : List Link
+      M : List Neighbours
       M = cond (p₂ && q && r₂) (l ∷ []) []
 
       no-p₁ : p₁ ≡ false → L ≡ []
@@ -293,10 +293,10 @@ module _ (iv : List ℕ) (j : ℕ) where
     gate : (g : ℕ) (rs R : List ℕ) → Proj rs R → Proj (foldl join rs (linksAt gates inside g)) (foldl join R (linksIn gates iv g))
     unfolding linksAt above before linksIn aboveIn beforeIn
     gate g rs R P =
-        let A : List Link = above gates inside g in
-        let C : List Link = aboveIn gates iv g in
-        let D : List Link = before gates inside g in
-        let E : List Link = beforeIn gates iv g in
+        let A : List Neighbours = above gates inside g in
+        let C : List Neighbours = aboveIn gates iv g in
+        let D : List Neighbours = before gates inside g in
+        let E : List Neighbours = beforeIn gates iv g in
         let Q : Proj (foldl join rs A) (foldl join R C) = one-kind rs R P (record { a = g - gates; b = g }) (getD inside g false) (leb gates g) (getD inside (g - gates) false) (not (eqb (getD iv g 0) 0)) (eqb (getD iv (g - gates) 0) (getD iv g 0)) (agree g) (agree (g - gates)) refl refl in
         let S : Proj (foldl join (foldl join rs A) D) (foldl join (foldl join R C) E) = one-kind (foldl join rs A) (foldl join R C) Q (record { a = g - 1; b = g }) (getD inside g false) (not (eqb (g % gates) 0)) (getD inside (g - 1) false) (not (eqb (getD iv g 0) 0)) (eqb (getD iv (g - 1) 0) (getD iv g 0)) (agree g) (agree (g - 1)) refl refl in
         subst (λ (x : List ℕ). Proj x (foldl join R (C ++ E))) (sym (foldl-append join rs A D)) (subst (λ (x : List ℕ). Proj (foldl join (foldl join rs A) D) x) (sym (foldl-append join R C E)) S)
@@ -305,8 +305,8 @@ module _ (iv : List ℕ) (j : ℕ) where
     unfolding upto each
     pass zero g rs R P = P
     pass (suc k) g rs R P =
-        let A : List Link = linksAt gates inside g in
-        let C : List Link = linksIn gates iv g in
+        let A : List Neighbours = linksAt gates inside g in
+        let C : List Neighbours = linksIn gates iv g in
         let Q = pass k (suc g) (foldl join rs A) (foldl join R C) (gate g rs R P) in
         subst (λ (x : List ℕ). Proj x (foldl join R (C ++ each (linksIn gates iv) (upto k (suc g))))) (sym (foldl-append join rs A (each (linksAt gates inside) (upto k (suc g)))))
         (subst (λ (x : List ℕ). Proj (foldl join (foldl join rs A) (each (linksAt gates inside) (upto k (suc g)))) x) (sym (foldl-append join R C (each (linksIn gates iv) (upto k (suc g))))) Q)

@@ -8,7 +8,7 @@ use mathlib.Core.Bool.{Bool, true, false}
 use mathlib.Core.List.{List, [], _∷_, map, foldl}
 use lib.Ieee.{Float, nan, lt, le}
 use lib.ListN.{length, getD, replicate, length-replicate, getD-replicate, List·getD-eq-default}
-use Rattle.labels.specs.Label.{own, join, links, roots, firsts, rank, labelled, areas, Found, Link, swap}
+use Rattle.labels.specs.Label.{own, join, links, roots, firsts, rank, labelled, areas, Found, Neighbours, swap}
 use Rattle.arithmetic.specs.Inside.Asked.{Rising}
 use Rattle.lists.proofs.SeqLaws.{tab-at, tab-length}
 use Rattle.lists.proofs.SegLaws.{lt-or-le, eq-or-ne}
@@ -26,11 +26,11 @@ map-at f (x ∷ xs) zero a b h = refl
 map-at f (x ∷ xs) (suc i) a b h = map-at f xs i a b (omega arith)
 
 -- ---- roots
-pub long-joins : (ls : List Link) (rs : List ℕ) → length (foldl join rs ls) ≡ length rs
+pub long-joins : (ls : List Neighbours) (rs : List ℕ) → length (foldl join rs ls) ≡ length rs
 long-joins [] rs = refl
 long-joins (l ∷ ls) rs = long-joins ls (join rs l) ∙ length-join rs l
 
-zero-joins : (ls : List Link) (rs : List ℕ) (i : ℕ) → getD rs i 0 ≡ 0 → getD (foldl join rs ls) i 0 ≡ 0
+zero-joins : (ls : List Neighbours) (rs : List ℕ) (i : ℕ) → getD rs i 0 ≡ 0 → getD (foldl join rs ls) i 0 ≡ 0
 zero-joins [] rs i e = e
 zero-joins (l ∷ ls) rs i e = zero-joins ls (join rs l) i (join-at rs l i ∙ ap (λ (y : ℕ). swap (getD rs (l .a) 0) (getD rs (l .b) 0) y) e ∙ swap-zero (getD rs (l .a) 0) (getD rs (l .b) 0))
 

@@ -10,10 +10,10 @@ use lib.Seq.{drop-set-lt, drop-set-add, getD-drop, take-all}
 use borrow.Rule.Slice.PartMut.{midOf, putMid, drop-put}
 use Rattle.lists.specs.Inside.Seg.{seg, put}
 use Rattle.lists.proofs.SegLaws.{length-seg, getD-seg, seg-set-in, seg-set-out, lent-seg, put-mid, seg-put-out, seg-put-below, seg-put-same, length-put, lt-or-le}
-use Rattle.labels.specs.Label.{join, Link}
+use Rattle.labels.specs.Label.{join, Neighbours}
 use Rattle.labels.specs.Inside.Forest.{Forest, Some, Gate}
 use Rattle.labels.specs.Inside.Bands.{marks, Treed}
-use Rattle.labels.specs.Inside.Sheet.{Joins, Counts}
+use Rattle.labels.specs.Inside.Sheet.{WordsDiffer, CountersDiffer}
 use Rattle.labels.proofs.BandLaws.{marks-in, length-marks}
 use Rattle.labels.proofs.JointLaws.{by-one}
 
@@ -83,7 +83,7 @@ module _ (u : List ℕ) (n : ℕ) (fits : n + n ≤ length u) where
     pub back-words : seg (putMid n (n + n - n) u ys) n n ≡ ys
     back-words = ap (λ (y : ℕ). seg (putMid n (n + n - n) u ys) n y) (sym same-mid) ∙ lent-seg u n (n + n - n) ys (e ∙ sym same-mid) (omega arith)
 
-    pub back-joins : Joins u (putMid n (n + n - n) u ys) n
+    pub back-joins : WordsDiffer u (putMid n (n + n - n) u ys) n
     back-joins =
         record {
           bands = ap (λ (y : List ℕ). seg y 0 n) is-put ∙ seg-put-out u n ys 0 n (λ j a b c d. omega arith);
@@ -99,22 +99,22 @@ module _ (u : List ℕ) (n : ℕ) (fits : n + n ≤ length u) where
           (t .forest .parent h (marks-in (seg u 0 n) h (λ z. omega (arith, band-at h l, band-at g (banded g some)))) .some, t .forest .parent g (marks-in (seg u 0 n) g (λ z. omega arith)) .some),
         )
 
-    pub united : (ys : List ℕ) (ls : List Link) (l : Link) → ls ≡ l ∷ [] → ((inside : List Bool) (rs : List ℕ) → Forest inside (midOf n (n + n - n) u) rs → Forest inside ys (join rs l))
-        → ((rs : List ℕ) → Forest (marks (seg u 0 n)) (seg u n n) rs → Forest (marks (seg u 0 n)) (seg (putMid n (n + n - n) u ys) n n) (foldl join rs ls)) × Joins u (putMid n (n + n - n) u ys) n
+    pub united : (ys : List ℕ) (ls : List Neighbours) (l : Neighbours) → ls ≡ l ∷ [] → ((inside : List Bool) (rs : List ℕ) → Forest inside (midOf n (n + n - n) u) rs → Forest inside ys (join rs l))
+        → ((rs : List ℕ) → Forest (marks (seg u 0 n)) (seg u n n) rs → Forest (marks (seg u 0 n)) (seg (putMid n (n + n - n) u ys) n n) (foldl join rs ls)) × WordsDiffer u (putMid n (n + n - n) u ys) n
     united ys ls l e J =
         let J₂ : (rs : List ℕ) → Forest (marks (seg u 0 n)) (seg u n n) rs → Forest (marks (seg u 0 n)) ys (join rs l) = λ rs F. J (marks (seg u 0 n)) rs (rw lent F) in
         let long : length ys ≡ n = J₂ (t .rs) (t .forest) .long ∙ length-marks (seg u 0 n) ∙ bands-long in
         (λ rs F. by-one (seg u 0 n) (seg (putMid n (n + n - n) u ys) n n) rs ls l e (rw (back-words ys long) (J₂ rs F)), back-joins ys long)
 
 -- nothing differs
-pub joins-none : (u : List ℕ) (n : ℕ) → Joins u u n
+pub joins-none : (u : List ℕ) (n : ℕ) → WordsDiffer u u n
 joins-none u n = record { bands = refl; counts = refl }
 
-pub joins-both : (u v w : List ℕ) (n : ℕ) → Joins u v n → Joins v w n → Joins u w n
+pub joins-both : (u v w : List ℕ) (n : ℕ) → WordsDiffer u v n → WordsDiffer v w n → WordsDiffer u w n
 joins-both u v w n a b = record { bands = b .bands ∙ a .bands; counts = b .counts ∙ a .counts }
 
 -- ---- from call to call: v after joins in u
-module _ (u v : List ℕ) (n : ℕ) (J : Joins u v n) where
+module _ (u v : List ℕ) (n : ℕ) (J : WordsDiffer u v n) where
   pub still-banded : (g : ℕ) → 0 < getD (seg u 0 n) g 0 → 0 < getD (seg v 0 n) g 0
   still-banded g h = rw (J .bands) h
 
@@ -122,7 +122,7 @@ module _ (u v : List ℕ) (n : ℕ) (J : Joins u v n) where
   still-treed t rs F = rw (J .bands) (record { rs = rs; forest = F; small = omega (arith, t .small, t .forest .long, F .long) })
 
   -- links of any kind after it, seen from u
-  pub after : (w rs : List ℕ) (links : List ℕ → List Link) → ((rs : List ℕ) → Forest (marks (seg v 0 n)) (seg v n n) rs → Forest (marks (seg v 0 n)) (seg w n n) (foldl join rs (links (seg v 0 n))))
+  pub after : (w rs : List ℕ) (links : List ℕ → List Neighbours) → ((rs : List ℕ) → Forest (marks (seg v 0 n)) (seg v n n) rs → Forest (marks (seg v 0 n)) (seg w n n) (foldl join rs (links (seg v 0 n))))
       → Forest (marks (seg u 0 n)) (seg v n n) rs → Forest (marks (seg u 0 n)) (seg w n n) (foldl join rs (links (seg u 0 n)))
   after w rs links E F = subst (λ (b : List ℕ). Forest (marks b) (seg w n n) (foldl join rs (links b))) (J .bands) (E rs (subst (λ (b : List ℕ). Forest (marks b) (seg v n n) rs) (sym (J .bands)) F))
 
@@ -134,5 +134,5 @@ module _ (u : List ℕ) (n : ℕ) (fits : n + n ≤ length u) (ys : List ℕ) (e
       sym (take-all (length ys) (drop (n + n) (put u (n + n) ys)) (omega (arith, length-drop (n + n) (put u (n + n) ys), length-put u (n + n) ys)))
       ∙ seg-put-same u (n + n) ys (omega arith)
 
-  pub put-others : Counts u (put u (n + n) ys) n
+  pub put-others : CountersDiffer u (put u (n + n) ys) n
   put-others = record { bands = seg-put-below u (n + n) ys 0 n (omega arith); words = seg-put-below u (n + n) ys n n (omega arith) }

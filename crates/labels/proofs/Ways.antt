@@ -13,7 +13,7 @@ use Rattle.arithmetic.specs.Inside.Asked.{Rising}
 use Rattle.lists.specs.Seq.{upto, tabulate, each}
 use Rattle.lists.proofs.SeqLaws.{tab-at, tab-length}
 use Rattle.lists.proofs.SegLaws.{eq-or-ne, lt-or-le}
-use Rattle.labels.specs.Label.{Link}
+use Rattle.labels.specs.Label.{Neighbours}
 use Rattle.labels.specs.Regions.{within}
 use Rattle.labels.specs.Inside.Bands.{window, Band, Bands, aboveIn, beforeIn, linksIn, laterIn}
 use Rattle.labels.proofs.FloatOrder.{and-both, lt-not-le}
@@ -133,13 +133,13 @@ unfolding each
 each-in f x y l (here {xs = xs}) q = in-left (f x) (each f xs) q
 each-in f x y l (there {y = z} {xs = xs} p) q = in-right (f z) (each f xs) (each-in f x y xs p q)
 
-in-one : (t : Bool) (l k : Link) → In l (cond t (k ∷ []) []) → (t ≡ true) × (l ≡ k)
+in-one : (t : Bool) (l k : Neighbours) → In l (cond t (k ∷ []) []) → (t ≡ true) × (l ≡ k)
 in-one true l k here = (refl, refl)
 in-one true l k (there p) = absurd (no-in [] p refl)
 in-one false l k p = absurd (no-in [] p refl)
 
 -- what a link within bands is
-pub record Touching (gates : ℕ) (iv : List ℕ) (l : Link) : Type 0 where
+pub record Touching (gates : ℕ) (iv : List ℕ) (l : Neighbours) : Type 0 where
   pub beside : Beside gates (l .a) (l .b)
   pub some : getD iv (l .b) 0 ≡ 0 → ⊥
   pub same : getD iv (l .a) 0 ≡ getD iv (l .b) 0
@@ -151,7 +151,7 @@ nonzero b e z = no (sym e ∙ ap not (eq-eqb b 0 z))
     no w = let o : _≡_ {A = ℕ} 0 1 = cc in omega arith
 
 module _ (gates : ℕ) (iv : List ℕ) where
-  of-above : (g : ℕ) (l : Link) → In l (aboveIn gates iv g) → Touching gates iv l
+  of-above : (g : ℕ) (l : Neighbours) → In l (aboveIn gates iv g) → Touching gates iv l
   unfolding aboveIn
   of-above g l p =
       let q = in-one (not (eqb (getD iv g 0) 0) && leb gates g && eqb (getD iv (g - gates) 0) (getD iv g 0)) l (record { a = g - gates; b = g }) p in
@@ -159,7 +159,7 @@ module _ (gates : ℕ) (iv : List ℕ) where
       let s = and-both (not (eqb (getD iv g 0) 0)) (leb gates g) (t .0) in
       subst (Touching gates iv) (sym (q .1)) (record { beside = inl (leb-true gates g (s .1), refl); some = nonzero (getD iv g 0) (s .0); same = eqb-true (getD iv (g - gates) 0) (getD iv g 0) (t .1) })
 
-  of-before : (g : ℕ) (l : Link) → In l (beforeIn gates iv g) → Touching gates iv l
+  of-before : (g : ℕ) (l : Neighbours) → In l (beforeIn gates iv g) → Touching gates iv l
   unfolding beforeIn
   of-before g l p =
       let q = in-one (not (eqb (getD iv g 0) 0) && not (eqb (g % gates) 0) && eqb (getD iv (g - 1) 0) (getD iv g 0)) l (record { a = g - 1; b = g }) p in
@@ -167,7 +167,7 @@ module _ (gates : ℕ) (iv : List ℕ) where
       let s = and-both (not (eqb (getD iv g 0) 0)) (not (eqb (g % gates) 0)) (t .0) in
       subst (Touching gates iv) (sym (q .1)) (record { beside = inr (nonzero (g % gates) (s .1), refl); some = nonzero (getD iv g 0) (s .0); same = eqb-true (getD iv (g - 1) 0) (getD iv g 0) (t .1) })
 
-  touching : (l : Link) → In l (laterIn gates iv 0) → Touching gates iv l
+  touching : (l : Neighbours) → In l (laterIn gates iv 0) → Touching gates iv l
   unfolding laterIn linksIn
   touching l p =
       let q = in-each (linksIn gates iv) l (upto (length iv - 0) 0) p in
@@ -177,13 +177,13 @@ module _ (gates : ℕ) (iv : List ℕ) where
   linked : (a b : ℕ) → b < length iv → Beside gates a b → (getD iv b 0 ≡ 0 → ⊥) → getD iv a 0 ≡ getD iv b 0 → In (record { a = a; b = b }) (laterIn gates iv 0)
   unfolding laterIn linksIn
   linked a b h s n e =
-      let k : Link = record { a = a; b = b } in
+      let k : Neighbours = record { a = a; b = b } in
       let same : (c : ℕ) → a ≡ c → getD iv c 0 ≡ getD iv b 0 = λ c p. ap (λ (y : ℕ). getD iv y 0) (sym p) ∙ e in
       let only : (c : ℕ) → a ≡ c → In k (record { a = c; b = b } ∷ []) = λ c p. subst (λ (y : ℕ). In k (record { a = y; b = b } ∷ [])) p here in
       each-in (linksIn gates iv) b k (upto (length iv - 0) 0) (upto-in (length iv - 0) 0 b (omega arith) (omega arith))
       (⊎-elim
-      (λ p. in-left (aboveIn gates iv b) (beforeIn gates iv b) (subst (λ (ls : List Link). In k ls) (sym (above-one gates iv b n (p .0) (same (b - gates) (p .1)))) (only (b - gates) (p .1))))
-      (λ p. in-right (aboveIn gates iv b) (beforeIn gates iv b) (subst (λ (ls : List Link). In k ls) (sym (before-one gates iv b n (p .0) (same (b - 1) (p .1)))) (only (b - 1) (p .1))))
+      (λ p. in-left (aboveIn gates iv b) (beforeIn gates iv b) (subst (λ (ls : List Neighbours). In k ls) (sym (above-one gates iv b n (p .0) (same (b - gates) (p .1)))) (only (b - gates) (p .1))))
+      (λ p. in-right (aboveIn gates iv b) (beforeIn gates iv b) (subst (λ (ls : List Neighbours). In k ls) (sym (before-one gates iv b n (p .0) (same (b - 1) (p .1)))) (only (b - 1) (p .1))))
       s)
 
 -- ---- in sweeps

@@ -11,8 +11,8 @@ use Rattle.labels.specs.Label.{own, join}
 use Rattle.labels.specs.Regions.{regions}
 use Rattle.labels.specs.Inside.Forest.{Forest}
 use Rattle.labels.specs.Inside.Bands.{Bands, marks, laterIn, joint, Treed}
-use Rattle.labels.specs.Inside.Numbering.{sizes, Tally, Ready, Numbering}
-use Rattle.labels.specs.Inside.Sheet.{Joins, Counts, Same, Fitting}
+use Rattle.labels.specs.Inside.Numbering.{sizes, Tally, NumbersGates, Numbering}
+use Rattle.labels.specs.Inside.Sheet.{WordsDiffer, CountersDiffer, Same, Fitting}
 use Rattle.labels.proofs.OwnLaws.{alone}
 use Rattle.labels.proofs.RegionFacts.{regions-are}
 use Rattle.labels.proofs.JointLaws.{joint-own}
@@ -32,7 +32,7 @@ module _ (gates : ℕ) (vel : List Float) (mask : List ℕ) (limits : List Float
         fits = omega (arith, few, ap (sizes iv (joint gates iv)) e);
       }
 
-  pub number-room : (c : List ℕ) → length c ≡ length limits - 1 → ((j : ℕ) → j < length c → getD c j 0 ≡ sizes iv (joint gates iv) j) → Ready w iv c
+  pub number-room : (c : List ℕ) → length c ≡ length limits - 1 → ((j : ℕ) → j < length c → getD c j 0 ≡ sizes iv (joint gates iv) j) → NumbersGates w iv c
   number-room c e s =
       record {
         rs = joint gates iv;
@@ -56,7 +56,7 @@ module _ (gates : ℕ) (u : List ℕ) (n : ℕ) (fits : n + n ≤ length u) (sma
   pub link-asks : Treed (seg u 0 n) (seg u n n)
   link-asks = record { rs = own (marks (seg u 0 n)); forest = first-forest; small = omega (arith, words-long u n fits) }
 
-  pub all-joined : (v : List ℕ) → Joins u v n → ((rs : List ℕ) → Forest (marks (seg u 0 n)) (seg u n n) rs → Forest (marks (seg u 0 n)) (seg v n n) (foldl join rs (laterIn gates (seg u 0 n) 0))) → Forest (marks (seg v 0 n)) (seg v n n) (joint gates (seg v 0 n))
+  pub all-joined : (v : List ℕ) → WordsDiffer u v n → ((rs : List ℕ) → Forest (marks (seg u 0 n)) (seg u n n) rs → Forest (marks (seg u 0 n)) (seg v n n) (foldl join rs (laterIn gates (seg u 0 n) 0))) → Forest (marks (seg v 0 n)) (seg v n n) (joint gates (seg v 0 n))
   unfolding joint
   all-joined v J E = rw (J .bands) (E (own (marks (seg u 0 n))) first-forest)
 
@@ -78,7 +78,7 @@ module _ (gates : ℕ) (vel : List Float) (mask : List ℕ) (limits : List Float
   pub tally-asks : Tally (seg u 0 n) (seg u n n) (drop (n + n) u)
   tally-asks = tally-room gates vel mask limits (seg u 0 n) (seg u n n) as-many small (A .rising) B F (drop (n + n) u) counters
 
-  module _ (v : List ℕ) (kept : length v ≡ length u) (C : Counts u v n) (r : ℕ)
+  module _ (v : List ℕ) (kept : length v ≡ length u) (C : CountersDiffer u v n) (r : ℕ)
       (E : (rs : List ℕ) → Forest (marks (seg u 0 n)) (seg u n n) rs → (r ≡ sizes (seg u 0 n) rs (length (drop (n + n) u))) × ((j : ℕ) → j < length (drop (n + n) u) → getD (drop (n + n) v) j 0 ≡ sizes (seg u 0 n) rs j)) where
     v-same : length (drop (n + n) v) ≡ length (drop (n + n) u)
     v-same = counts-long v n (omega (arith, fits)) ∙ ap (λ (k : ℕ). k - (n + n)) kept ∙ sym (counts-long u n fits)
@@ -89,7 +89,7 @@ module _ (gates : ℕ) (vel : List Float) (mask : List ℕ) (limits : List Float
     starts-are : (j : ℕ) → j < length (drop (n + n) v) → getD (drop (n + n) v) j 0 ≡ sizes (seg u 0 n) (joint gates (seg u 0 n)) j
     starts-are j q = E (joint gates (seg u 0 n)) F .1 j (omega (arith, v-same))
 
-    pub number-asks : (n + n ≤ length v) × Ready (seg v n n) (seg v 0 n) (drop (n + n) v)
+    pub number-asks : (n + n ≤ length v) × NumbersGates (seg v n n) (seg v 0 n) (drop (n + n) v)
     number-asks = (omega (arith, fits), rw (C .words, C .bands) (number-room gates vel mask limits (seg u 0 n) (seg u n n) as-many small (A .rising) B F (drop (n + n) v) v-counters starts-are))
 
     pub whole : (x : List ℕ) → ((rs : List ℕ) → Forest (marks (seg v 0 n)) (seg v n n) rs → ((i r : ℕ) → getD rs i 0 ≡ suc r → getD (seg v 0 n) r 0 ≡ getD (seg v 0 n) i 0) → Numbering (seg v 0 n) rs (drop (n + n) v) (seg x 0 n) (drop (n + n) x) n)

@@ -11,24 +11,24 @@ unfoldable pub own : List Bool → List ℕ
 own inside = tabulate (length inside) (λ g. cond (getD inside g false) (suc g) 0)
 
 -- two gates that touch, the earlier first
-pub record Link : Type 0 where
+pub record Neighbours : Type 0 where
   pub a : ℕ
   pub b : ℕ
 
 -- the link of gate g to the gate of the ray before, if both are inside
-unfoldable pub above : ℕ → List Bool → ℕ → List Link
+unfoldable pub above : ℕ → List Bool → ℕ → List Neighbours
 above gates inside g = cond (getD inside g false && leb gates g && getD inside (g - gates) false) (record { a = g - gates; b = g } ∷ []) []
 
 -- and to the gate before on its ray
-unfoldable pub before : ℕ → List Bool → ℕ → List Link
+unfoldable pub before : ℕ → List Bool → ℕ → List Neighbours
 before gates inside g = cond (getD inside g false && not (eqb (g % gates) 0) && getD inside (g - 1) false) (record { a = g - 1; b = g } ∷ []) []
 
 -- the links of gate g
-unfoldable pub linksAt : ℕ → List Bool → ℕ → List Link
+unfoldable pub linksAt : ℕ → List Bool → ℕ → List Neighbours
 linksAt gates inside g = above gates inside g ++ before gates inside g
 
 -- all links, in scan order
-unfoldable pub links : ℕ → List Bool → List Link
+unfoldable pub links : ℕ → List Bool → List Neighbours
 links gates inside = each (linksAt gates inside) (upto (length inside) 0)
 
 -- of two areas' roots the lesser takes the place of the greater
@@ -36,7 +36,7 @@ unfoldable pub swap : ℕ → ℕ → ℕ → ℕ
 swap x y r = cond (eqb r (max x y)) (min x y) r
 
 -- the areas of two gates made one
-unfoldable pub join : List ℕ → Link → List ℕ
+unfoldable pub join : List ℕ → Neighbours → List ℕ
 join roots l = map (swap (getD roots (l .a) 0) (getD roots (l .b) 0)) roots
 
 -- all links joined: a gate's root is then the first gate of its area

@@ -9,8 +9,8 @@ ghost use lib.ListN.{length, getD, replicate};
 ghost use Rattle.labels.specs.Label.{join};
 ghost use Rattle.labels.specs.Inside.Forest.{Forest, Some, Gate, Root};
 ghost use Rattle.labels.specs.Inside.Bands.{marks, aboveIn, beforeIn, linksIn, laterIn, Treed};
-ghost use Rattle.labels.specs.Inside.Numbering.{Counted, Numbering, Ahead, Ready};
-ghost use Rattle.labels.specs.Inside.Sheet.{bandsOf, wordsOf, countsOf, Joins, Counts};
+ghost use Rattle.labels.specs.Inside.Numbering.{CountedBefore, Numbering, Ahead, NumbersGates};
+ghost use Rattle.labels.specs.Inside.Sheet.{bandsOf, wordsOf, countsOf, WordsDiffer, CountersDiffer};
 
 // The first gate of the area of gate `start`. Halves the path there.
 pub fn find(w: &mut [u32], start: u32) -> u32
@@ -50,7 +50,7 @@ pub fn link_above(u: &mut [u32], n: usize, gates: u32, g: u32)
     requires { ⌜ n + n ≤ length (now u) ⌝ }
     requires { ⌜ Gate (bandsOf (now u) n) g ⌝ }
     ensures { λ _. ⌜ ((rs : List ℕ) → Forest (marks (bandsOf (now (u .entry)) n)) (wordsOf (now (u .entry)) n) rs → Forest (marks (bandsOf (now (u .entry)) n)) (wordsOf (now (u .exit)) n) (foldl join rs (aboveIn gates (bandsOf (now (u .entry)) n) g))) ⌝ }
-    ensures { λ _. ⌜ Joins (now (u .entry)) (now (u .exit)) n ⌝ }
+    ensures { λ _. ⌜ WordsDiffer (now (u .entry)) (now (u .exit)) n ⌝ }
 {
     if g < gates {
         return;
@@ -70,7 +70,7 @@ pub fn link_before(u: &mut [u32], n: usize, gates: u32, g: u32)
     requires { ⌜ (n + n ≤ length (now u)) × (0 < gates) ⌝ }
     requires { ⌜ Gate (bandsOf (now u) n) g ⌝ }
     ensures { λ _. ⌜ ((rs : List ℕ) → Forest (marks (bandsOf (now (u .entry)) n)) (wordsOf (now (u .entry)) n) rs → Forest (marks (bandsOf (now (u .entry)) n)) (wordsOf (now (u .exit)) n) (foldl join rs (beforeIn gates (bandsOf (now (u .entry)) n) g))) ⌝ }
-    ensures { λ _. ⌜ Joins (now (u .entry)) (now (u .exit)) n ⌝ }
+    ensures { λ _. ⌜ WordsDiffer (now (u .entry)) (now (u .exit)) n ⌝ }
 {
     if g % gates == 0 {
         return;
@@ -90,7 +90,7 @@ pub fn link(u: &mut [u32], n: usize, gates: u32, g: u32)
     requires { ⌜ (n + n ≤ length (now u)) × (0 < gates) ⌝ }
     requires { ⌜ g < n ⌝ }
     ensures { λ _. ⌜ ((rs : List ℕ) → Forest (marks (bandsOf (now (u .entry)) n)) (wordsOf (now (u .entry)) n) rs → Forest (marks (bandsOf (now (u .entry)) n)) (wordsOf (now (u .exit)) n) (foldl join rs (linksIn gates (bandsOf (now (u .entry)) n) g))) ⌝ }
-    ensures { λ _. ⌜ Joins (now (u .entry)) (now (u .exit)) n ⌝ }
+    ensures { λ _. ⌜ WordsDiffer (now (u .entry)) (now (u .exit)) n ⌝ }
 {
     if u[g as usize] == 0 {
         return;
@@ -104,7 +104,7 @@ pub fn link_all(u: &mut [u32], n: usize, gates: u32)
     requires { ⌜ Treed (bandsOf (now u) n) (wordsOf (now u) n) ⌝ }
     requires { ⌜ (n + n ≤ length (now u)) × (0 < n → 0 < gates) ⌝ }
     ensures { λ _. ⌜ ((rs : List ℕ) → Forest (marks (bandsOf (now (u .entry)) n)) (wordsOf (now (u .entry)) n) rs → Forest (marks (bandsOf (now (u .entry)) n)) (wordsOf (now (u .exit)) n) (foldl join rs (laterIn gates (bandsOf (now (u .entry)) n) 0))) ⌝ }
-    ensures { λ _. ⌜ Joins (now (u .entry)) (now (u .exit)) n ⌝ }
+    ensures { λ _. ⌜ WordsDiffer (now (u .entry)) (now (u .exit)) n ⌝ }
 {
     let m = n as u32;
     let mut g: u32 = 0;
@@ -119,8 +119,8 @@ pub fn count_gate(u: &mut [u32], n: usize, g: usize)
     requires { ⌜ Treed (bandsOf (now u) n) (wordsOf (now u) n) ⌝ }
     requires { ⌜ (g < n) × (n + n ≤ length (now u)) × (getD (bandsOf (now u) n) g 0 ≤ length (countsOf (now u) n)) ⌝ }
     requires { ⌜ ((j : ℕ) → j < length (countsOf (now u) n) → getD (countsOf (now u) n) j 0 + 1 < 2 ^ 32) ⌝ }
-    ensures { λ _. ⌜ ((rs : List ℕ) → Forest (marks (bandsOf (now (u .entry)) n)) (wordsOf (now (u .entry)) n) rs → Counted (bandsOf (now (u .entry)) n) rs (countsOf (now (u .entry)) n) g → Counted (bandsOf (now (u .entry)) n) rs (countsOf (now (u .exit)) n) (g + 1)) ⌝ }
-    ensures { λ _. ⌜ Counts (now (u .entry)) (now (u .exit)) n ⌝ }
+    ensures { λ _. ⌜ ((rs : List ℕ) → Forest (marks (bandsOf (now (u .entry)) n)) (wordsOf (now (u .entry)) n) rs → CountedBefore (bandsOf (now (u .entry)) n) rs (countsOf (now (u .entry)) n) g → CountedBefore (bandsOf (now (u .entry)) n) rs (countsOf (now (u .exit)) n) (g + 1)) ⌝ }
+    ensures { λ _. ⌜ CountersDiffer (now (u .entry)) (now (u .exit)) n ⌝ }
 {
     let v = u[n + g];
     if v == 0 {
@@ -141,8 +141,8 @@ pub fn count(u: &mut [u32], n: usize)
     requires { ⌜ Treed (bandsOf (now u) n) (wordsOf (now u) n) ⌝ }
     requires { ⌜ (n + n ≤ length (now u)) × ((i : ℕ) → getD (bandsOf (now u) n) i 0 ≤ length (countsOf (now u) n)) ⌝ }
     requires { ⌜ countsOf (now u) n ≡ replicate (length (countsOf (now u) n)) 0 ⌝ }
-    ensures { λ _. ⌜ ((rs : List ℕ) → Forest (marks (bandsOf (now (u .entry)) n)) (wordsOf (now (u .entry)) n) rs → Counted (bandsOf (now (u .entry)) n) rs (countsOf (now (u .exit)) n) n) ⌝ }
-    ensures { λ _. ⌜ Counts (now (u .entry)) (now (u .exit)) n ⌝ }
+    ensures { λ _. ⌜ ((rs : List ℕ) → Forest (marks (bandsOf (now (u .entry)) n)) (wordsOf (now (u .entry)) n) rs → CountedBefore (bandsOf (now (u .entry)) n) rs (countsOf (now (u .exit)) n) n) ⌝ }
+    ensures { λ _. ⌜ CountersDiffer (now (u .entry)) (now (u .exit)) n ⌝ }
 {
     let mut g = 0;
     while g < n {
@@ -177,7 +177,7 @@ pub fn label_gate(u: &mut [u32], n: usize, g: usize)
 // All labels over the bands, from the counters' starts.
 pub fn number(u: &mut [u32], n: usize)
     requires { ⌜ n + n ≤ length (now u) ⌝ }
-    requires { ⌜ Ready (wordsOf (now u) n) (bandsOf (now u) n) (countsOf (now u) n) ⌝ }
+    requires { ⌜ NumbersGates (wordsOf (now u) n) (bandsOf (now u) n) (countsOf (now u) n) ⌝ }
     ensures { λ _. ⌜ ((rs : List ℕ) → Forest (marks (bandsOf (now (u .entry)) n)) (wordsOf (now (u .entry)) n) rs → ((i r : ℕ) → getD rs i 0 ≡ suc r → getD (bandsOf (now (u .entry)) n) r 0 ≡ getD (bandsOf (now (u .entry)) n) i 0) → Numbering (bandsOf (now (u .entry)) n) rs (countsOf (now (u .entry)) n) (bandsOf (now (u .exit)) n) (countsOf (now (u .exit)) n) n) ⌝ }
 {
     let mut g = 0;

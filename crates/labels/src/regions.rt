@@ -12,7 +12,7 @@ ghost use Rattle.labels.specs.Regions.{within, regions, over, added};
 ghost use Rattle.labels.specs.Inside.Forest.{Forest};
 ghost use Rattle.labels.specs.Inside.Bands.{Band, Bands, marks, joint};
 ghost use Rattle.labels.specs.Inside.Numbering.{sizes, Tally};
-ghost use Rattle.labels.specs.Inside.Sheet.{bandsOf, wordsOf, countsOf, Counts, Same, Fitting, Block, Ample, Sweep};
+ghost use Rattle.labels.specs.Inside.Sheet.{bandsOf, wordsOf, countsOf, CountersDiffer, Same, Fitting, Block, Ample, FindsRegions};
 
 // Whether a valid velocity lies in an interval: at or above its lower limit, below its upper one.
 pub fn holds(lower: f64, upper: f64, x: f32, m: u8) -> bool
@@ -105,7 +105,7 @@ pub fn tally(u: &mut [u32], n: usize) -> u32
     requires { ⌜ n + n ≤ length (now u) ⌝ }
     requires { ⌜ Tally (bandsOf (now u) n) (wordsOf (now u) n) (countsOf (now u) n) ⌝ }
     ensures { λ r. ⌜ ((rs : List ℕ) → Forest (marks (bandsOf (now (u .entry)) n)) (wordsOf (now (u .entry)) n) rs → (r ≡ sizes (bandsOf (now (u .entry)) n) rs (length (countsOf (now (u .entry)) n))) × ((j : ℕ) → j < length (countsOf (now (u .entry)) n) → getD (countsOf (now (u .exit)) n) j 0 ≡ sizes (bandsOf (now (u .entry)) n) rs j)) ⌝ }
-    ensures { λ _. ⌜ Counts (now (u .entry)) (now (u .exit)) n ⌝ }
+    ensures { λ _. ⌜ CountersDiffer (now (u .entry)) (now (u .exit)) n ⌝ }
 {
     let a = n + n;
     let k = u.len() - a;
@@ -257,7 +257,7 @@ pub fn find_regions(
     limits: &[f64],
     u: &mut [u32],
 ) -> u32
-    requires { ⌜ Sweep gates (now velocity) (now valid) (now limits) (now u) ⌝ }
+    requires { ⌜ FindsRegions gates (now velocity) (now valid) (now limits) (now u) ⌝ }
     ensures { λ r. ⌜ r ≡ (regions gates (now (velocity .entry)) (now (valid .entry)) (now (limits .entry))) .number ⌝ }
     ensures { λ _. ⌜ now (u .exit) ≡ (regions gates (now (velocity .entry)) (now (valid .entry)) (now (limits .entry))) .labels ++ replicate (2 * length (now (velocity .entry)) + 64) 0 ⌝ }
 {

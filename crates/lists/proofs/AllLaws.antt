@@ -8,7 +8,7 @@ use mathlib.Core.Logic.{inl, inr, ⊎-elim}
 use lib.Dec.{eqb, ltb}
 use lib.ListN.{length, getD}
 use borrow.Author.Tests.{eqb-true, eqb-false, ltb-true, ltb-false}
-use Rattle.lists.specs.Seq.{All, Mem, keep, each, upto, all, tabulate}
+use Rattle.lists.specs.Seq.{All, Member, keep, each, upto, all, tabulate}
 use Rattle.lists.proofs.SeqLaws.{tab-at, tab-past}
 use Rattle.lists.proofs.SegLaws.{eq-or-ne}
 
@@ -88,12 +88,12 @@ unfolding upto
 all-upto P f k zero h = tt
 all-upto P f k (suc n) h = (h k (omega arith) (omega arith), all-upto P f (suc k) n (λ i a b. h i (omega arith) (omega arith)))
 
-pub mem-upto : {A : Type 0} (f : ℕ → A) (k n i : ℕ) → k ≤ i → i < k + n → Mem (f i) (map f (upto n k))
+pub mem-upto : {A : Type 0} (f : ℕ → A) (k n i : ℕ) → k ≤ i → i < k + n → Member (f i) (map f (upto n k))
 unfolding upto
 mem-upto f k zero i p q = absurd (omega arith)
 mem-upto f k (suc n) i p q = ⊎-elim (λ e. inl (ap f (sym e))) (λ e. inr (mem-upto f (suc k) n i (omega arith) (omega arith))) (eq-or-ne i k)
 
-pub upto-mem : {A : Type 0} (f : ℕ → A) (k n : ℕ) (a : A) → Mem a (map f (upto n k)) → (i : ℕ) × (k ≤ i) × (i < k + n) × (f i ≡ a)
+pub upto-mem : {A : Type 0} (f : ℕ → A) (k n : ℕ) (a : A) → Member a (map f (upto n k)) → (i : ℕ) × (k ≤ i) × (i < k + n) × (f i ≡ a)
 unfolding upto
 upto-mem f k zero a h = absurd h
 upto-mem f k (suc n) a (inl e) = (k, omega arith, omega arith, e)

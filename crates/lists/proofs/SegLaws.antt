@@ -10,7 +10,7 @@ use native.Mathlib.Decide.{decLt, ℕ-discrete}
 use lib.ListN.{length, getD, take, drop, set, replicate, length-set, length-drop, length-replicate, replicate-append-replicate}
 use lib.Seq.{getD-set-same, getD-set-other, getD-take, getD-drop, length-take-le, ext-getD, sets, sets-eq, take-suc, set-set, set-comm, drop-drop, take-add, take-all, drop-set-lt}
 use borrow.Rule.Slice.PartMut.{putMid}
-use Rattle.lists.specs.Inside.Seg.{seg, put, Apart}
+use Rattle.lists.specs.Inside.Seg.{seg, put, Disjoint}
 use Rattle.lists.specs.Seq.{tabulate, sum}
 use Rattle.lists.proofs.SeqLaws.{tab-at, tab-length, sum-append}
 
@@ -184,7 +184,7 @@ module _ {A : Type 0} where
       (λ p. ⊎-elim (λ q. absurd (h p q)) (λ q. set-put-above w b vs j x q) (lt-or-le j (b + length vs)))
       (lt-or-le j b)
 
-  pub seg-put-out : (w : List A) (b : ℕ) (vs : List A) (c n : ℕ) → Apart c n b (length vs) → seg (put w b vs) c n ≡ seg w c n
+  pub seg-put-out : (w : List A) (b : ℕ) (vs : List A) (c n : ℕ) → Disjoint c n b (length vs) → seg (put w b vs) c n ≡ seg w c n
   seg-put-out w b vs c n h = seg-ext (put w b vs) w c n (length-put w b vs) (λ j d p q. getD-put-out w b vs j d (λ r s. h j p q r s))
 
   -- ---- segments after one store
@@ -228,7 +228,7 @@ set-tab f g n i x h e o =
     (eq-or-ne j i))
 
 -- a read of a part that lies apart from what was put
-pub getD-put-apart : {A : Type 0} (w : List A) (b : ℕ) (vs : List A) (n a m i : ℕ) (d : A) → length vs ≡ n → Apart a m b n → i < m → getD (put w b vs) (a + i) d ≡ getD w (a + i) d
+pub getD-put-apart : {A : Type 0} (w : List A) (b : ℕ) (vs : List A) (n a m i : ℕ) (d : A) → length vs ≡ n → Disjoint a m b n → i < m → getD (put w b vs) (a + i) d ≡ getD w (a + i) d
 getD-put-apart w b vs n a m i d e h l = getD-put-out w b vs (a + i) d (λ p q. h (a + i) (omega arith) (omega arith) p (omega arith))
 
 -- what is put twice at one place is the last

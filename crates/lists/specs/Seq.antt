@@ -40,6 +40,6 @@ All P [] = Unit {0}
 All P (x ∷ xs) = P x × All P xs
 
 -- a is an element
-abbrev pub Mem : {A : Type 0} → A → List A → Type 0
-Mem a [] = ⊥
-Mem a (x ∷ xs) = (x ≡ a) ⊎ Mem a xs
+abbrev pub Member : {A : Type 0} → A → List A → Type 0
+Member a [] = ⊥
+Member a (x ∷ xs) = (x ≡ a) ⊎ Member a xs

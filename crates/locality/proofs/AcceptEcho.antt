@@ -10,7 +10,7 @@ use lib.Ieee.{Float}
 use Rattle.lists.specs.Seq.{keep, all, All}
 use Rattle.locality.proofs.Spot.{zero-plus, one-plus, next-place}
 use Rattle.edges.specs.declared.edges.EdgeRecord.{EdgeRecord}
-use Rattle.network.specs.Network.{State, Event, inRange, merges, goodBy, trace, edgeOf, numbered, alone, start}
+use Rattle.network.specs.Network.{State, Event, inRange, merges, mergesInRange, trace, edgeOf, numbered, alone, start}
 use Rattle.network.proofs.Restrict.{edgeIn, regionIn, restrict, Closed}
 use Rattle.locality.proofs.Rename.{renS, renV, merges-ren, trace-ren}
 use Rattle.locality.proofs.Locality.{other}
@@ -42,16 +42,16 @@ range-ren ρ σ [] = refl
 range-ren ρ σ (v ∷ l) = ap (λ (b : Bool). inRange v && b) (range-ren ρ σ l)
 
 -- a part's own run asks the same
-pub range-image : (ρ σ : ℕ → ℕ) (p q : ℕ → Bool) (t s : State) → Embedding ρ σ p q t s → goodBy (restrict p q s) ≡ goodBy t
-unfolding goodBy
+pub range-image : (ρ σ : ℕ → ℕ) (p q : ℕ → Bool) (t s : State) → Embedding ρ σ p q t s → mergesInRange (restrict p q s) ≡ mergesInRange t
+unfolding mergesInRange
 range-image ρ σ p q t s m =
     ap (λ (u : State). all inRange (trace u (merges u))) (sym (m .image))
     ∙ ap (λ (l : List ℕ). all inRange (trace (renS ρ σ t) l)) (merges-ren ρ σ (m .ρ-inj) (m .σ-inj) t)
     ∙ ap (all inRange) (trace-ren ρ σ (m .ρ-inj) (m .σ-inj) (merges t) t)
     ∙ range-ren ρ σ (trace t (merges t))
 
-pub range-sides : (p q : ℕ → Bool) (s : State) → Closed p q s → (goodBy s ≡ true) ↔ ((goodBy (restrict p q s) ≡ true) × (goodBy (restrict (other p) (other q) s) ≡ true))
-unfolding goodBy Accepted
+pub range-sides : (p q : ℕ → Bool) (s : State) → Closed p q s → (mergesInRange s ≡ true) ↔ ((mergesInRange (restrict p q s) ≡ true) × (mergesInRange (restrict (other p) (other q) s) ≡ true))
+unfolding mergesInRange Accepted
 range-sides p q s c = (
   (λ h. let w : Accepted Ok (restrict p q s) × Accepted Ok (restrict (other p) (other q) s) = accepted-sides Ok p q s c .0 (all-All _ h) in (All-all _ (w .0), All-all _ (w .1))),
   (λ h. All-all _ (accepted-sides Ok p q s c .1 (all-All _ (h .0), all-All _ (h .1)))),

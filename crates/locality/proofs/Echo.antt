@@ -10,7 +10,7 @@ use lib.IntN.{ℤ}
 use lib.Ieee.{Float, nan}
 use borrow.Author.Tests.{ne-eqb}
 use Rattle.lists.specs.Seq.{upto, keep, tabulate}
-use Rattle.arithmetic.specs.Intervals.{folded}
+use Rattle.arithmetic.specs.Intervals.{twoNyquist}
 use Rattle.lists.proofs.SeqLaws.{eqb-renamed, tab-length, keep-count}
 use Rattle.labels.specs.Label.{Found}
 use Rattle.labels.specs.Regions.{Interval, within}
@@ -23,7 +23,7 @@ use Rattle.edges.specs.declared.edges.EdgeRecord.{EdgeRecord}
 use Rattle.edges.specs.Edges.{pairs, used}
 use Rattle.network.specs.Network.{start, merges, countOf, sizeIn, networkBy}
 use Rattle.locality.proofs.Embed.{Embedding, merges-image, counts-image}
-use Rattle.locality.proofs.EdgesEcho.{Apart, recordIn, renQ, used-ren, used-all}
+use Rattle.locality.proofs.EdgesEcho.{ApartIn, recordIn, renQ, used-ren, used-all}
 use Rattle.locality.proofs.PairsEcho.{left-near, top-near, flag-side, pairs-part, pairs-sides}
 use Rattle.locality.proofs.StartEcho.{Unjoined, edgeSide, start-embeds}
 use Rattle.sweep.specs.Sweep.{Sweep, regionsOf, pairsOf, networkOf, final}
@@ -52,7 +52,7 @@ flags E s limits = map E (firstGates (s .shape .gates) (s .vel) (s .mask) limits
 
 -- an echo apart from the rest, by these limits
 abbrev pub ApartBy : (ℕ → Bool) → Sweep → List Float → Type 0
-ApartBy E s limits = Apart E (s .shape) (regionsOf s limits .labels)
+ApartBy E s limits = ApartIn E (s .shape) (regionsOf s limits .labels)
 
 -- the uncentred count of a gate
 unfoldable pub regionCount : Sweep → List Float → ℕ → ℤ
@@ -140,17 +140,17 @@ module _ (E : ℕ → Bool) (s : Sweep) where
       abbrev rs : List EdgeRecord
       rs = used (length bs) (pairsOf s f)
 
-      whole-is : networkOf s f ≡ start (folded (s .nyquist)) rs (map (sizeIn (f .labels)) (upto (length bs) 1))
+      whole-is : networkOf s f ≡ start (twoNyquist (s .nyquist)) rs (map (sizeIn (f .labels)) (upto (length bs) 1))
       unfolding networkOf networkBy pairsOf
-      whole-is = ap (λ (n : ℕ). start (folded (s .nyquist)) (used n (pairsOf s f)) (map (sizeIn (f .labels)) (upto n 1))) (P .number)
+      whole-is = ap (λ (n : ℕ). start (twoNyquist (s .nyquist)) (used n (pairsOf s f)) (map (sizeIn (f .labels)) (upto n 1))) (P .number)
 
-      part-is : networkOf (only E s) f′ ≡ start (folded (s .nyquist)) (used (trues bs) (pairsOf (only E s) f′)) (map (sizeIn (f′ .labels)) (upto (trues bs) 1))
+      part-is : networkOf (only E s) f′ ≡ start (twoNyquist (s .nyquist)) (used (trues bs) (pairsOf (only E s) f′)) (map (sizeIn (f′ .labels)) (upto (trues bs) 1))
       unfolding networkOf networkBy pairsOf only
-      part-is = ap (λ (n : ℕ). start (folded (s .nyquist)) (used n (pairsOf (only E s) f′)) (map (sizeIn (f′ .labels)) (upto n 1))) (P .number′)
+      part-is = ap (λ (n : ℕ). start (twoNyquist (s .nyquist)) (used n (pairsOf (only E s) f′)) (map (sizeIn (f′ .labels)) (upto n 1))) (P .number′)
 
       -- 4. the network of the echo alone lies in the whole's
       pub network-embeds : Embedding (shift bs) (spot (map (recordIn (flag bs)) rs)) (flag bs) (edgeSide (flag bs) rs) (networkOf (only E s) f′) (networkOf s f)
-      network-embeds = rw (whole-is, part-is) (start-embeds bs (folded (s .nyquist)) rs (used (trues bs) (pairsOf (only E s) f′)) (sizeIn (f .labels)) (sizeIn (f′ .labels)) unjoined records-follow size-follows)
+      network-embeds = rw (whole-is, part-is) (start-embeds bs (twoNyquist (s .nyquist)) rs (used (trues bs) (pairsOf (only E s) f′)) (sizeIn (f .labels)) (sizeIn (f′ .labels)) unjoined records-follow size-follows)
 
       -- 5. merges and counts
       pub merges-follow : keep (edgeSide (flag bs) rs) (merges (networkOf s f)) ≡ map (spot (map (recordIn (flag bs)) rs)) (merges (networkOf (only E s) f′))

@@ -13,14 +13,16 @@ use Rattle.lists.proofs.SeqLaws.{eqb-renamed, keep-and, keep-none, keep-same, k
 use Rattle.locality.proofs.Spot.{trues, shift, flag, shift-rises, shift-inj, shifts-kept}
 use Rattle.locality.proofs.RootsEcho.{at}
 use Rattle.lists.proofs.AllLaws.{all-each, all-keep}
-use Rattle.edges.specs.Edges.{Shape, Direction, next, look, sees, Pair, begun, plus, gathered, firstIs, secondIs, recordsOf, records, greaterFirst, used}
+use Rattle.edges.specs.Edges.{next, look, sees, Pair, begun, plus, gathered, firstIs, secondIs, recordsOf, records, greaterFirst, used}
+use Rattle.edges.specs.declared.edges.Shape.{Shape}
+use Rattle.edges.specs.declared.edges.Direction.{Direction}
 use Rattle.edges.specs.declared.edges.EdgeRecord.{EdgeRecord}
 use Rattle.edges.proofs.Runs.{plus-one, plus-two}
 use Rattle.edges.proofs.RecordLaws.{gathered-all, records-nil}
 
 -- No gate of the echo sees one outside it, and none outside sees one of the echo.
-abbrev pub Apart : (ℕ → Bool) → Shape → List ℕ → Type 0
-Apart E s labels = (d : Direction) (g h : ℕ) → 0 < at labels g → sees s labels d g ≡ some h → E g ≡ E h
+abbrev pub ApartIn : (ℕ → Bool) → Shape → List ℕ → Type 0
+ApartIn E s labels = (d : Direction) (g h : ℕ) → 0 < at labels g → sees s labels d g ≡ some h → E g ≡ E h
 
 -- a look ends at a labelled gate
 pub look-labelled : (s : Shape) (d : Direction) (labels : List ℕ) (k g h : ℕ) → look s d labels k g ≡ some h → 0 < at labels h

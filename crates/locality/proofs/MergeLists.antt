@@ -10,8 +10,8 @@ use lib.ListN.{length}
 use lib.Ieee.{Float}
 use lib.Dec.{eqb, leb}
 use borrow.Author.Tests.{eqb-true, ne-eqb}
-use Rattle.lists.specs.Seq.{upto, all, keep, All, Mem}
-use Rattle.arithmetic.specs.Intervals.{folded}
+use Rattle.lists.specs.Seq.{upto, all, keep, All, Member}
+use Rattle.arithmetic.specs.Intervals.{twoNyquist}
 use Rattle.lists.proofs.SeqLaws.{eqb-refl}
 use Rattle.labels.specs.Label.{Found}
 use Rattle.locality.proofs.Spot.{flag}
@@ -53,14 +53,14 @@ lies E p labels side g h = go (E g) refl
 -- ---- the turn at an edge
 
 -- an event's edge is in the list
-later : (l : List ℕ) (n : State) (v : Event) (i : ℕ) → All (λ j. i ≡ j → ⊥) l → Mem v (trace n l) → i ≡ v .edge → ⊥
+later : (l : List ℕ) (n : State) (v : Event) (i : ℕ) → All (λ j. i ≡ j → ⊥) l → Member v (trace n l) → i ≡ v .edge → ⊥
 unfolding trace
 later [] n v i t a h = a
 later (j ∷ l) n v i t (inl e) h = t .0 (h ∙ ap (λ (x : Event). x .edge) (sym e) ∙ event-edge (λ m. true) (λ m. true) n j)
 later (j ∷ l) n v i t (inr a) h = later l (step n j) v i (t .1) a h
 
 -- an event of a trace whose edges are distinct is the turn at its edge
-mem-turn : (l : List ℕ) (n : State) (v : Event) → Distinct l → Mem v (trace n l) → turnAt (trace n l) (v .edge) ≡ some v
+mem-turn : (l : List ℕ) (n : State) (v : Event) → Distinct l → Member v (trace n l) → turnAt (trace n l) (v .edge) ≡ some v
 unfolding trace turnAt
 mem-turn [] n v t a = absurd a
 mem-turn (j ∷ l) n v t (inl e) = rw e (rw (eqb-refl (v .edge)) refl)
@@ -76,12 +76,12 @@ turns vs (i ∷ l) n t =
     let here : some (event n i) ≡ turnAt vs i = sym (t .0) ∙ ap (turnAt vs) (event-edge (λ m. true) (λ m. true) n i) in
     rw (here, turns vs l (step n i) (t .1)) refl
 
-mem-keep : (f : Event → Bool) (l m : List Event) → ((v : Event) → Mem v l → Mem v m) → All (λ v. Mem v m) (keep f l)
+mem-keep : (f : Event → Bool) (l m : List Event) → ((v : Event) → Member v l → Member v m) → All (λ v. Member v m) (keep f l)
 unfolding keep
 mem-keep f [] m h = tt
 mem-keep f (x ∷ l) m h = go (f x) (mem-keep f l m (λ v w. h v (inr w)))
   where
-    go : (b : Bool) → All (λ v. Mem v m) (keep f l) → All (λ v. Mem v m) (cond b (x ∷ keep f l) (keep f l))
+    go : (b : Bool) → All (λ v. Member v m) (keep f l) → All (λ v. Member v m) (cond b (x ∷ keep f l) (keep f l))
     go true t = (h x (inl refl), t)
     go false t = t
 
@@ -130,22 +130,22 @@ module _ (E : ℕ → Bool) (s : Sweep) (limits : List Float) (A : ApartBy E s l
 
   agrees : (l : List ℕ) → SameSides p q l (merges (networkOf s f)) → Agrees p q (networkOf s f) l
   unfolding networkOf networkBy pairsOf sizes
-  agrees l h = every-merge-list p (folded (s .nyquist)) (used (f .number) (pairs (s .shape) (f .labels) (s .vel))) (sizes f)
+  agrees l h = every-merge-list p (twoNyquist (s .nyquist)) (used (f .number) (pairs (s .shape) (f .labels) (s .vel))) (sizes f)
       (used-all (λ a b. p a ≡ p b) (f .number) (pairs (s .shape) (f .labels) (s .vel)) (pairs-sides E (s .shape) (f .labels) (s .vel) p A label-side)) l h
 
   -- the events of the run itself
   abbrev own : List Event
   own = trace (networkOf s f) (merges (networkOf s f))
 
-  among : (l : List ℕ) → Agrees p q (networkOf s f) l → All (λ v. Mem v own) (trace (networkOf s f) l)
+  among : (l : List ℕ) → Agrees p q (networkOf s f) l → All (λ v. Member v own) (trace (networkOf s f) l)
   unfolding eventIn other
-  among l a = all-both (λ v. Mem v own) (eventIn p q) (trace (networkOf s f) l)
+  among l a = all-both (λ v. Member v own) (eventIn p q) (trace (networkOf s f) l)
       (rw (a .this-events) (mem-keep (eventIn p q) own own (λ v w. w)))
       (rw (a .other-events) (mem-keep (eventIn (other p) (other q)) own own (λ v w. w)))
 
   alike : (l : List ℕ) → Agrees p q (networkOf s f) l → map some (trace (networkOf s f) l) ≡ map (turnAt own) l
   alike l a = turns own l (networkOf s f)
-      (all-weaker (λ v. Mem v own) (λ v. turnAt own (v .edge) ≡ some v) (λ v w. mem-turn (merges (networkOf s f)) (networkOf s f) v (merges-once (networkOf s f)) w) (trace (networkOf s f) l) (among l a))
+      (all-weaker (λ v. Member v own) (λ v. turnAt own (v .edge) ≡ some v) (λ v w. mem-turn (merges (networkOf s f)) (networkOf s f) v (merges-once (networkOf s f)) w) (trace (networkOf s f) l) (among l a))
 
   sides : (l : List ℕ) → MergeList E s limits l → SameSides p q l (merges (networkOf s f))
   unfolding echoes bothIn edgeSide recordIn other

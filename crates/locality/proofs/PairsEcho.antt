@@ -16,8 +16,11 @@ use Rattle.locality.proofs.Spot.{shift, flag, shift-inj}
 use Rattle.locality.proofs.RootsEcho.{at}
 use Rattle.locality.proofs.LabelEcho.{Parts}
 use Rattle.lists.proofs.AllLaws.{all-each}
-use Rattle.edges.specs.Edges.{Shape, Direction, left, right, top, bottom, next, skip, look, sees, Pair, pairTo, pairsAt, pairs}
-use Rattle.locality.proofs.EdgesEcho.{Apart, look-labelled, renP, pairIn}
+use Rattle.edges.specs.Edges.{next, skip, look, sees, Pair, pairTo, pairsAt, pairs}
+use Rattle.edges.specs.declared.edges.Shape.{Shape}
+use Rattle.edges.specs.declared.edges.Direction.{Direction}
+use Rattle.edges.specs.declared.edges.Direction.the-variants.{Left, Right, Top, Bottom}
+use Rattle.locality.proofs.EdgesEcho.{ApartIn, look-labelled, renP, pairIn}
 
 -- a labelled gate one step away is seen
 sees-next : (s : Shape) (labels : List ℕ) (d : Direction) (g h : ℕ) → next s d g ≡ some h → 0 < at labels h → sees s labels d g ≡ some h
@@ -32,13 +35,13 @@ sees-next s labels d g h e p = ap reach e ∙ go (at labels h) p
     go (suc z) w = refl
 
 -- Neighbouring labelled gates see each other, so they lie on one side
-pub left-near : (E : ℕ → Bool) (s : Shape) (labels : List ℕ) → Apart E s labels → (g : ℕ) → leb (s .gates) g ≡ true → 0 < at labels (g - s .gates) → 0 < at labels g → E (g - s .gates) ≡ E g
-left-near E s labels A g h a b = sym (A left g (g - s .gates) b (sees-next s labels left g (g - s .gates) (unfold next in (rw h refl)) a))
+pub left-near : (E : ℕ → Bool) (s : Shape) (labels : List ℕ) → ApartIn E s labels → (g : ℕ) → leb (s .gates) g ≡ true → 0 < at labels (g - s .gates) → 0 < at labels g → E (g - s .gates) ≡ E g
+left-near E s labels A g h a b = sym (A Left g (g - s .gates) b (sees-next s labels Left g (g - s .gates) (unfold next in (rw h refl)) a))
 
-pub top-near : (E : ℕ → Bool) (s : Shape) (labels : List ℕ) → Apart E s labels → (g : ℕ) → not (eqb (g % s .gates) 0) ≡ true → 0 < at labels (g - 1) → 0 < at labels g → E (g - 1) ≡ E g
-top-near E s labels A g h a b = sym (A top g (g - 1) b (sees-next s labels top g (g - 1) (unfold next in (rw h refl)) a))
+pub top-near : (E : ℕ → Bool) (s : Shape) (labels : List ℕ) → ApartIn E s labels → (g : ℕ) → not (eqb (g % s .gates) 0) ≡ true → 0 < at labels (g - 1) → 0 < at labels g → E (g - 1) ≡ E g
+top-near E s labels A g h a b = sym (A Top g (g - 1) b (sees-next s labels Top g (g - 1) (unfold next in (rw h refl)) a))
 
-module _ (E : ℕ → Bool) (s : Shape) (bs : List Bool) (f f′ : Found) (P : Parts E bs f f′) (A : Apart E s (f .labels)) where
+module _ (E : ℕ → Bool) (s : Shape) (bs : List Bool) (f f′ : Found) (P : Parts E bs f f′) (A : ApartIn E s (f .labels)) where
   abbrev L : List ℕ
   L = f .labels
 
@@ -150,7 +153,7 @@ module _ (E : ℕ → Bool) (s : Shape) (bs : List Bool) (f f′ : Found) (P : P
     gate-part g = go (eqb (at L g) 0) refl
       where
         dirs : List Direction
-        dirs = left ∷ right ∷ top ∷ bottom ∷ []
+        dirs = Left ∷ Right ∷ Top ∷ Bottom ∷ []
 
         seen : (labels : List ℕ) → List Float → Direction → List Pair
         seen labels v d = pairTo labels v g (sees s labels d g)
@@ -214,11 +217,11 @@ pairs-all R s labels vel H = all-each Good (pairsAt s labels vel) (upto (length 
         positive : (at labels g ≡ 0 → ⊥) → 0 < at labels g
         positive h = omega arith
 
-        go : (b : Bool) → eqb (at labels g) 0 ≡ b → All Good (cond b [] (each (λ d. pairTo labels vel g (sees s labels d g)) (left ∷ right ∷ top ∷ bottom ∷ [])))
+        go : (b : Bool) → eqb (at labels g) 0 ≡ b → All Good (cond b [] (each (λ d. pairTo labels vel g (sees s labels d g)) (Left ∷ Right ∷ Top ∷ Bottom ∷ [])))
         go true e = tt
-        go false e = all-each Good (λ d. pairTo labels vel g (sees s labels d g)) (left ∷ right ∷ top ∷ bottom ∷ []) (λ d. one d g (positive (eqb-false (at labels g) 0 e)) (sees s labels d g) refl)
+        go false e = all-each Good (λ d. pairTo labels vel g (sees s labels d g)) (Left ∷ Right ∷ Top ∷ Bottom ∷ []) (λ d. one d g (positive (eqb-false (at labels g) 0 e)) (sees s labels d g) refl)
 
 -- What a test says of a gate's label, where it is the gate's side, it says of both labels of a pair
-pub pairs-sides : (E : ℕ → Bool) (s : Shape) (labels : List ℕ) (vel : List Float) (p : ℕ → Bool) → Apart E s labels → ((g : ℕ) → 0 < at labels g → p (at labels g) ≡ E g)
+pub pairs-sides : (E : ℕ → Bool) (s : Shape) (labels : List ℕ) (vel : List Float) (p : ℕ → Bool) → ApartIn E s labels → ((g : ℕ) → 0 < at labels g → p (at labels g) ≡ E g)
     → All (λ x. p (x .one) ≡ p (x .two)) (pairs s labels vel)
 pairs-sides E s labels vel p A side = pairs-all (λ a b. p a ≡ p b) s labels vel (λ d g h q r w. side g q ∙ A d g h q w ∙ sym (side h r))

@@ -8,7 +8,7 @@ use mathlib.Core.List.{List, [], _∷_, map}
 use lib.ListN.{length, getD, length-map}
 use lib.Ieee.{Float}
 use Rattle.lists.specs.Seq.{upto, All}
-use Rattle.arithmetic.specs.Intervals.{folded}
+use Rattle.arithmetic.specs.Intervals.{twoNyquist}
 use Rattle.lists.proofs.SeqLaws.{upto-length}
 use Rattle.labels.specs.Label.{Found}
 use Rattle.locality.proofs.Spot.{spot, shift, flag}
@@ -16,7 +16,7 @@ use Rattle.locality.proofs.RootsEcho.{at}
 use Rattle.locality.proofs.RegionsEcho.{firstGates}
 use Rattle.edges.specs.declared.edges.EdgeRecord.{EdgeRecord}
 use Rattle.edges.specs.Edges.{pairs, used}
-use Rattle.network.specs.Network.{State, sizeIn, networkBy, goodBy}
+use Rattle.network.specs.Network.{State, sizeIn, networkBy, mergesInRange}
 use Rattle.network.proofs.Restrict.{restrict, Closed}
 use Rattle.locality.proofs.Locality.{other}
 use Rattle.locality.proofs.EdgesEcho.{recordIn, used-all}
@@ -28,7 +28,7 @@ use Rattle.locality.proofs.Echo.{only, flags, ApartBy, labels-follow, n
 
 -- question 9 of a sweep by these limits
 unfoldable pub goodOf : Sweep → List Float → Bool
-goodOf s limits = goodBy (networkOf s (regionsOf s limits))
+goodOf s limits = mergesInRange (networkOf s (regionsOf s limits))
 
 -- the rest of an echo
 unfoldable pub rest : (ℕ → Bool) → ℕ → Bool
@@ -88,17 +88,17 @@ module _ (E : ℕ → Bool) (s : Sweep) (limits : List Float) (A : ApartBy E s l
 
   other-side : restrict p′ (edgeSide p′ (used (f .number) (pairsOf s f))) N ≡ restrict (other p) (other (edgeSide p (used (f .number) (pairsOf s f)))) N
   unfolding networkOf networkBy pairsOf sizes
-  other-side = restrict-other p p′ (folded (s .nyquist)) (used (f .number) (pairsOf s f)) (sizes f) contrary labels-contrary
+  other-side = restrict-other p p′ (twoNyquist (s .nyquist)) (used (f .number) (pairsOf s f)) (sizes f) contrary labels-contrary
 
-  image : goodBy (restrict p (edgeSide p (used (f .number) (pairsOf s f))) N) ≡ goodBy (networkOf (only E s) (regionsOf (only E s) limits))
+  image : mergesInRange (restrict p (edgeSide p (used (f .number) (pairsOf s f))) N) ≡ mergesInRange (networkOf (only E s) (regionsOf (only E s) limits))
   image =
-      ap (λ (n : ℕ). goodBy (restrict p (edgeSide p (used n (pairsOf s f))) N)) (labels-follow E s limits A .number)
+      ap (λ (n : ℕ). mergesInRange (restrict p (edgeSide p (used n (pairsOf s f))) N)) (labels-follow E s limits A .number)
       ∙ range-image (shift (flags E s limits)) (spot (map (recordIn p) (used (length (flags E s limits)) (pairsOf s f)))) p (edgeSide p (used (length (flags E s limits)) (pairsOf s f)))
       (networkOf (only E s) (regionsOf (only E s) limits)) N (network-embeds E s limits A (flags E s limits) (labels-follow E s limits A))
 
-  image′ : goodBy (restrict p′ (edgeSide p′ (used (f .number) (pairsOf s f))) N) ≡ goodBy (networkOf (only (rest E) s) (regionsOf (only (rest E) s) limits))
+  image′ : mergesInRange (restrict p′ (edgeSide p′ (used (f .number) (pairsOf s f))) N) ≡ mergesInRange (networkOf (only (rest E) s) (regionsOf (only (rest E) s) limits))
   image′ =
-      ap (λ (n : ℕ). goodBy (restrict p′ (edgeSide p′ (used n (pairsOf s f))) N)) (labels-follow (rest E) s limits B .number)
+      ap (λ (n : ℕ). mergesInRange (restrict p′ (edgeSide p′ (used n (pairsOf s f))) N)) (labels-follow (rest E) s limits B .number)
       ∙ range-image (shift (flags (rest E) s limits)) (spot (map (recordIn p′) (used (length (flags (rest E) s limits)) (pairsOf s f)))) p′ (edgeSide p′ (used (length (flags (rest E) s limits)) (pairsOf s f)))
       (networkOf (only (rest E) s) (regionsOf (only (rest E) s) limits)) N (network-embeds (rest E) s limits B (flags (rest E) s limits) (labels-follow (rest E) s limits B))
 

@@ -10,7 +10,7 @@ use lib.ListN.{length, getD, length-map, List·getD-map, List·getD-eq-default}
 use borrow.Author.Tests.{eqb-true, eqb-false, eq-eqb, ne-eqb, leb-true, leb-false}
 use Rattle.lists.specs.Seq.{upto, keep, each, All}
 use Rattle.lists.proofs.SeqLaws.{tab-length, keep-append, keep-each, each-same}
-use Rattle.labels.specs.Label.{Link, own, above, before, linksAt, links, swap, join, roots}
+use Rattle.labels.specs.Label.{Neighbours, own, above, before, linksAt, links, swap, join, roots}
 use Rattle.lists.proofs.AllLaws.{all-append, all-cond, all-each, tab-all, and-left, and-right}
 
 abbrev pub at : List ℕ → ℕ → ℕ
@@ -52,14 +52,14 @@ swap-taken : (x y r : ℕ) → r ≡ max x y → swap x y r ≡ min x y
 unfolding swap
 swap-taken x y r h = rw (eq-eqb r (max x y) h) refl
 
-join-at : (rs : List ℕ) (l : Link) (i : ℕ) → at (join rs l) i ≡ swap (at rs (l .a)) (at rs (l .b)) (at rs i)
+join-at : (rs : List ℕ) (l : Neighbours) (i : ℕ) → at (join rs l) i ≡ swap (at rs (l .a)) (at rs (l .b)) (at rs i)
 unfolding join
 join-at rs l i =
     let x : ℕ = at rs (l .a) in
     let y : ℕ = at rs (l .b) in
     subst (λ (d : ℕ). getD (map (swap x y) rs) i d ≡ swap x y (getD rs i 0)) (swap-zero x y) (List·getD-map (swap x y) rs i 0)
 
-joins-length : (ls : List Link) (rs : List ℕ) → length (foldl join rs ls) ≡ length rs
+joins-length : (ls : List Neighbours) (rs : List ℕ) → length (foldl join rs ls) ≡ length rs
 unfolding join
 joins-length [] rs = refl
 joins-length (l ∷ ls) rs = joins-length ls (join rs l) ∙ length-map rs (swap (at rs (l .a)) (at rs (l .b)))
@@ -78,7 +78,7 @@ three : (a b c : Bool) → (a && b && c) ≡ true → (a ≡ true) × (b ≡ tru
 three a b c h = (and-left a b (and-left (a && b) c h), and-right a b (and-left (a && b) c h), and-right (a && b) c h)
 
 -- what holds of every two gates of the set that touch holds of all links
-links-all : (P : Link → Type 0) (gates : ℕ) (inside : List Bool)
+links-all : (P : Neighbours → Type 0) (gates : ℕ) (inside : List Bool)
     → ((g : ℕ) → leb gates g ≡ true → getD inside (g - gates) false ≡ true → getD inside g false ≡ true → P (record { a = g - gates; b = g }))
     → ((g : ℕ) → not (eqb (g % gates) 0) ≡ true → getD inside (g - 1) false ≡ true → getD inside g false ≡ true → P (record { a = g - 1; b = g }))
     → All P (links gates inside)
@@ -91,7 +91,7 @@ links-all P gates inside up back = all-each P (linksAt gates inside) (upto (leng
 
 module _ (gates : ℕ) (inside : List Bool) where
   -- both gates of a link are in the set
-  Inner : Link → Type 0
+  Inner : Neighbours → Type 0
   Inner l = (getD inside (l .a) false ≡ true) × (getD inside (l .b) false ≡ true)
 
   Rooted : List ℕ → Type 0
@@ -104,7 +104,7 @@ module _ (gates : ℕ) (inside : List Bool) where
       go z (taken e) = omega arith
       go z (left e) = c
 
-  rooted-joins : (ls : List Link) (rs : List ℕ) → All Inner ls → Rooted rs → Rooted (foldl join rs ls)
+  rooted-joins : (ls : List Neighbours) (rs : List ℕ) → All Inner ls → Rooted rs → Rooted (foldl join rs ls)
   unfolding Inner Rooted
   rooted-joins [] rs t R = R
   rooted-joins (l ∷ ls) rs t R =
@@ -114,7 +114,7 @@ module _ (gates : ℕ) (inside : List Bool) where
   unfolding roots Rooted Inner
   roots-pos g h = rooted-joins (links gates inside) (own inside) (links-all Inner gates inside (λ g m i j. (i, j)) (λ g m i j. (i, j))) (λ i w. rw (own-at inside i, w) (omega arith)) g h
 
-  joins-zero : (ls : List Link) (rs : List ℕ) (g : ℕ) → at rs g ≡ 0 → at (foldl join rs ls) g ≡ 0
+  joins-zero : (ls : List Neighbours) (rs : List ℕ) (g : ℕ) → at rs g ≡ 0 → at (foldl join rs ls) g ≡ 0
   joins-zero [] rs g h = h
   joins-zero (l ∷ ls) rs g h = joins-zero ls (join rs l) g (join-at rs l g ∙ (rw h (swap-zero (at rs (l .a)) (at rs (l .b)))))
 
@@ -179,14 +179,14 @@ module _ (E : ℕ → Bool) where
         go (suc r) w = swap-left (at rs a) (at rs c) (suc r) (λ q. true≢false (sym i ∙ sym (F .side g r w) ∙ greater r (sym q) ∙ o))
 
   -- whether a link is the echo's
-  within : Link → Bool
+  within : Neighbours → Bool
   within l = E (l .b)
 
   -- whether both gates of a link lie on one side
-  Near : Link → Type 0
+  Near : Neighbours → Type 0
   Near l = E (l .a) ≡ E (l .b)
 
-  join-follows : (l : Link) (rs rs′ : List ℕ) → E (l .a) ≡ E (l .b) → Follow rs rs′ → Follow (join rs l) (cond (E (l .b)) (join rs′ l) rs′)
+  join-follows : (l : Neighbours) (rs rs′ : List ℕ) → E (l .a) ≡ E (l .b) → Follow rs rs′ → Follow (join rs l) (cond (E (l .b)) (join rs′ l) rs′)
   join-follows l rs rs′ near F = go (E (l .b)) refl
     where
       sides : (g r : ℕ) → at (join rs l) g ≡ suc r → E r ≡ E g
@@ -216,7 +216,7 @@ module _ (E : ℕ → Bool) where
       go true e = record { part = both e; side = sides; idem = idems }
       go false e = record { part = only e; side = sides; idem = idems }
 
-  joins-follow : (ls : List Link) (rs rs′ : List ℕ) → All Near ls → Follow rs rs′ → Follow (foldl join rs ls) (foldl join rs′ (keep within ls))
+  joins-follow : (ls : List Neighbours) (rs rs′ : List ℕ) → All Near ls → Follow rs rs′ → Follow (foldl join rs ls) (foldl join rs′ (keep within ls))
   unfolding keep within Near
   joins-follow [] rs rs′ t F = F
   joins-follow (l ∷ ls) rs rs′ t F = go (E (l .b)) (join-follows l rs rs′ (t .0) F) (joins-follow ls)
@@ -238,7 +238,7 @@ module _ (E : ℕ → Bool) where
     tests true f false m j h = refl
     tests false f i m j h = refl
 
-    one-link : (l : Link) (e t : Bool) → within l ≡ e → cond (e && t) (l ∷ []) [] ≡ keep within (cond t (l ∷ []) [])
+    one-link : (l : Neighbours) (e t : Bool) → within l ≡ e → cond (e && t) (l ∷ []) [] ≡ keep within (cond t (l ∷ []) [])
     unfolding keep
     one-link l true true w = rw w refl
     one-link l true false w = refl

@@ -11,7 +11,8 @@ use lib.IntN.{ℤ, pos, _+ℤ_}
 use lib.Ieee.{Float, nan}
 use Rattle.lists.specs.Seq.{upto, keep, all}
 use Rattle.edges.specs.declared.edges.EdgeRecord.{EdgeRecord}
-use Rattle.edges.specs.Edges.{Direction, sees, used}
+use Rattle.edges.specs.Edges.{sees, used}
+use Rattle.edges.specs.declared.edges.Direction.{Direction}
 use Rattle.network.specs.Network.{State, Event, replay, trace, countOf}
 use Rattle.sweep.specs.Sweep.{Sweep, regionsOf, pairsOf, networkOf, unfolded}
 use Rattle.sweep.specs.Checks.{Lent, accepted, ownLimits, outcome}

@@ -9,38 +9,38 @@ use lib.Dec.{leb}
 use lib.ListN.{length, getD, length-set}
 use lib.Seq.{getD-set-same, getD-set-other}
 use borrow.Author.Tests.{leb-true}
-use Rattle.merge.specs.Inside.Mem.{Mem, Sound, store}
+use Rattle.merge.specs.Inside.Tables.{Tables, Sound, store}
 use Rattle.merge.specs.Inside.Table.{is, weight, first, second, enext, rnext, stamp, size, elen, rlen, count}
-use Rattle.merge.specs.Inside.Steps.{accepts, walkRaise}
+use Rattle.merge.specs.Inside.Steps.{countInRange, walkRaise}
 use Rattle.merge.specs.Inside.Chain.{cur}
 use Rattle.merge.proofs.SoundSet.{sound-store}
 use Rattle.merge.proofs.TableLaws.{Alike, alike-refl, alike-then, alike-store}
 
 -- all tables but the counts are alike, and the differences
-pub record Counted (s t : Mem) : Type 0 where
+pub record CountsDiffer (s t : Tables) : Type 0 where
   pub tables : Alike (is count) s t
   pub diff : s .diff ≡ t .diff
 
-pub counted-refl : (s : Mem) → Counted s s
+pub counted-refl : (s : Tables) → CountsDiffer s s
 counted-refl s = record { tables = alike-refl (is count) s; diff = refl }
 
-pub counted-store : (s t : Mem) (j x : ℕ) → Counted s (store count t j x) → Counted s t
+pub counted-store : (s t : Tables) (j x : ℕ) → CountsDiffer s (store count t j x) → CountsDiffer s t
 counted-store s t j x h = record { tables = alike-then (is count) _ _ _ (h .tables) (alike-store (is count) count t j x refl); diff = unfold store in h .diff }
 
-pub record Gained (g : ℕ) (N : List ℕ) (x k n : ℕ) (s t : Mem) : Type 0 where
-  pub else : Counted t s
+pub record Gained (g : ℕ) (N : List ℕ) (x k n : ℕ) (s t : Tables) : Type 0 where
+  pub else : CountsDiffer t s
   pub sound : (m : ℕ) → Sound m n s → Sound m n t
-  pub yes : (i : ℕ) → i < k → accepts (getD (s .at count) (cur N x i) 0 + g) ≡ true
+  pub yes : (i : ℕ) → i < k → countInRange (getD (s .at count) (cur N x i) 0 + g) ≡ true
   pub here : (i : ℕ) → i < k → getD (t .at count) (cur N x i) 0 ≡ getD (s .at count) (cur N x i) 0 + g - 1000
   pub there : (r : ℕ) → ((i : ℕ) → i < k → r ≡ cur N x i → ⊥) → getD (t .at count) r 0 ≡ getD (s .at count) r 0
 
 -- what a walk of k regions from x on gives
-unfoldable pub Gives : ℕ → List ℕ → ℕ → ℕ → ℕ → Mem → Option Mem → Type 0
-Gives g N x k n s none = (i : ℕ) × (i < k) × (accepts (getD (s .at count) (cur N x i) 0 + g) ≡ false)
+unfoldable pub Gives : ℕ → List ℕ → ℕ → ℕ → ℕ → Tables → Option Tables → Type 0
+Gives g N x k n s none = (i : ℕ) × (i < k) × (countInRange (getD (s .at count) (cur N x i) 0 + g) ≡ false)
 Gives g N x k n s (some t) = Gained g N x k n s t
 
-pub accepted-most : (t : ℕ) → accepts t ≡ true → t - 1000 < 2001
-unfolding accepts
+pub accepted-most : (t : ℕ) → countInRange t ≡ true → t - 1000 < 2001
+unfolding countInRange
 accepted-most t h = go (leb 1000 t) (leb t 3000) refl h
   where
     go : (x y : Bool) → leb t 3000 ≡ y → (x && y) ≡ true → t - 1000 < 2001
@@ -48,7 +48,7 @@ accepted-most t h = go (leb 1000 t) (leb t 3000) refl h
     go true false e r = absurd (true≢false (sym r))
     go false y e r = absurd (true≢false (sym r))
 
-pub raise : (g : ℕ) (N : List ℕ) (n k x : ℕ) (s : Mem) → length (s .at count) ≡ n → s .at rnext ≡ N → ((i : ℕ) → i < k → cur N x i < n) → ((i j : ℕ) → i < k → j < k → cur N x i ≡ cur N x j → i ≡ j) → Gives g N x k n s (walkRaise k g s x)
+pub raise : (g : ℕ) (N : List ℕ) (n k x : ℕ) (s : Tables) → length (s .at count) ≡ n → s .at rnext ≡ N → ((i : ℕ) → i < k → cur N x i < n) → ((i j : ℕ) → i < k → j < k → cur N x i ≡ cur N x j → i ≡ j) → Gives g N x k n s (walkRaise k g s x)
 unfolding walkRaise Gives
 raise g N n zero x s l e inside inj = record {
   else = counted-refl s;
@@ -58,13 +58,13 @@ raise g N n zero x s l e inside inj = record {
   there = λ r h. refl;
 }
 raise g N n (suc k) x s l e inside inj =
-    go (accepts (getD (s .at count) x 0 + g)) refl
+    go (countInRange (getD (s .at count) x 0 + g)) refl
     (raise g N n k (getD N x 0) (store count s x (getD (s .at count) x 0 + g - 1000)) (unfold store in length-set (s .at count) x (getD (s .at count) x 0 + g - 1000) ∙ l) (unfold store in e) (unfold cur in λ i p. inside (suc i) (omega arith)) (unfold cur in λ i j p q r. let t : suc i ≡ suc j = inj (suc i) (suc j) (omega arith) (omega arith) r in omega arith))
   where
     v : ℕ
     v = getD (s .at count) x 0 + g - 1000
 
-    s₁ : Mem
+    s₁ : Tables
     s₁ = store count s x v
 
     x-in : x < n
@@ -82,8 +82,8 @@ raise g N n (suc k) x s l e inside inj =
     nx : getD (s .at rnext) x 0 ≡ getD N x 0
     nx = ap (λ (z : List ℕ). getD z x 0) e
 
-    back : (o : Option Mem) → accepts (getD (s .at count) x 0 + g) ≡ true → Gives g N (getD N x 0) k n s₁ o → Gives g N x (suc k) n s o
-    back none a w = unfold Gives cur in (suc (w .0), omega (arith, w .1), sym (ap (λ (z : ℕ). accepts (z + g)) (other' _ (other (w .0) (w .1)))) ∙ w .2)
+    back : (o : Option Tables) → countInRange (getD (s .at count) x 0 + g) ≡ true → Gives g N (getD N x 0) k n s₁ o → Gives g N x (suc k) n s o
+    back none a w = unfold Gives cur in (suc (w .0), omega (arith, w .1), sym (ap (λ (z : ℕ). countInRange (z + g)) (other' _ (other (w .0) (w .1)))) ∙ w .2)
     back (some t) a w = unfold Gives in record {
       else = counted-store t s x v (w .else);
       sound = λ m h. w .sound m (sound-store count m n s h x v refl (accepted-most (getD (s .at count) x 0 + g) a));
@@ -92,14 +92,14 @@ raise g N n (suc k) x s l e inside inj =
       there = λ r h. w .there r (λ i p q. h (suc i) (omega arith) (unfold cur in q)) ∙ other' r (λ q. h 0 (omega arith) (unfold cur in q));
     }
       where
-        yes-of : (i : ℕ) → i < suc k → accepts (getD (s .at count) (cur N x i) 0 + g) ≡ true
+        yes-of : (i : ℕ) → i < suc k → countInRange (getD (s .at count) (cur N x i) 0 + g) ≡ true
         yes-of zero p = unfold cur in a
-        yes-of (suc i) p = unfold cur in sym (ap (λ (z : ℕ). accepts (z + g)) (other' _ (other i (omega arith)))) ∙ w .yes i (omega arith)
+        yes-of (suc i) p = unfold cur in sym (ap (λ (z : ℕ). countInRange (z + g)) (other' _ (other i (omega arith)))) ∙ w .yes i (omega arith)
 
         here-of : (i : ℕ) → i < suc k → getD (t .at count) (cur N x i) 0 ≡ getD (s .at count) (cur N x i) 0 + g - 1000
         here-of zero p = unfold cur in w .there x (λ i q r. other i q (sym r)) ∙ same-here
         here-of (suc i) p = unfold cur in w .here i (omega arith) ∙ ap (λ (z : ℕ). z + g - 1000) (other' _ (other i (omega arith)))
 
-    go : (b : Bool) → accepts (getD (s .at count) x 0 + g) ≡ b → Gives g N (getD N x 0) k n s₁ (walkRaise k g s₁ (getD N x 0)) → Gives g N x (suc k) n s (cond b (walkRaise k g s₁ (getD (s .at rnext) x 0)) none)
+    go : (b : Bool) → countInRange (getD (s .at count) x 0 + g) ≡ b → Gives g N (getD N x 0) k n s₁ (walkRaise k g s₁ (getD N x 0)) → Gives g N x (suc k) n s (cond b (walkRaise k g s₁ (getD (s .at rnext) x 0)) none)
     go true a w = subst (λ (y : ℕ). Gives g N x (suc k) n s (walkRaise k g s₁ y)) (sym nx) (back (walkRaise k g s₁ (getD N x 0)) a w)
     go false a w = unfold Gives cur in (0, omega arith, a)

@@ -3,7 +3,7 @@ use mathlib.Core.List.{List}
 use Prim.Native.Nat.{ℕ, _+_, _*_, _<_}
 use native.Mathlib.Omega.{arith}
 use lib.ListN.{getD}
-use Rattle.merge.specs.Inside.Mem.{view, Sound}
+use Rattle.merge.specs.Inside.Tables.{view, Sound}
 use Rattle.merge.specs.Inside.Table.{first, second}
 use Rattle.merge.proofs.View.{read}
 use lib.Ieee.{Float}

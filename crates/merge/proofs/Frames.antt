@@ -6,7 +6,7 @@ use lib.Dec.{eqb, ltb}
 use lib.Ieee.{nan, Float, neg}
 use lib.ListN.{getD}
 use Rattle.merge.specs.Inside.Table.{Table, weight, first, second, enext, elen, is}
-use Rattle.merge.specs.Inside.Mem.{Mem, store}
+use Rattle.merge.specs.Inside.Tables.{Tables, store}
 use Rattle.merge.specs.Inside.Steps.{spent, dropAt, passed, kept, along, pruned, movedAll, turnAt, turned, faceAt, mate, absorbAt, attachAt, joinEdge, shift, movedEdge, takeEdge, walkMoved}
 use Rattle.merge.proofs.TableLaws.{Alike, alike-refl, alike-then, alike-store, alike-diff}
 
@@ -15,19 +15,19 @@ abbrev pub ofEdges : Table → Bool
 ofEdges u = is weight u || is first u || is second u
 
 -- all other tables are alike
-abbrev pub Frame : Mem → Mem → Type 0
+abbrev pub Frame : Tables → Tables → Type 0
 Frame = Alike ofEdges
 
-pub frame-refl : (s : Mem) → Frame s s
+pub frame-refl : (s : Tables) → Frame s s
 frame-refl = alike-refl ofEdges
 
-pub frame-then : (s t u : Mem) → Frame s t → Frame t u → Frame s u
+pub frame-then : (s t u : Tables) → Frame s t → Frame t u → Frame s u
 frame-then = alike-then ofEdges
 
-frame-store : (t : Table) (s : Mem) (j x : ℕ) → ofEdges t ≡ true → Frame (store t s j x) s
+frame-store : (t : Table) (s : Tables) (j x : ℕ) → ofEdges t ≡ true → Frame (store t s j x) s
 frame-store = alike-store ofEdges
 
-pub frame-face : (s : Mem) (f : ℕ) → Frame (faceAt s f) s
+pub frame-face : (s : Tables) (f : ℕ) → Frame (faceAt s f) s
 unfolding faceAt turnAt
 frame-face s f = go (turned s f)
   where
@@ -35,15 +35,15 @@ frame-face s f = go (turned s f)
     go true = frame-then _ _ _ (alike-diff ofEdges _ f _) (frame-then _ _ _ (frame-store second _ f _ refl) (frame-store first s f _ refl))
     go false = frame-refl s
 
-pub frame-absorb : (s : Mem) (q f : ℕ) (x : Float) → Frame (absorbAt s q f x) s
+pub frame-absorb : (s : Tables) (q f : ℕ) (x : Float) → Frame (absorbAt s q f x) s
 unfolding absorbAt
 frame-absorb s q f x = frame-then _ _ _ (frame-store weight _ f 0 refl) (frame-then _ _ _ (frame-store weight _ q _ refl) (alike-diff ofEdges s q _))
 
-pub frame-attach : (b : ℕ) (s : Mem) (f c : ℕ) (x : Float) → Frame (attachAt b s f c x) s
+pub frame-attach : (b : ℕ) (s : Tables) (f c : ℕ) (x : Float) → Frame (attachAt b s f c x) s
 unfolding attachAt
 frame-attach b s f c x = frame-then _ _ _ (alike-diff ofEdges _ f x) (frame-then _ _ _ (frame-store second _ f c refl) (frame-store first s f b refl))
 
-frame-join : (m b : ℕ) (s : Mem) (f c : ℕ) (x : Float) → Frame (joinEdge m b s f c x) s
+frame-join : (m b : ℕ) (s : Tables) (f c : ℕ) (x : Float) → Frame (joinEdge m b s f c x) s
 unfolding joinEdge
 frame-join m b s f c x = go (ltb (mate m b s c) m)
   where
@@ -51,7 +51,7 @@ frame-join m b s f c x = go (ltb (mate m b s c) m)
     go true = frame-then _ _ _ (frame-absorb (faceAt s (mate m b s c)) (mate m b s c) f x) (frame-face s (mate m b s c))
     go false = frame-attach b s f c x
 
-frame-moved : (m b v g : ℕ) (s : Mem) (f : ℕ) → Frame (movedEdge m b v g s f) s
+frame-moved : (m b v g : ℕ) (s : Tables) (f : ℕ) → Frame (movedEdge m b v g s f) s
 unfolding movedEdge
 frame-moved m b v g s f = go (eqb (getD (s .at weight) f 0) 0) (eqb (getD (s .at first) f 0) v) (eqb (getD (s .at second) f 0) v)
   where
@@ -61,7 +61,7 @@ frame-moved m b v g s f = go (eqb (getD (s .at weight) f 0) 0) (eqb (getD (s .at
     go false false true = frame-join m b s f _ _
     go false false false = frame-refl s
 
-pub frame-take : (m b v g : ℕ) (s : Mem) (f : ℕ) → Frame (takeEdge m b v g s f) s
+pub frame-take : (m b v g : ℕ) (s : Tables) (f : ℕ) → Frame (takeEdge m b v g s f) s
 unfolding takeEdge
 frame-take m b v g s f = go (ltb f m)
   where
@@ -69,7 +69,7 @@ frame-take m b v g s f = go (ltb f m)
     go true = frame-then _ _ _ (frame-moved m b v g (faceAt s f) f) (frame-face s f)
     go false = frame-refl s
 
-pub frame-walk-moved : (k m b v g : ℕ) (s : Mem) (x : ℕ) → Frame (walkMoved k m b v g s x) s
+pub frame-walk-moved : (k m b v g : ℕ) (s : Tables) (x : ℕ) → Frame (walkMoved k m b v g s x) s
 unfolding walkMoved
 frame-walk-moved zero m b v g s x = frame-refl s
 frame-walk-moved (suc k) m b v g s x = frame-then _ _ _ (frame-walk-moved k m b v g (takeEdge m b v g s (x / 2)) (getD (s .at enext) x 0)) (frame-take m b v g s (x / 2))
@@ -79,21 +79,21 @@ abbrev pub ofSlots : Table → Bool
 ofSlots u = is enext u || is elen u
 
 -- all other tables are alike, and the differences
-pub record Same (s t : Mem) : Type 0 where
+pub record Same (s t : Tables) : Type 0 where
   pub beside : Alike ofSlots s t
   pub diff : s .diff ≡ t .diff
 
-pub same-refl : (s : Mem) → Same s s
+pub same-refl : (s : Tables) → Same s s
 same-refl s = record { beside = alike-refl ofSlots s; diff = refl }
 
-pub same-drop : (b : ℕ) (u s : Mem) (p x : ℕ) → Same u s → Same (dropAt b u p x) s
+pub same-drop : (b : ℕ) (u s : Tables) (p x : ℕ) → Same u s → Same (dropAt b u p x) s
 unfolding dropAt
 same-drop b u s p x h = record {
   beside = alike-then ofSlots _ _ _ (alike-store ofSlots elen _ b _ refl) (alike-then ofSlots _ _ _ (alike-store ofSlots enext _ x x refl) (alike-then ofSlots _ _ _ (alike-store ofSlots enext u p _ refl) (h .beside)));
   diff = unfold store in h .diff;
 }
 
-same-along : (m b : ℕ) (t : Mem) (k : ℕ) (s : Mem) (p x : ℕ) → Same s t → Same (along k m b s p x) t
+same-along : (m b : ℕ) (t : Tables) (k : ℕ) (s : Tables) (p x : ℕ) → Same s t → Same (along k m b s p x) t
 unfolding along passed
 same-along m b t zero s p x h = h
 same-along m b t (suc k) s p x h = same-along m b t k (cond (spent m s x) (dropAt b s p x) s) (kept m s p x) (getD (s .at enext) x 0) (go (spent m s x))
@@ -102,10 +102,10 @@ same-along m b t (suc k) s p x h = same-along m b t k (cond (spent m s x) (dropA
     go true = same-drop b s t p x h
     go false = h
 
-pub same-pruned : (m b : ℕ) (s : Mem) → Same (pruned m b s) s
+pub same-pruned : (m b : ℕ) (s : Tables) → Same (pruned m b s) s
 unfolding pruned
 same-pruned m b s = same-along m b s (getD (s .at elen) b 0 - 1) s (2 * m + b) (getD (s .at enext) (2 * m + b) 0) (same-refl s)
 
-pub frame-moved-all : (m b v g : ℕ) (s : Mem) → Frame (movedAll m b v g s) s
+pub frame-moved-all : (m b v g : ℕ) (s : Tables) → Frame (movedAll m b v g s) s
 unfolding movedAll
 frame-moved-all m b v g s = frame-walk-moved (getD (s .at elen) v 0 - 1) m b v g s (getD (s .at enext) (2 * m + v) 0)

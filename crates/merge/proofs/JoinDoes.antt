@@ -7,46 +7,46 @@ use lib.Dec.{T, eqb}
 use lib.Ieee.{nan, binary32, fits, Float, neg}
 use lib.ListN.{length, getD}
 use borrow.Author.Tests.{lt-ltb, le-ltb, eq-eqb, ne-eqb}
-use Rattle.merge.specs.Inside.Mem.{Mem, view, Room, Sound}
+use Rattle.merge.specs.Inside.Tables.{Tables, view, HoldsTables, Sound}
 use Rattle.merge.specs.Inside.Table.{weight, first, second}
 use Rattle.merge.specs.Inside.Steps.{faceAt, mate, absorbAt, attachAt, joinEdge, shift, movedEdge, takeEdge}
-use Rattle.merge.specs.Inside.Does.{Does, Apart, Joins, Gains}
+use Rattle.merge.specs.Inside.Leaves.{LeavesTables, OtherEdge, Joins, Gains}
 use Rattle.merge.proofs.View.{weight-at, read}
 use Rattle.merge.proofs.SoundSteps.{sound-face, joins-first, joins-second}
 use Rattle.merge.proofs.Leaf.{room-of}
 
-pub join-apart : (m n b : ℕ) (s : Mem) (f c q : ℕ) → Joins m n b s f c → q ≡ mate m b s c → q < m → Apart m q f
+pub join-apart : (m n b : ℕ) (s : Tables) (f c q : ℕ) → Joins m n b s f c → q ≡ mate m b s c → q < m → OtherEdge m q f
 join-apart m n b s f c q j e lt = record { q-in = lt; f-in = j .f-in; apart = λ r. j .other (sym e ∙ r) }
 
-pub join-absorbs : (m n b : ℕ) (s : Mem) (f c q : ℕ) (x : Float) (w : List ℕ) (d : List Float) → q ≡ mate m b s c → q < m → Does m n w d (absorbAt (faceAt s q) q f x) → Does m n w d (joinEdge m b s f c x)
+pub join-absorbs : (m n b : ℕ) (s : Tables) (f c q : ℕ) (x : Float) (w : List ℕ) (d : List Float) → q ≡ mate m b s c → q < m → LeavesTables m n w d (absorbAt (faceAt s q) q f x) → LeavesTables m n w d (joinEdge m b s f c x)
 unfolding joinEdge
 join-absorbs m n b s f c q x w d e lt h = rw (← e, lt-ltb q m lt) h
 
-pub join-attaches : (m n b : ℕ) (s : Mem) (f c q : ℕ) (x : Float) (w : List ℕ) (d : List Float) → q ≡ mate m b s c → m ≤ q → Does m n w d (attachAt b s f c x) → Does m n w d (joinEdge m b s f c x)
+pub join-attaches : (m n b : ℕ) (s : Tables) (f c q : ℕ) (x : Float) (w : List ℕ) (d : List Float) → q ≡ mate m b s c → m ≤ q → LeavesTables m n w d (attachAt b s f c x) → LeavesTables m n w d (joinEdge m b s f c x)
 unfolding joinEdge
 join-attaches m n b s f c q x w d e le h = rw (← e, le-ltb q m le) h
 
 -- the tables once edge f is faced
-pub face-room : (m n : ℕ) (w : List ℕ) (d : List Float) (f : ℕ) (w₁ : List ℕ) (d₁ : List Float) → Room m n w d → Sound m n (view m n w d) → f < m → length w₁ ≡ length w → length d₁ ≡ length d
-    → Does m n w₁ d₁ (faceAt (view m n w d) f) → Room m n w₁ d₁ × Sound m n (view m n w₁ d₁)
+pub face-room : (m n : ℕ) (w : List ℕ) (d : List Float) (f : ℕ) (w₁ : List ℕ) (d₁ : List Float) → HoldsTables m n w d → Sound m n (view m n w d) → f < m → length w₁ ≡ length w → length d₁ ≡ length d
+    → LeavesTables m n w₁ d₁ (faceAt (view m n w d) f) → HoldsTables m n w₁ d₁ × Sound m n (view m n w₁ d₁)
 face-room m n w d f w₁ d₁ r h lt lw ld D₁ = (room-of m n w w₁ d d₁ r lw ld (D₁ .tree), subst (Sound m n) (sym (D₁ .tables)) (sound-face m n (view m n w d) f h lt))
 
 -- the mate is faced before it takes up edge f
 pub join-faced : (m n b : ℕ) (w : List ℕ) (d : List Float) (f c q : ℕ) (x : Float) (w₁ : List ℕ) (d₁ : List Float) (w₂ : List ℕ) (d₂ : List Float) → q ≡ mate m b (view m n w d) c → q < m
-    → Does m n w₁ d₁ (faceAt (view m n w d) q) → Does m n w₂ d₂ (absorbAt (view m n w₁ d₁) q f x) → Does m n w₂ d₂ (joinEdge m b (view m n w d) f c x)
-join-faced m n b w d f c q x w₁ d₁ w₂ d₂ e lt D₁ D₂ = join-absorbs m n b (view m n w d) f c q x w₂ d₂ e lt (record { tables = D₂ .tables ∙ ap (λ (u : Mem). absorbAt u q f x) (D₁ .tables); tree = D₂ .tree })
+    → LeavesTables m n w₁ d₁ (faceAt (view m n w d) q) → LeavesTables m n w₂ d₂ (absorbAt (view m n w₁ d₁) q f x) → LeavesTables m n w₂ d₂ (joinEdge m b (view m n w d) f c x)
+join-faced m n b w d f c q x w₁ d₁ w₂ d₂ e lt D₁ D₂ = join-absorbs m n b (view m n w d) f c q x w₂ d₂ e lt (record { tables = D₂ .tables ∙ ap (λ (u : Tables). absorbAt u q f x) (D₁ .tables); tree = D₂ .tree })
 
-module _ (m n : ℕ) (w : List ℕ) (d : List Float) (r : Room m n w d) (b v g f : ℕ) where
-  pub take-out : m ≤ f → Does m n w d (takeEdge m b v g (view m n w d) f)
+module _ (m n : ℕ) (w : List ℕ) (d : List Float) (r : HoldsTables m n w d) (b v g f : ℕ) where
+  pub take-out : m ≤ f → LeavesTables m n w d (takeEdge m b v g (view m n w d) f)
   unfolding takeEdge
   take-out h = record { tables = rw (le-ltb f m h) refl; tree = r .tree }
 
-  pub take-does : f < m → (w₁ : List ℕ) (d₁ : List Float) → Does m n w₁ d₁ (faceAt (view m n w d) f) → (w₂ : List ℕ) (d₂ : List Float) → Does m n w₂ d₂ (movedEdge m b v g (view m n w₁ d₁) f) → Does m n w₂ d₂ (takeEdge m b v g (view m n w d) f)
+  pub take-does : f < m → (w₁ : List ℕ) (d₁ : List Float) → LeavesTables m n w₁ d₁ (faceAt (view m n w d) f) → (w₂ : List ℕ) (d₂ : List Float) → LeavesTables m n w₂ d₂ (movedEdge m b v g (view m n w₁ d₁) f) → LeavesTables m n w₂ d₂ (takeEdge m b v g (view m n w d) f)
   unfolding takeEdge
-  take-does lt w₁ d₁ D₁ w₂ d₂ D₂ = rw (lt-ltb f m lt) (record { tables = D₂ .tables ∙ ap (λ (u : Mem). movedEdge m b v g u f) (D₁ .tables); tree = D₂ .tree })
+  take-does lt w₁ d₁ D₁ w₂ d₂ D₂ = rw (lt-ltb f m lt) (record { tables = D₂ .tables ∙ ap (λ (u : Tables). movedEdge m b v g u f) (D₁ .tables); tree = D₂ .tree })
 
   module _ (lt : f < m) where
-    pub moved-dead : getD w f 0 ≡ 0 → Does m n w d (movedEdge m b v g (view m n w d) f)
+    pub moved-dead : getD w f 0 ≡ 0 → LeavesTables m n w d (movedEdge m b v g (view m n w d) f)
     unfolding movedEdge
     moved-dead e = record { tables = rw (eq-eqb (getD (view m n w d .at weight) f 0) 0 (weight-at m n w d f lt ∙ e)) refl; tree = r .tree }
 
@@ -59,18 +59,18 @@ module _ (m n : ℕ) (w : List ℕ) (d : List Float) (r : Room m n w d) (b v g f
         diff-is = unfold view in refl
 
         pub moved-first : getD w (3 * m + f) 0 ≡ v → x ≡ shift false g (getD w f 0) (getD d f nan)
-            → Does m n w' d' (joinEdge m b (view m n w d) f (getD w (4 * m + f) 0) x) → Does m n w' d' (movedEdge m b v g (view m n w d) f)
+            → LeavesTables m n w' d' (joinEdge m b (view m n w d) f (getD w (4 * m + f) 0) x) → LeavesTables m n w' d' (movedEdge m b v g (view m n w d) f)
         unfolding movedEdge
         moved-first e u h = rw (alive, eq-eqb (getD (view m n w d .at first) f 0) v (read first m n w d f lt ∙ e), read second m n w d f lt, weight-at m n w d f lt, diff-is, ← u) h
 
         pub moved-second : (getD w (3 * m + f) 0 ≡ v → ⊥) → getD w (4 * m + f) 0 ≡ v → x ≡ neg (shift true g (getD w f 0) (getD d f nan))
-            → Does m n w' d' (joinEdge m b (view m n w d) f (getD w (3 * m + f) 0) x) → Does m n w' d' (movedEdge m b v g (view m n w d) f)
+            → LeavesTables m n w' d' (joinEdge m b (view m n w d) f (getD w (3 * m + f) 0) x) → LeavesTables m n w' d' (movedEdge m b v g (view m n w d) f)
         unfolding movedEdge
         moved-second ne e u h =
             let far : eqb (getD (view m n w d .at first) f 0) v ≡ false = ne-eqb (getD (view m n w d .at first) f 0) v (λ q. ne (sym (read first m n w d f lt) ∙ q)) in
             rw (alive, far, eq-eqb (getD (view m n w d .at second) f 0) v (read second m n w d f lt ∙ e), read first m n w d f lt, weight-at m n w d f lt, diff-is, ← u) h
 
-      pub moved-far : (getD w (3 * m + f) 0 ≡ v → ⊥) → (getD w (4 * m + f) 0 ≡ v → ⊥) → Does m n w d (movedEdge m b v g (view m n w d) f)
+      pub moved-far : (getD w (3 * m + f) 0 ≡ v → ⊥) → (getD w (4 * m + f) 0 ≡ v → ⊥) → LeavesTables m n w d (movedEdge m b v g (view m n w d) f)
       unfolding movedEdge
       moved-far ne ne' =
           let far : eqb (getD (view m n w d .at first) f 0) v ≡ false = ne-eqb (getD (view m n w d .at first) f 0) v (λ q. ne (sym (read first m n w d f lt) ∙ q)) in

@@ -14,16 +14,16 @@ use Rattle.memory.proofs.TreeLaws.{tree-set}
 use Rattle.memory.specs.Inside.Layout.{tableWords}
 use Rattle.lists.specs.Seq.{sum}
 use Rattle.lists.proofs.SeqLaws.{sum-set, sum-one}
-use Rattle.merge.specs.Inside.Mem.{Mem, view, Room, Sound, store, diff-set}
+use Rattle.merge.specs.Inside.Tables.{Tables, view, HoldsTables, Sound, store, diff-set}
 use Rattle.merge.specs.Inside.Table.{weight, first, second, stamp}
 use Rattle.merge.specs.Inside.Steps.{turnAt, turned, faceAt, joinsAt, absorbAt, attachAt}
-use Rattle.merge.specs.Inside.Does.{Does}
+use Rattle.merge.specs.Inside.Leaves.{LeavesTables}
 use Rattle.merge.proofs.View.{weight-at, read, weight-put, write, diff-put, view-weighed}
 
-module _ (m n : ℕ) (w : List ℕ) (d : List Float) (r : Room m n w d) where
+module _ (m n : ℕ) (w : List ℕ) (d : List Float) (r : HoldsTables m n w d) where
   -- the stores of edge f: its ends and its difference
   module _ (f x y : ℕ) (z : Float) (lt : f < m) where
-    stored-does : Does m n (set (set w (3 * m + f) x) (4 * m + f) y) (set d f z) (diff-set (store second (store first (view m n w d) f x) f y) f z)
+    stored-does : LeavesTables m n (set (set w (3 * m + f) x) (4 * m + f) y) (set d f z) (diff-set (store second (store first (view m n w d) f x) f y) f z)
     unfolding diff-set store
     stored-does =
         let d' : List Float = set d f z in
@@ -33,16 +33,16 @@ module _ (m n : ℕ) (w : List ℕ) (d : List Float) (r : Room m n w d) where
         record {
           tables =
               write second m n w₁ d' f y lt (omega arith)
-              ∙ ap (λ (s : Mem). store second s f y) (write first m n w d' f x lt l₀
-              ∙ ap (λ (s : Mem). store first s f x) (diff-put m n w d f z));
+              ∙ ap (λ (s : Tables). store second s f y) (write first m n w d' f x lt l₀
+              ∙ ap (λ (s : Tables). store first s f x) (diff-put m n w d f z));
           tree = tree-set m w₁ (4 * m + f) y (omega arith) (tree-set m w (3 * m + f) x (omega arith) (r .tree));
         }
 
-  pub attach-does : (b f c : ℕ) (x : Float) → f < m → Does m n (set (set w (3 * m + f) b) (4 * m + f) c) (set d f x) (attachAt b (view m n w d) f c x)
+  pub attach-does : (b f c : ℕ) (x : Float) → f < m → LeavesTables m n (set (set w (3 * m + f) b) (4 * m + f) c) (set d f x) (attachAt b (view m n w d) f c x)
   unfolding attachAt
   attach-does b f c x h = stored-does f b c x h
 
-  pub stamp-does : (b k : ℕ) → b < n → Does m n (set w (7 * m + 2 * n + b) k) d (store stamp (view m n w d) b k)
+  pub stamp-does : (b k : ℕ) → b < n → LeavesTables m n (set w (7 * m + 2 * n + b) k) d (store stamp (view m n w d) b k)
   stamp-does b k h = record { tables = write stamp m n w d b k h (r .words); tree = tree-set m w (7 * m + 2 * n + b) k (omega arith) (r .tree) }
 
   -- face
@@ -60,11 +60,11 @@ module _ (m n : ℕ) (w : List ℕ) (d : List Float) (r : Room m n w d) where
         let q : getD (view m n w d .at second) f 0 ≡ y = read second m n w d f lt in
         rw (p, q, read stamp m n w d x (omega (arith, h .within first f lt)), read stamp m n w d y (omega (arith, h .within second f lt))) refl
 
-    pub face-stays : getD w (7 * m + 2 * n + y) 0 ≤ getD w (7 * m + 2 * n + x) 0 → Does m n w d (faceAt (view m n w d) f)
+    pub face-stays : getD w (7 * m + 2 * n + y) 0 ≤ getD w (7 * m + 2 * n + x) 0 → LeavesTables m n w d (faceAt (view m n w d) f)
     unfolding faceAt
     face-stays e = rw (turned-words, le-ltb (getD w (7 * m + 2 * n + x) 0) (getD w (7 * m + 2 * n + y) 0) e) (record { tables = refl; tree = r .tree })
 
-    pub face-turns : getD w (7 * m + 2 * n + x) 0 < getD w (7 * m + 2 * n + y) 0 → Does m n (set (set w (3 * m + f) y) (4 * m + f) x) (set d f (neg (getD d f nan))) (faceAt (view m n w d) f)
+    pub face-turns : getD w (7 * m + 2 * n + x) 0 < getD w (7 * m + 2 * n + y) 0 → LeavesTables m n (set (set w (3 * m + f) y) (4 * m + f) x) (set d f (neg (getD d f nan))) (faceAt (view m n w d) f)
     unfolding faceAt turnAt
     face-turns e =
         let p : getD (view m n w d .at first) f 0 ≡ x = read first m n w d f lt in
@@ -104,12 +104,12 @@ module _ (m n : ℕ) (w : List ℕ) (d : List Float) (r : Room m n w d) where
           joins-none u = rw (lt-ltb f m lt, alive, unlike, ne-eqb (getD (view m n w d .at first) f 0) c (λ e. u (sym (read first m n w d f lt) ∙ e))) refl
 
 -- absorb
-pub room-of : (m n : ℕ) (w u : List ℕ) (d e : List Float) → Room m n w d → length u ≡ length w → length e ≡ length d → Tree m u → Room m n u e
+pub room-of : (m n : ℕ) (w u : List ℕ) (d e : List Float) → HoldsTables m n w d → length u ≡ length w → length e ≡ length d → Tree m u → HoldsTables m n u e
 room-of m n w u d e r a b t = record { words = omega (arith, r .words); diffs = omega (arith, r .diffs); small = r .small; tree = t }
 
-pub absorb-does : (m n : ℕ) (w w₁ w₂ : List ℕ) (d : List Float) (q f : ℕ) (x : Float) → Room m n w d → q < m → f < m
+pub absorb-does : (m n : ℕ) (w w₁ w₂ : List ℕ) (d : List Float) (q f : ℕ) (x : Float) → HoldsTables m n w d → q < m → f < m
     → Weighed m (set w q (getD w q 0 + getD w f 0)) w₁ → Weighed m (set w₁ f 0) w₂
-    → Does m n w₂ (set d q (add binary32 (getD d q nan) x)) (absorbAt (view m n w d) q f x)
+    → LeavesTables m n w₂ (set d q (add binary32 (getD d q nan) x)) (absorbAt (view m n w d) q f x)
 unfolding absorbAt
 absorb-does m n w w₁ w₂ d q f x r hq hf a b =
     let d' : List Float = set d q (add binary32 (getD d q nan) x) in
@@ -119,9 +119,9 @@ absorb-does m n w w₁ w₂ d q f x r hq hf a b =
       tables = rw (u, weight-at m n w d q hq, weight-at m n w d f hf)
           (view-weighed m n (set w₁ f 0) w₂ d' b
           ∙ weight-put m n w₁ d' f 0 hf (omega (arith, r .words))
-          ∙ ap (λ (s : Mem). store weight s f 0) (view-weighed m n (set w q (getD w q 0 + getD w f 0)) w₁ d' a
+          ∙ ap (λ (s : Tables). store weight s f 0) (view-weighed m n (set w q (getD w q 0 + getD w f 0)) w₁ d' a
           ∙ weight-put m n w d' q (getD w q 0 + getD w f 0) hq (r .words)
-          ∙ ap (λ (s : Mem). store weight s q (getD w q 0 + getD w f 0)) (diff-put m n w d q (add binary32 (getD d q nan) x))));
+          ∙ ap (λ (s : Tables). store weight s q (getD w q 0 + getD w f 0)) (diff-put m n w d q (add binary32 (getD d q nan) x))));
       tree = b .tree;
     }
 

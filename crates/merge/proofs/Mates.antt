@@ -7,18 +7,18 @@ use native.Mathlib.Omega.{arith}
 use lib.Dec.{eqb, ltb}
 use lib.ListN.{getD}
 use borrow.Author.Tests.{ltb-true, eqb-true, eqb-false, lt-ltb, eq-eqb, ne-eqb}
-use Rattle.merge.specs.Inside.Mem.{Mem}
+use Rattle.merge.specs.Inside.Tables.{Tables}
 use Rattle.merge.specs.Inside.Table.{weight, first, second, enext, elen}
 use Rattle.merge.specs.Inside.Steps.{joinsAt, seek, seekAll, mate}
 use Rattle.merge.specs.Inside.Chain.{cur}
 
 -- edge q is live and its ends are b and c
-pub record Mate (m b : ℕ) (s : Mem) (c q : ℕ) : Type 0 where
+pub record Mate (m b : ℕ) (s : Tables) (c q : ℕ) : Type 0 where
   pub q-in : q < m
   pub live : getD (s .at weight) q 0 ≡ 0 → ⊥
   pub ends : ((getD (s .at first) q 0 ≡ b) × (getD (s .at second) q 0 ≡ c)) ⊎ ((getD (s .at first) q 0 ≡ c) × (getD (s .at second) q 0 ≡ b))
 
-module _ (m b c : ℕ) (s : Mem) where
+module _ (m b c : ℕ) (s : Tables) where
   pub joins-is : (q : ℕ) → joinsAt m b c s q ≡ true → Mate m b s c q
   unfolding joinsAt
   joins-is q = go (ltb q m) refl (eqb (getD (s .at weight) q 0) 0) refl (eqb (getD (s .at first) q 0) b) refl (eqb (getD (s .at first) q 0) c) refl

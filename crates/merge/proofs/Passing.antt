@@ -12,10 +12,10 @@ use lib.Ieee.{Float}
 use borrow.Author.Tests.{lt-ltb, le-ltb}
 use Rattle.memory.proofs.TreeLaws.{tree-set}
 use Rattle.memory.specs.Inside.Layout.{tableWords}
-use Rattle.merge.specs.Inside.Mem.{Mem, view, Room, Sound, store}
+use Rattle.merge.specs.Inside.Tables.{Tables, view, HoldsTables, Sound, store}
 use Rattle.merge.specs.Inside.Table.{enext, elen}
 use Rattle.merge.specs.Inside.Steps.{spent, dropAt, passed, kept, along, pruned}
-use Rattle.merge.specs.Inside.Does.{Does, Passes, Slots}
+use Rattle.merge.specs.Inside.Leaves.{LeavesTables, Passes, Slots}
 use Rattle.merge.proofs.View.{weight-at, read, write}
 use Rattle.merge.proofs.Bias.{lt-or-le}
 use Rattle.merge.proofs.Leaf.{room-of}
@@ -33,8 +33,8 @@ module _ (m n : ℕ) (w : List ℕ) (d : List Float) (x : ℕ) where
 
 -- ---- drop_slot
 module _ (m n b p x : ℕ) where
-  pub drop-does : (w : List ℕ) (d : List Float) → Room m n w d → Slots m n b p x (view m n w d)
-      → Does m n (set (set (set w (5 * m + p) (getD w (5 * m + x) 0)) (5 * m + x) x) (7 * m + 4 * n + b) (getD w (7 * m + 4 * n + b) 0 - 1)) d (dropAt b (view m n w d) p x)
+  pub drop-does : (w : List ℕ) (d : List Float) → HoldsTables m n w d → Slots m n b p x (view m n w d)
+      → LeavesTables m n (set (set (set w (5 * m + p) (getD w (5 * m + x) 0)) (5 * m + x) x) (7 * m + 4 * n + b) (getD w (7 * m + 4 * n + b) 0 - 1)) d (dropAt b (view m n w d) p x)
   unfolding dropAt
   drop-does w d r k =
       let t : ℕ = getD w (5 * m + x) 0 in
@@ -47,24 +47,24 @@ module _ (m n b p x : ℕ) where
       record {
         tables = rw (read enext m n w d x (k .x-in), read elen m n w d b (k .b-in))
             (write elen m n w₂ d b (l - 1) (k .b-in) (omega arith)
-            ∙ ap (λ (s : Mem). store elen s b (l - 1)) (write enext m n w₁ d x x (k .x-in) (omega arith)
-            ∙ ap (λ (s : Mem). store enext s x x) (write enext m n w d p t (k .p-in) l₀)));
+            ∙ ap (λ (s : Tables). store elen s b (l - 1)) (write enext m n w₁ d x x (k .x-in) (omega arith)
+            ∙ ap (λ (s : Tables). store enext s x x) (write enext m n w d p t (k .p-in) l₀)));
         tree = tree-set m w₂ (7 * m + 4 * n + b) (l - 1) (omega arith) (tree-set m w₁ (5 * m + x) x (omega arith) (tree-set m w (5 * m + p) t (omega arith) (r .tree)));
       }
 
-  pub sound-drop : (s : Mem) → Sound m n s → p < 2 * m + n → x < 2 * m + n → Sound m n (dropAt b s p x)
+  pub sound-drop : (s : Tables) → Sound m n s → p < 2 * m + n → x < 2 * m + n → Sound m n (dropAt b s p x)
   unfolding dropAt
   sound-drop s h hp hx =
       let h₁ : Sound m n (store enext s p (getD (s .at enext) x 0)) = sound-store enext m n s h p (getD (s .at enext) x 0) refl (h .within enext x hx) in
       sound-store elen m n _ (sound-store enext m n _ h₁ x x refl hx) b _ refl tt
 
   -- ---- pass_slot
-  module _ (s : Mem) (w : List ℕ) (d : List Float) (q : Bool) (is : q ≡ spent m s x) where
-    pub pass-drops : q ≡ true → Does m n w d (dropAt b s p x) → Passes m n w d (passed m b s p x) (kept m s p x) p
+  module _ (s : Tables) (w : List ℕ) (d : List Float) (q : Bool) (is : q ≡ spent m s x) where
+    pub pass-drops : q ≡ true → LeavesTables m n w d (dropAt b s p x) → Passes m n w d (passed m b s p x) (kept m s p x) p
     unfolding passed kept
     pass-drops e h = let y : spent m s x ≡ true = sym is ∙ e in record { does = rw y h; prev = rw y refl }
 
-    pub pass-keeps : q ≡ false → Does m n w d s → Passes m n w d (passed m b s p x) (kept m s p x) x
+    pub pass-keeps : q ≡ false → LeavesTables m n w d s → Passes m n w d (passed m b s p x) (kept m s p x) x
     unfolding passed kept
     pass-keeps e h = let y : spent m s x ≡ false = sym is ∙ e in record { does = rw y h; prev = rw y refl }
 
@@ -80,8 +80,8 @@ less-set l b y = ⊎-elim
     (eq-or-ne y b)
 
 -- ---- along a chain
-pub record Pass (m n b : ℕ) (w₀ : List ℕ) (d₀ : List Float) (w : List ℕ) (d : List Float) (l p x i : ℕ) (goal : Mem) : Type 0 where
-  pub room : Room m n w d
+pub record Pass (m n b : ℕ) (w₀ : List ℕ) (d₀ : List Float) (w : List ℕ) (d : List Float) (l p x i : ℕ) (goal : Tables) : Type 0 where
+  pub room : HoldsTables m n w d
   pub sound : Sound m n (view m n w d)
   pub p-in : p < 2 * m + n
   pub x-in : x < 2 * m + n
@@ -92,7 +92,7 @@ pub record Pass (m n b : ℕ) (w₀ : List ℕ) (d₀ : List Float) (w : List �
   pub same-d : length d ≡ length d₀
 
 module _ (m n b : ℕ) (hb : b < n) where
-  pub prune-start : (w : List ℕ) (d : List Float) → Room m n w d → Sound m n (view m n w d)
+  pub prune-start : (w : List ℕ) (d : List Float) → HoldsTables m n w d → Sound m n (view m n w d)
       → Pass m n b w d w d (getD w (7 * m + 4 * n + b) 0) (2 * m + b) (getD w (5 * m + (2 * m + b)) 0) 1 (pruned m b (view m n w d))
   unfolding pruned
   prune-start w d r h = record {
@@ -107,7 +107,7 @@ module _ (m n b : ℕ) (hb : b < n) where
     same-d = refl;
   }
 
-  sound-passed : (s : Mem) (p x : ℕ) → Sound m n s → p < 2 * m + n → x < 2 * m + n → Sound m n (passed m b s p x)
+  sound-passed : (s : Tables) (p x : ℕ) → Sound m n s → p < 2 * m + n → x < 2 * m + n → Sound m n (passed m b s p x)
   unfolding passed
   sound-passed s p x h hp hx = go (spent m s x)
     where
@@ -115,7 +115,7 @@ module _ (m n b : ℕ) (hb : b < n) where
       go true = sound-drop m n b p x s h hp hx
       go false = h
 
-  kept-in : (s : Mem) (p x : ℕ) → p < 2 * m + n → x < 2 * m + n → kept m s p x < 2 * m + n
+  kept-in : (s : Tables) (p x : ℕ) → p < 2 * m + n → x < 2 * m + n → kept m s p x < 2 * m + n
   unfolding kept
   kept-in s p x hp hx = go (spent m s x)
     where
@@ -124,7 +124,7 @@ module _ (m n b : ℕ) (hb : b < n) where
       go false = hx
 
   -- a slot makes the chain shorter by one at most
-  passed-len : (s : Mem) (p x : ℕ) → Sound m n s → getD (s .at elen) b 0 ≤ 1 + getD (passed m b s p x .at elen) b 0
+  passed-len : (s : Tables) (p x : ℕ) → Sound m n s → getD (s .at elen) b 0 ≤ 1 + getD (passed m b s p x .at elen) b 0
   unfolding passed
   passed-len s p x h = go (spent m s x)
     where
@@ -133,16 +133,16 @@ module _ (m n b : ℕ) (hb : b < n) where
       go false = omega arith
 
   -- tables stay sound, and no length grows
-  sound-along : (k : ℕ) (s : Mem) (p x : ℕ) → Sound m n s → p < 2 * m + n → x < 2 * m + n → Sound m n (along k m b s p x)
+  sound-along : (k : ℕ) (s : Tables) (p x : ℕ) → Sound m n s → p < 2 * m + n → x < 2 * m + n → Sound m n (along k m b s p x)
   unfolding along
   sound-along zero s p x h hp hx = h
   sound-along (suc k) s p x h hp hx = sound-along k (passed m b s p x) (kept m s p x) (getD (s .at enext) x 0) (sound-passed s p x h hp hx) (kept-in s p x hp hx) (h .within enext x hx)
 
-  pub sound-pruned : (s : Mem) → Sound m n s → Sound m n (pruned m b s)
+  pub sound-pruned : (s : Tables) → Sound m n s → Sound m n (pruned m b s)
   unfolding pruned
   sound-pruned s h = sound-along (getD (s .at elen) b 0 - 1) s (2 * m + b) (getD (s .at enext) (2 * m + b) 0) h (omega arith) (h .within enext (2 * m + b) (omega arith))
 
-  less-passed : (s : Mem) (p x y : ℕ) → getD (passed m b s p x .at elen) y 0 ≤ getD (s .at elen) y 0
+  less-passed : (s : Tables) (p x y : ℕ) → getD (passed m b s p x .at elen) y 0 ≤ getD (s .at elen) y 0
   unfolding passed
   less-passed s p x y = go (spent m s x)
     where
@@ -150,16 +150,16 @@ module _ (m n b : ℕ) (hb : b < n) where
       go true = unfold dropAt store in less-set (s .at elen) b y
       go false = omega arith
 
-  less-along : (k : ℕ) (s : Mem) (p x y : ℕ) → getD (along k m b s p x .at elen) y 0 ≤ getD (s .at elen) y 0
+  less-along : (k : ℕ) (s : Tables) (p x y : ℕ) → getD (along k m b s p x .at elen) y 0 ≤ getD (s .at elen) y 0
   unfolding along
   less-along zero s p x y = omega arith
   less-along (suc k) s p x y = omega (arith, less-along k (passed m b s p x) (kept m s p x) (getD (s .at enext) x 0) y, less-passed s p x y)
 
-  pub less-pruned : (s : Mem) (y : ℕ) → getD (pruned m b s .at elen) y 0 ≤ getD (s .at elen) y 0
+  pub less-pruned : (s : Tables) (y : ℕ) → getD (pruned m b s .at elen) y 0 ≤ getD (s .at elen) y 0
   unfolding pruned
   less-pruned s y = less-along (getD (s .at elen) b 0 - 1) s (2 * m + b) (getD (s .at enext) (2 * m + b) 0) y
 
-  module _ (w₀ : List ℕ) (d₀ : List Float) (w : List ℕ) (d : List Float) (l p x i : ℕ) (goal : Mem) (k : Pass m n b w₀ d₀ w d l p x i goal) where
+  module _ (w₀ : List ℕ) (d₀ : List Float) (w : List ℕ) (d : List Float) (l p x i : ℕ) (goal : Tables) (k : Pass m n b w₀ d₀ w d l p x i goal) where
     pub prune-slots : i < l → Slots m n b p x (view m n w d)
     prune-slots lt = record { b-in = hb; p-in = k .p-in; x-in = k .x-in; some = omega (arith, k .long) }
 
@@ -167,11 +167,11 @@ module _ (m n b : ℕ) (hb : b < n) where
         → Pass m n b w₀ d₀ w' d' l q (getD w (5 * m + x) 0) (i + 1) goal
     unfolding along
     prune-turned lt w' d' q e lw ld =
-        let s : Mem = view m n w d in
-        let s' : Mem = passed m b s p x in
+        let s : Tables = view m n w d in
+        let s' : Tables = passed m b s p x in
         let z : l - i ≡ suc (l - (i + 1)) = omega arith in
         let nx : getD (s .at enext) x 0 ≡ getD w (5 * m + x) 0 = read enext m n w d x (k .x-in) in
-        let el : getD (view m n w' d' .at elen) b 0 ≡ getD (s' .at elen) b 0 = ap (λ (u : Mem). getD (u .at elen) b 0) (e .does .tables) in
+        let el : getD (view m n w' d' .at elen) b 0 ≡ getD (s' .at elen) b 0 = ap (λ (u : Tables). getD (u .at elen) b 0) (e .does .tables) in
         record {
           room = room-of m n w w' d d' (k .room) lw ld (e .does .tree);
           sound = subst (Sound m n) (sym (e .does .tables)) (sound-passed s p x (k .sound) (k .p-in) (k .x-in));
@@ -179,12 +179,12 @@ module _ (m n b : ℕ) (hb : b < n) where
           x-in = omega (arith, k .sound .within enext x (k .x-in));
           some-i = omega arith;
           long = omega (arith, k .long, passed-len s p x (k .sound));
-          left = ap (λ (u : Mem). along (l - (i + 1)) m b u q (getD w (5 * m + x) 0)) (e .does .tables) ∙ ap (λ (u : ℕ). along (l - (i + 1)) m b s' u (getD w (5 * m + x) 0)) (e .prev)
+          left = ap (λ (u : Tables). along (l - (i + 1)) m b u q (getD w (5 * m + x) 0)) (e .does .tables) ∙ ap (λ (u : ℕ). along (l - (i + 1)) m b s' u (getD w (5 * m + x) 0)) (e .prev)
               ∙ ap (along (l - (i + 1)) m b s' (kept m s p x)) (sym nx) ∙ ap (λ (y : ℕ). along y m b s p x) (sym z) ∙ k .left;
           same-w = lw ∙ k .same-w;
           same-d = ld ∙ k .same-d;
         }
 
-    pub prune-end : l ≤ i → Does m n w d goal
+    pub prune-end : l ≤ i → LeavesTables m n w d goal
     unfolding along
     prune-end h = let z : l - i ≡ 0 = omega arith in record { tables = ap (λ (y : ℕ). along y m b (view m n w d) p x) (sym z) ∙ k .left; tree = k .room .tree }

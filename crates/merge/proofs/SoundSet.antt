@@ -13,7 +13,7 @@ use lib.ListN.{length, getD, set, length-set}
 use lib.Seq.{getD-set-same, getD-set-other}
 use Rattle.merge.specs.Inside.Table.{Table, weight, first, second, enext, rnext, count, long, is}
 use Rattle.lists.specs.Seq.{sum}
-use Rattle.merge.specs.Inside.Mem.{Mem, Sound, limit, Below, store, diff-set}
+use Rattle.merge.specs.Inside.Tables.{Tables, Sound, limit, Below, store, diff-set}
 use Rattle.merge.proofs.TableLaws.{same-table, length-store}
 
 pub eq-or-ne : (m n : ℕ) → (m ≡ n) ⊎ (m ≡ n → ⊥)
@@ -27,12 +27,12 @@ each-set {A} P l k i x d h px all j lt = ⊎-elim
     (eq-or-ne j i)
 
 -- lengths and ranges of all tables
-pub record Ranges (m n : ℕ) (s : Mem) : Type 0 where
+pub record Ranges (m n : ℕ) (s : Tables) : Type 0 where
   pub lengths : (t : Table) → length (s .at t) ≡ long t m n
   pub within : (t : Table) (j : ℕ) → j < long t m n → Below (limit t m n) (getD (s .at t) j 0)
 
 -- the ranges table by table
-pub within-all : (m n : ℕ) (s : Mem) → ((j : ℕ) → j < m → getD (s .at first) j 0 < n) → ((j : ℕ) → j < m → getD (s .at second) j 0 < n)
+pub within-all : (m n : ℕ) (s : Tables) → ((j : ℕ) → j < m → getD (s .at first) j 0 < n) → ((j : ℕ) → j < m → getD (s .at second) j 0 < n)
     → ((j : ℕ) → j < 2 * m + n → getD (s .at enext) j 0 < 2 * m + n) → ((j : ℕ) → j < n → getD (s .at rnext) j 0 < n) → ((j : ℕ) → j < n → getD (s .at count) j 0 < 2001)
     → (t : Table) (j : ℕ) → j < long t m n → Below (limit t m n) (getD (s .at t) j 0)
 within-all m n s a b c d e t = go (is first t) refl (is second t) refl (is rnext t) refl (is enext t) refl (is count t) refl
@@ -49,10 +49,10 @@ within-all m n s a b c d e t = go (is first t) refl (is second t) refl (is rnext
     go false f false g false h false i true k = subst (λ (u : Table). All u 2001) (same-table count t k) e
     go false f false g false h false i false k = λ j l. tt
 
-pub ranges-of : (m n : ℕ) (s : Mem) → Sound m n s → Ranges m n s
+pub ranges-of : (m n : ℕ) (s : Tables) → Sound m n s → Ranges m n s
 ranges-of m n s h = record { lengths = h .lengths; within = h .within }
 
-pub ranges-store : (t : Table) (m n : ℕ) (s : Mem) → Ranges m n s → (j x : ℕ) → Below (limit t m n) x → Ranges m n (store t s j x)
+pub ranges-store : (t : Table) (m n : ℕ) (s : Tables) → Ranges m n s → (j x : ℕ) → Below (limit t m n) x → Ranges m n (store t s j x)
 unfolding store
 ranges-store t m n s h j x p = record { lengths = λ u. length-store t u s j x ∙ h .lengths u; within = λ u. within-of u (is t u) refl }
   where
@@ -60,19 +60,19 @@ ranges-store t m n s h j x p = record { lengths = λ u. length-store t u s j x �
     within-of u true e = each-set (Below (limit u m n)) (s .at u) (long u m n) j x 0 (omega (arith, h .lengths u)) (subst (λ (y : Table). Below (limit y m n) x) (same-table t u e) p) (h .within u)
     within-of u false e = h .within u
 
-stored : (t : Table) (m n : ℕ) (s : Mem) → Sound m n s → (j x : ℕ) → Below (limit t m n) x → sum (store t s j x .at weight) < 2 ^ 32 → Sound m n (store t s j x)
+stored : (t : Table) (m n : ℕ) (s : Tables) → Sound m n s → (j x : ℕ) → Below (limit t m n) x → sum (store t s j x .at weight) < 2 ^ 32 → Sound m n (store t s j x)
 stored t m n s h j x p l =
     let r : Ranges m n (store t s j x) = ranges-store t m n s (ranges-of m n s h) j x p in
     record { lengths = r .lengths; l-diff = unfold store in h .l-diff; within = r .within; single = unfold store in h .single; light = l }
 
 -- a store into any table but the weights
-pub sound-store : (t : Table) (m n : ℕ) (s : Mem) → Sound m n s → (j x : ℕ) → is t weight ≡ false → Below (limit t m n) x → Sound m n (store t s j x)
+pub sound-store : (t : Table) (m n : ℕ) (s : Tables) → Sound m n s → (j x : ℕ) → is t weight ≡ false → Below (limit t m n) x → Sound m n (store t s j x)
 sound-store t m n s h j x e p = stored t m n s h j x p (unfold store in rw e (h .light))
 
-pub sound-weight : (m n : ℕ) (s : Mem) → Sound m n s → (j x : ℕ) → sum (set (s .at weight) j x) < 2 ^ 32 → Sound m n (store weight s j x)
+pub sound-weight : (m n : ℕ) (s : Tables) → Sound m n s → (j x : ℕ) → sum (set (s .at weight) j x) < 2 ^ 32 → Sound m n (store weight s j x)
 sound-weight m n s h j x q = stored weight m n s h j x tt (unfold store in q)
 
-pub sound-diff : (m n : ℕ) (s : Mem) → Sound m n s → (j : ℕ) (x : Float) → T (fits binary32 x) → Sound m n (diff-set s j x)
+pub sound-diff : (m n : ℕ) (s : Tables) → Sound m n s → (j : ℕ) (x : Float) → T (fits binary32 x) → Sound m n (diff-set s j x)
 unfolding diff-set
 sound-diff m n s h j x q = record {
   lengths = h .lengths;

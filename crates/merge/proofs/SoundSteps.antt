@@ -10,10 +10,10 @@ use lib.Ieee.Fits as Fits
 use lib.ListN.{length, getD, set}
 use borrow.Author.Tests.{ltb-true, eqb-true, eqb-false}
 use Rattle.lists.specs.Seq.{sum}
-use Rattle.merge.specs.Inside.Mem.{Mem, Sound, store, diff-set}
+use Rattle.merge.specs.Inside.Tables.{Tables, Sound, store, diff-set}
 use Rattle.merge.specs.Inside.Table.{weight, first, second}
 use Rattle.merge.specs.Inside.Steps.{unbias, turnAt, turned, faceAt, mate, absorbAt, attachAt, joinEdge, shift, movedEdge, takeEdge}
-use Rattle.merge.specs.Inside.Does.{Joins, Gains}
+use Rattle.merge.specs.Inside.Leaves.{Joins, Gains}
 use Rattle.merge.proofs.SoundSet.{Ranges, ranges-of, ranges-store, sound-store, sound-diff}
 use Rattle.merge.proofs.Mates.{Mate, mate-is}
 use Rattle.merge.proofs.Leaf.{sum-move}
@@ -36,14 +36,14 @@ shift-ok b g w x h = go (eqb g 1000)
     go true = h
     go false = add-ok x (cond b (neg (scale w (unbias g))) (scale w (unbias g)))
 
-pub sound-turn : (m n : ℕ) (s : Mem) (f : ℕ) → Sound m n s → f < m → Sound m n (turnAt s f)
+pub sound-turn : (m n : ℕ) (s : Tables) (f : ℕ) → Sound m n s → f < m → Sound m n (turnAt s f)
 unfolding turnAt store
 sound-turn m n s f h lt =
     let h₁ : Sound m n (store first s f (getD (s .at second) f 0)) = sound-store first m n s h f (getD (s .at second) f 0) refl (h .within second f lt) in
     let h₂ : Sound m n (store second (store first s f (getD (s .at second) f 0)) f (getD (s .at first) f 0)) = sound-store second m n _ h₁ f (getD (s .at first) f 0) refl (h .within first f lt) in
     sound-diff m n _ h₂ f (neg (getD (s .diff) f nan)) (neg-ok _ (h .single f lt))
 
-pub sound-face : (m n : ℕ) (s : Mem) (f : ℕ) → Sound m n s → f < m → Sound m n (faceAt s f)
+pub sound-face : (m n : ℕ) (s : Tables) (f : ℕ) → Sound m n s → f < m → Sound m n (faceAt s f)
 unfolding faceAt
 sound-face m n s f h lt = go (turned s f)
   where
@@ -51,7 +51,7 @@ sound-face m n s f h lt = go (turned s f)
     go true = sound-turn m n s f h lt
     go false = h
 
-pub sound-absorb : (m n : ℕ) (s : Mem) (q f : ℕ) (x : Float) → Sound m n s → q < m → f < m → (q ≡ f → ⊥) → Sound m n (absorbAt s q f x)
+pub sound-absorb : (m n : ℕ) (s : Tables) (q f : ℕ) (x : Float) → Sound m n s → q < m → f < m → (q ≡ f → ⊥) → Sound m n (absorbAt s q f x)
 unfolding absorbAt store diff-set
 sound-absorb m n s q f x h hq hf ne =
     let h₁ : Sound m n (diff-set s q (add binary32 (getD (s .diff) q nan) x)) = sound-diff m n s h q (add binary32 (getD (s .diff) q nan) x) (add-ok _ x) in
@@ -60,17 +60,17 @@ sound-absorb m n s q f x h hq hf ne =
     let t : sum (set (set (s .at weight) q (getD (s .at weight) q 0 + getD (s .at weight) f 0)) f 0) ≡ sum (s .at weight) = sum-move (s .at weight) q f lq lf ne in
     two m n (diff-set s q (add binary32 (getD (s .diff) q nan) x)) q f (getD (s .at weight) q 0 + getD (s .at weight) f 0) h₁ (omega (arith, h .light))
   where
-    two : (m n : ℕ) (u : Mem) (q f v : ℕ) → Sound m n u → sum (set (set (u .at weight) q v) f 0) < 2 ^ 32 → Sound m n (store weight (store weight u q v) f 0)
+    two : (m n : ℕ) (u : Tables) (q f v : ℕ) → Sound m n u → sum (set (set (u .at weight) q v) f 0) < 2 ^ 32 → Sound m n (store weight (store weight u q v) f 0)
     two m n u q f v h k =
         let r : Ranges m n (store weight (store weight u q v) f 0) = ranges-store weight m n (store weight u q v) (ranges-store weight m n u (ranges-of m n u h) q v tt) f 0 tt in
         record { lengths = r .lengths; l-diff = h .l-diff; within = r .within; single = h .single; light = k }
 
-pub sound-attach : (m n b : ℕ) (s : Mem) (f c : ℕ) (x : Float) → Sound m n s → f < m → b < n → c < n → T (fits binary32 x) → Sound m n (attachAt b s f c x)
+pub sound-attach : (m n b : ℕ) (s : Tables) (f c : ℕ) (x : Float) → Sound m n s → f < m → b < n → c < n → T (fits binary32 x) → Sound m n (attachAt b s f c x)
 unfolding attachAt
 sound-attach m n b s f c x h lt hb hc fx =
     sound-diff m n _ (sound-store second m n _ (sound-store first m n s h f b refl hb) f c refl hc) f x fx
 
-pub sound-join : (m n b : ℕ) (s : Mem) (f c : ℕ) (x : Float) → Sound m n s → Joins m n b s f c → T (fits binary32 x) → Sound m n (joinEdge m b s f c x)
+pub sound-join : (m n b : ℕ) (s : Tables) (f c : ℕ) (x : Float) → Sound m n s → Joins m n b s f c → T (fits binary32 x) → Sound m n (joinEdge m b s f c x)
 unfolding joinEdge
 sound-join m n b s f c x h j fx = go (ltb (mate m b s c) m) refl
   where
@@ -79,7 +79,7 @@ sound-join m n b s f c x h j fx = go (ltb (mate m b s c) m) refl
     go false e = sound-attach m n b s f c x h (j .f-in) (j .b-in) (j .c-in) fx
 
 -- the moved node's edge is no mate
-pub joins-first : (m n b v g : ℕ) (s : Mem) (f : ℕ) → Sound m n s → Gains n b v g → f < m → getD (s .at first) f 0 ≡ v → Joins m n b s f (getD (s .at second) f 0)
+pub joins-first : (m n b v g : ℕ) (s : Tables) (f : ℕ) → Sound m n s → Gains n b v g → f < m → getD (s .at first) f 0 ≡ v → Joins m n b s f (getD (s .at second) f 0)
 joins-first m n b v g s f h k lt e = record {
   f-in = lt;
   b-in = k .b-in;
@@ -88,7 +88,7 @@ joins-first m n b v g s f h k lt e = record {
       k .apart (⊎-elim (λ w. sym (w .0) ∙ e) (λ w. sym (w .1) ∙ sym (w .0) ∙ e) (t .ends));
 }
 
-pub joins-second : (m n b v g : ℕ) (s : Mem) (f : ℕ) → Sound m n s → Gains n b v g → f < m → (getD (s .at first) f 0 ≡ v → ⊥) → getD (s .at second) f 0 ≡ v → Joins m n b s f (getD (s .at first) f 0)
+pub joins-second : (m n b v g : ℕ) (s : Tables) (f : ℕ) → Sound m n s → Gains n b v g → f < m → (getD (s .at first) f 0 ≡ v → ⊥) → getD (s .at second) f 0 ≡ v → Joins m n b s f (getD (s .at first) f 0)
 joins-second m n b v g s f h k lt ne e = record {
   f-in = lt;
   b-in = k .b-in;
@@ -97,7 +97,7 @@ joins-second m n b v g s f h k lt ne e = record {
       ⊎-elim (λ w. ne (sym (w .1) ∙ e)) (λ w. k .apart (sym (w .1) ∙ e)) (t .ends);
 }
 
-pub sound-moved : (m n b v g : ℕ) (s : Mem) (f : ℕ) → Sound m n s → Gains n b v g → f < m → Sound m n (movedEdge m b v g s f)
+pub sound-moved : (m n b v g : ℕ) (s : Tables) (f : ℕ) → Sound m n s → Gains n b v g → f < m → Sound m n (movedEdge m b v g s f)
 unfolding movedEdge
 sound-moved m n b v g s f h k lt = go (eqb (getD (s .at weight) f 0) 0) (eqb (getD (s .at first) f 0) v) refl (eqb (getD (s .at second) f 0) v) refl
   where
@@ -108,7 +108,7 @@ sound-moved m n b v g s f h k lt = go (eqb (getD (s .at weight) f 0) 0) (eqb (ge
     go false false ze true te = sound-join m n b s f _ _ h (joins-second m n b v g s f h k lt (eqb-false (getD (s .at first) f 0) v ze) (eqb-true (getD (s .at second) f 0) v te)) (neg-ok _ (shift-ok true g _ _ (h .single f lt)))
     go false false ze false te = h
 
-pub sound-take : (m n b v g : ℕ) (s : Mem) (f : ℕ) → Sound m n s → Gains n b v g → Sound m n (takeEdge m b v g s f)
+pub sound-take : (m n b v g : ℕ) (s : Tables) (f : ℕ) → Sound m n s → Gains n b v g → Sound m n (takeEdge m b v g s f)
 unfolding takeEdge
 sound-take m n b v g s f h k = go (ltb f m) refl
   where

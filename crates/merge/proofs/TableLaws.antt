@@ -10,7 +10,7 @@ use lib.ListN.{length, getD, set, length-set}
 use borrow.Author.Tests.{eqb-true, eqb-false}
 use Rattle.memory.specs.Inside.Layout.{Part, part, InTurn, tableWords}
 use Rattle.merge.specs.Inside.Table.{Table, table, number, tables, from, long, is}
-use Rattle.merge.specs.Inside.Mem.{Mem, store, diff-set}
+use Rattle.merge.specs.Inside.Tables.{Tables, store, diff-set}
 
 -- ---- parts in turn
 abbrev pick : List Part → ℕ → Part
@@ -59,12 +59,12 @@ pub same-table : (t u : Table) → is t u ≡ true → t ≡ u
 same-table (table i) (table k) e = ap table (eqb-true i k e)
 
 -- a store into t changes no other table
-pub store-other : (t u : Table) (s : Mem) (j x : ℕ) → is t u ≡ false → store t s j x .at u ≡ s .at u
+pub store-other : (t u : Table) (s : Tables) (j x : ℕ) → is t u ≡ false → store t s j x .at u ≡ s .at u
 unfolding store
 store-other t u s j x e = rw e refl
 
 -- a store keeps the length of every table
-pub length-store : (t u : Table) (s : Mem) (j x : ℕ) → length (store t s j x .at u) ≡ length (s .at u)
+pub length-store : (t u : Table) (s : Tables) (j x : ℕ) → length (store t s j x .at u) ≡ length (s .at u)
 unfolding store
 length-store t u s j x = go (is t u)
   where
@@ -77,17 +77,17 @@ abbrev pub Unless : Bool → Type 0 → Type 0
 Unless true A = Unit {0}
 Unless false A = A
 
-pub record Alike (out : Table → Bool) (s t : Mem) : Type 0 where
+pub record Alike (out : Table → Bool) (s t : Tables) : Type 0 where
   pub at : (u : Table) → Unless (out u) (s .at u ≡ t .at u)
 
-pub alike-refl : (out : Table → Bool) (s : Mem) → Alike out s s
+pub alike-refl : (out : Table → Bool) (s : Tables) → Alike out s s
 alike-refl out s = record { at = λ u. go u (out u) }
   where
     go : (u : Table) (b : Bool) → Unless b (s .at u ≡ s .at u)
     go u true = tt
     go u false = refl
 
-pub alike-then : (out : Table → Bool) (r s t : Mem) → Alike out r s → Alike out s t → Alike out r t
+pub alike-then : (out : Table → Bool) (r s t : Tables) → Alike out r s → Alike out s t → Alike out r t
 alike-then out r s t a b = record { at = λ u. go u (out u) (a .at u) (b .at u) }
   where
     go : (u : Table) (o : Bool) → Unless o (r .at u ≡ s .at u) → Unless o (s .at u ≡ t .at u) → Unless o (r .at u ≡ t .at u)
@@ -95,7 +95,7 @@ alike-then out r s t a b = record { at = λ u. go u (out u) (a .at u) (b .at u) 
     go u false p q = p ∙ q
 
 -- what is alike but for fewer tables is alike but for more
-pub alike-less : (out more : Table → Bool) (s t : Mem) → ((u : Table) → out u ≡ true → more u ≡ true) → Alike out s t → Alike more s t
+pub alike-less : (out more : Table → Bool) (s t : Tables) → ((u : Table) → out u ≡ true → more u ≡ true) → Alike out s t → Alike more s t
 alike-less out more s t h a = record { at = λ u. go u (out u) refl (more u) refl (a .at u) }
   where
     go : (u : Table) (o : Bool) → out u ≡ o → (p : Bool) → more u ≡ p → Unless o (s .at u ≡ t .at u) → Unless p (s .at u ≡ t .at u)
@@ -103,7 +103,7 @@ alike-less out more s t h a = record { at = λ u. go u (out u) refl (more u) ref
     go u false e false f q = q
     go u true e false f q = absurd (true≢false (sym (h u e) ∙ f))
 
-pub alike-store : (out : Table → Bool) (t : Table) (s : Mem) (j x : ℕ) → out t ≡ true → Alike out (store t s j x) s
+pub alike-store : (out : Table → Bool) (t : Table) (s : Tables) (j x : ℕ) → out t ≡ true → Alike out (store t s j x) s
 unfolding store
 alike-store out t s j x h = record { at = λ u. go u (is t u) refl (out u) refl }
   where
@@ -112,6 +112,6 @@ alike-store out t s j x h = record { at = λ u. go u (is t u) refl (out u) refl 
     go u false e false f = refl
     go u true e false f = absurd (true≢false (sym h ∙ ap out (same-table t u e) ∙ f))
 
-pub alike-diff : (out : Table → Bool) (s : Mem) (j : ℕ) (x : Float) → Alike out (diff-set s j x) s
+pub alike-diff : (out : Table → Bool) (s : Tables) (j : ℕ) (x : Float) → Alike out (diff-set s j x) s
 unfolding diff-set
 alike-diff out s j x = record { at = alike-refl out s .at }

@@ -13,7 +13,7 @@ use Rattle.lists.proofs.SegLaws.{length-seg, getD-seg, seg-set-in, seg-set-out}
 use Rattle.memory.specs.Inside.Tree.{Weighed}
 use Rattle.memory.specs.Inside.Layout.{part, tableWords, InTurn}
 use Rattle.merge.specs.Inside.Table.{Table, table, number, tables, weight, from, long, is}
-use Rattle.merge.specs.Inside.Mem.{view, store, diff-set}
+use Rattle.merge.specs.Inside.Tables.{view, store, diff-set}
 use Rattle.merge.proofs.TableLaws.{in-turn, ends-by, apart, part-start}
 use lib.Ieee.{Float}
 

@@ -7,10 +7,10 @@ ghost use lib.Dec.{T};
 ghost use lib.Ieee.{binary32, fits, add};
 ghost use Rattle.arithmetic.specs.Rounding.{scale};
 ghost use lib.ListN.{getD};
-ghost use Rattle.merge.specs.Inside.Mem.{Mem, view, Room, Sound, store};
+ghost use Rattle.merge.specs.Inside.Tables.{Tables, view, HoldsTables, Sound, store};
 ghost use Rattle.merge.specs.Inside.Table.{stamp, rlen};
 ghost use Rattle.merge.specs.Inside.Steps.{unbias, spent, passed, kept, dropAt, pruned, faceAt, joinsAt, seekAll, mate, absorbAt, attachAt, joinEdge, shift, movedEdge, takeEdge, movedAll, walkRaise, splice, grow, handed, merged};
-ghost use Rattle.merge.specs.Inside.Does.{Does, Raised, Passes, Slots, Apart, Joins, Gains, Fit};
+ghost use Rattle.merge.specs.Inside.Leaves.{LeavesTables, Raised, Passes, Slots, OtherEdge, Joins, Gains, Fit};
 
 // The f32 that an f64 is.
 fn single(x: f64) -> f32
@@ -72,10 +72,10 @@ fn shift_down(d: f64, w: u32, g: u32) -> f64
 
 // Edge f is stored as it stands: from the end that was a base later.
 fn face(w: &mut [u32], d: &mut [f64], m: usize, n: usize, f: usize)
-    requires { ⌜ Room m n (now w) (now d) ⌝ }
+    requires { ⌜ HoldsTables m n (now w) (now d) ⌝ }
     requires { ⌜ Sound m n (view m n (now w) (now d)) ⌝ }
     requires { ⌜ f < m ⌝ }
-    ensures { λ _. ⌜ Does m n (now (w .exit)) (now (d .exit)) (faceAt (view m n (now (w .entry)) (now (d .entry))) f) ⌝ }
+    ensures { λ _. ⌜ LeavesTables m n (now (w .exit)) (now (d .exit)) (faceAt (view m n (now (w .entry)) (now (d .entry))) f) ⌝ }
 {
     let x = w[3 * m + f];
     let y = w[4 * m + f];
@@ -92,7 +92,7 @@ fn face(w: &mut [u32], d: &mut [f64], m: usize, n: usize, f: usize)
 
 // Whether slot x is needed by no walk: an old header, or a slot of a dead edge.
 fn is_spent(w: &[u32], d: &[f64], m: usize, n: usize, x: u32) -> bool
-    requires { ⌜ Room m n (now w) (now d) ⌝ }
+    requires { ⌜ HoldsTables m n (now w) (now d) ⌝ }
     ensures { λ r. ⌜ r ≡ spent m (view m n (now (w .entry)) (now (d .entry))) x ⌝ }
 {
     let f = (x / 2) as usize;
@@ -104,9 +104,9 @@ fn is_spent(w: &[u32], d: &[f64], m: usize, n: usize, x: u32) -> bool
 
 // Slot x, the next after p in node b's chain, becomes a circle of its own.
 fn drop_slot(w: &mut [u32], d: &mut [f64], m: usize, n: usize, b: u32, p: u32, x: u32)
-    requires { ⌜ Room m n (now w) (now d) ⌝ }
+    requires { ⌜ HoldsTables m n (now w) (now d) ⌝ }
     requires { ⌜ Slots m n b p x (view m n (now w) (now d)) ⌝ }
-    ensures { λ _. ⌜ Does m n (now (w .exit)) (now (d .exit)) (dropAt b (view m n (now (w .entry)) (now (d .entry))) p x) ⌝ }
+    ensures { λ _. ⌜ LeavesTables m n (now (w .exit)) (now (d .exit)) (dropAt b (view m n (now (w .entry)) (now (d .entry))) p x) ⌝ }
 {
     let t = w[5 * m + x as usize];
     let l = w[7 * m + 4 * n + b as usize];
@@ -117,7 +117,7 @@ fn drop_slot(w: &mut [u32], d: &mut [f64], m: usize, n: usize, b: u32, p: u32, x
 
 // Slot x of node b's chain is dropped where it is spent; the last slot kept is returned.
 fn pass_slot(w: &mut [u32], d: &mut [f64], m: usize, n: usize, b: u32, p: u32, x: u32) -> u32
-    requires { ⌜ Room m n (now w) (now d) ⌝ }
+    requires { ⌜ HoldsTables m n (now w) (now d) ⌝ }
     requires { ⌜ Slots m n b p x (view m n (now w) (now d)) ⌝ }
     ensures { λ r. ⌜ Passes m n (now (w .exit)) (now (d .exit)) (passed m b (view m n (now (w .entry)) (now (d .entry))) p x) (kept m (view m n (now (w .entry)) (now (d .entry))) p x) r ⌝ }
 {
@@ -131,10 +131,10 @@ fn pass_slot(w: &mut [u32], d: &mut [f64], m: usize, n: usize, b: u32, p: u32, x
 
 // The spent slots of node b's chain are dropped.
 fn prune(w: &mut [u32], d: &mut [f64], m: usize, n: usize, b: u32)
-    requires { ⌜ Room m n (now w) (now d) ⌝ }
+    requires { ⌜ HoldsTables m n (now w) (now d) ⌝ }
     requires { ⌜ Sound m n (view m n (now w) (now d)) ⌝ }
     requires { ⌜ b < n ⌝ }
-    ensures { λ _. ⌜ Does m n (now (w .exit)) (now (d .exit)) (pruned m b (view m n (now (w .entry)) (now (d .entry)))) ⌝ }
+    ensures { λ _. ⌜ LeavesTables m n (now (w .exit)) (now (d .exit)) (pruned m b (view m n (now (w .entry)) (now (d .entry)))) ⌝ }
 {
     let l = w[7 * m + 4 * n + b as usize] as usize;
     let mut p = (2 * m + b as usize) as u32;
@@ -150,7 +150,7 @@ fn prune(w: &mut [u32], d: &mut [f64], m: usize, n: usize, b: u32)
 
 // Whether edge f is live and joins b and c.
 fn joins(w: &[u32], d: &[f64], m: usize, n: usize, b: u32, c: u32, f: usize) -> bool
-    requires { ⌜ Room m n (now w) (now d) ⌝ }
+    requires { ⌜ HoldsTables m n (now w) (now d) ⌝ }
     ensures { λ r. ⌜ r ≡ joinsAt m b c (view m n (now (w .entry)) (now (d .entry))) f ⌝ }
 {
     if f >= m {
@@ -172,7 +172,7 @@ fn joins(w: &[u32], d: &[f64], m: usize, n: usize, b: u32, c: u32, f: usize) -> 
 
 // The first edge of node h's chain that joins b and c, or m.
 fn seek(w: &[u32], d: &[f64], m: usize, n: usize, b: u32, c: u32, h: u32) -> usize
-    requires { ⌜ Room m n (now w) (now d) ⌝ }
+    requires { ⌜ HoldsTables m n (now w) (now d) ⌝ }
     requires { ⌜ Sound m n (view m n (now w) (now d)) ⌝ }
     requires { ⌜ h < n ⌝ }
     ensures { λ r. ⌜ r ≡ seekAll m b c (view m n (now (w .entry)) (now (d .entry))) h ⌝ }
@@ -194,7 +194,7 @@ fn seek(w: &[u32], d: &[f64], m: usize, n: usize, b: u32, c: u32, h: u32) -> usi
 
 // The number of the base's live edge to c, or m: looked for along the shorter of their chains.
 fn mate(w: &[u32], d: &[f64], m: usize, n: usize, b: u32, c: u32) -> usize
-    requires { ⌜ Room m n (now w) (now d) ⌝ }
+    requires { ⌜ HoldsTables m n (now w) (now d) ⌝ }
     requires { ⌜ Sound m n (view m n (now w) (now d)) ⌝ }
     requires { ⌜ (b < n) × (c < n) ⌝ }
     ensures { λ r. ⌜ r ≡ mate m b (view m n (now (w .entry)) (now (d .entry))) c ⌝ }
@@ -209,11 +209,11 @@ fn mate(w: &[u32], d: &[f64], m: usize, n: usize, b: u32, c: u32) -> usize
 
 // Edge q takes up edge f, whose difference is x.
 fn absorb(w: &mut [u32], d: &mut [f64], m: usize, n: usize, q: usize, f: usize, x: f64)
-    requires { ⌜ Room m n (now w) (now d) ⌝ }
+    requires { ⌜ HoldsTables m n (now w) (now d) ⌝ }
     requires { ⌜ Sound m n (view m n (now w) (now d)) ⌝ }
-    requires { ⌜ Apart m q f ⌝ }
+    requires { ⌜ OtherEdge m q f ⌝ }
     requires { ⌜ T (fits binary32 x) ⌝ }
-    ensures { λ _. ⌜ Does m n (now (w .exit)) (now (d .exit)) (absorbAt (view m n (now (w .entry)) (now (d .entry))) q f x) ⌝ }
+    ensures { λ _. ⌜ LeavesTables m n (now (w .exit)) (now (d .exit)) (absorbAt (view m n (now (w .entry)) (now (d .entry))) q f x) ⌝ }
 {
     let y = d[q];
     let z = plus(y, x);
@@ -225,9 +225,9 @@ fn absorb(w: &mut [u32], d: &mut [f64], m: usize, n: usize, q: usize, f: usize, 
 
 // Edge f becomes the base's edge to c.
 fn attach(w: &mut [u32], d: &mut [f64], m: usize, n: usize, b: u32, f: usize, c: u32, x: f64)
-    requires { ⌜ Room m n (now w) (now d) ⌝ }
+    requires { ⌜ HoldsTables m n (now w) (now d) ⌝ }
     requires { ⌜ f < m ⌝ }
-    ensures { λ _. ⌜ Does m n (now (w .exit)) (now (d .exit)) (attachAt b (view m n (now (w .entry)) (now (d .entry))) f c x) ⌝ }
+    ensures { λ _. ⌜ LeavesTables m n (now (w .exit)) (now (d .exit)) (attachAt b (view m n (now (w .entry)) (now (d .entry))) f c x) ⌝ }
 {
     w[3 * m + f] = b;
     w[4 * m + f] = c;
@@ -236,11 +236,11 @@ fn attach(w: &mut [u32], d: &mut [f64], m: usize, n: usize, b: u32, f: usize, c:
 
 // Edge f, of the moved node, becomes the base's edge to c, or goes into the one that the base has.
 fn join_edge(w: &mut [u32], d: &mut [f64], m: usize, n: usize, b: u32, f: usize, c: u32, x: f64)
-    requires { ⌜ Room m n (now w) (now d) ⌝ }
+    requires { ⌜ HoldsTables m n (now w) (now d) ⌝ }
     requires { ⌜ Sound m n (view m n (now w) (now d)) ⌝ }
     requires { ⌜ Joins m n b (view m n (now w) (now d)) f c ⌝ }
     requires { ⌜ T (fits binary32 x) ⌝ }
-    ensures { λ _. ⌜ Does m n (now (w .exit)) (now (d .exit)) (joinEdge m b (view m n (now (w .entry)) (now (d .entry))) f c x) ⌝ }
+    ensures { λ _. ⌜ LeavesTables m n (now (w .exit)) (now (d .exit)) (joinEdge m b (view m n (now (w .entry)) (now (d .entry))) f c x) ⌝ }
 {
     let q = mate(w, d, m, n, b, c);
     if q < m {
@@ -253,11 +253,11 @@ fn join_edge(w: &mut [u32], d: &mut [f64], m: usize, n: usize, b: u32, f: usize,
 
 // Edge f, if it is live and moved node v's, goes to base b.
 fn moved_edge(w: &mut [u32], d: &mut [f64], m: usize, n: usize, b: u32, v: u32, g: u32, f: usize)
-    requires { ⌜ Room m n (now w) (now d) ⌝ }
+    requires { ⌜ HoldsTables m n (now w) (now d) ⌝ }
     requires { ⌜ Sound m n (view m n (now w) (now d)) ⌝ }
     requires { ⌜ Gains n b v g ⌝ }
     requires { ⌜ f < m ⌝ }
-    ensures { λ _. ⌜ Does m n (now (w .exit)) (now (d .exit)) (movedEdge m b v g (view m n (now (w .entry)) (now (d .entry))) f) ⌝ }
+    ensures { λ _. ⌜ LeavesTables m n (now (w .exit)) (now (d .exit)) (movedEdge m b v g (view m n (now (w .entry)) (now (d .entry))) f) ⌝ }
 {
     let t = w[f];
     if t == 0 {
@@ -280,10 +280,10 @@ fn moved_edge(w: &mut [u32], d: &mut [f64], m: usize, n: usize, b: u32, v: u32, 
 
 // The same of any slot's edge number: edge f is first stored as it stands; m and above are headers, and nothing is done.
 fn take_edge(w: &mut [u32], d: &mut [f64], m: usize, n: usize, b: u32, v: u32, g: u32, f: usize)
-    requires { ⌜ Room m n (now w) (now d) ⌝ }
+    requires { ⌜ HoldsTables m n (now w) (now d) ⌝ }
     requires { ⌜ Sound m n (view m n (now w) (now d)) ⌝ }
     requires { ⌜ Gains n b v g ⌝ }
-    ensures { λ _. ⌜ Does m n (now (w .exit)) (now (d .exit)) (takeEdge m b v g (view m n (now (w .entry)) (now (d .entry))) f) ⌝ }
+    ensures { λ _. ⌜ LeavesTables m n (now (w .exit)) (now (d .exit)) (takeEdge m b v g (view m n (now (w .entry)) (now (d .entry))) f) ⌝ }
 {
     if f >= m {
         return;
@@ -294,10 +294,10 @@ fn take_edge(w: &mut [u32], d: &mut [f64], m: usize, n: usize, b: u32, v: u32, g
 
 // All of v's edges go to b.
 fn walk_moved(w: &mut [u32], d: &mut [f64], m: usize, n: usize, b: u32, v: u32, g: u32)
-    requires { ⌜ Room m n (now w) (now d) ⌝ }
+    requires { ⌜ HoldsTables m n (now w) (now d) ⌝ }
     requires { ⌜ Sound m n (view m n (now w) (now d)) ⌝ }
     requires { ⌜ Gains n b v g ⌝ }
-    ensures { λ _. ⌜ Does m n (now (w .exit)) (now (d .exit)) (movedAll m b v g (view m n (now (w .entry)) (now (d .entry)))) ⌝ }
+    ensures { λ _. ⌜ LeavesTables m n (now (w .exit)) (now (d .exit)) (movedAll m b v g (view m n (now (w .entry)) (now (d .entry)))) ⌝ }
 {
     let l = w[7 * m + 4 * n + v as usize] as usize;
     let mut x = w[5 * m + (2 * m + v as usize)];
@@ -312,7 +312,7 @@ fn walk_moved(w: &mut [u32], d: &mut [f64], m: usize, n: usize, b: u32, v: u32, 
 
 // The counts of v's regions gain g - 1000; false where one of them leaves -1000 to 1000.
 fn walk_raise(w: &mut [u32], d: &mut [f64], m: usize, n: usize, v: u32, g: u32) -> bool
-    requires { ⌜ Room m n (now w) (now d) ⌝ }
+    requires { ⌜ HoldsTables m n (now w) (now d) ⌝ }
     requires { ⌜ Sound m n (view m n (now w) (now d)) ⌝ }
     requires { ⌜ (v < n) × (g ≤ 2000) ⌝ }
     ensures { λ r. ⌜ Raised m n (now (w .exit)) (now (d .exit)) (walkRaise (getD (view m n (now (w .entry)) (now (d .entry)) .at rlen) v 0) g (view m n (now (w .entry)) (now (d .entry))) v) r ⌝ }
@@ -337,9 +337,9 @@ fn walk_raise(w: &mut [u32], d: &mut [f64], m: usize, n: usize, v: u32, g: u32) 
 
 // v's chains are joined to b's: each of the two first links becomes the other's.
 fn splice(w: &mut [u32], d: &mut [f64], m: usize, n: usize, b: u32, v: u32)
-    requires { ⌜ Room m n (now w) (now d) ⌝ }
+    requires { ⌜ HoldsTables m n (now w) (now d) ⌝ }
     requires { ⌜ (b < n) × (v < n) ⌝ }
-    ensures { λ _. ⌜ Does m n (now (w .exit)) (now (d .exit)) (splice m b v (view m n (now (w .entry)) (now (d .entry)))) ⌝ }
+    ensures { λ _. ⌜ LeavesTables m n (now (w .exit)) (now (d .exit)) (splice m b v (view m n (now (w .entry)) (now (d .entry)))) ⌝ }
 {
     let eb = w[5 * m + (2 * m + b as usize)];
     let ev = w[5 * m + (2 * m + v as usize)];
@@ -353,9 +353,9 @@ fn splice(w: &mut [u32], d: &mut [f64], m: usize, n: usize, b: u32, v: u32)
 
 // The base's size and the lengths of its chains grow by v's.
 fn grow(w: &mut [u32], d: &mut [f64], m: usize, n: usize, b: u32, v: u32)
-    requires { ⌜ Room m n (now w) (now d) ⌝ }
+    requires { ⌜ HoldsTables m n (now w) (now d) ⌝ }
     requires { ⌜ Fit n b v (view m n (now w) (now d)) ⌝ }
-    ensures { λ _. ⌜ Does m n (now (w .exit)) (now (d .exit)) (grow b v (view m n (now (w .entry)) (now (d .entry)))) ⌝ }
+    ensures { λ _. ⌜ LeavesTables m n (now (w .exit)) (now (d .exit)) (grow b v (view m n (now (w .entry)) (now (d .entry)))) ⌝ }
 {
     let s = w[7 * m + 3 * n + b as usize] + w[7 * m + 3 * n + v as usize];
     let e = w[7 * m + 4 * n + b as usize] + w[7 * m + 4 * n + v as usize];
@@ -367,20 +367,20 @@ fn grow(w: &mut [u32], d: &mut [f64], m: usize, n: usize, b: u32, v: u32)
 
 // Node b is the base of merge number k.
 fn stamp(w: &mut [u32], d: &mut [f64], m: usize, n: usize, b: u32, k: u32)
-    requires { ⌜ Room m n (now w) (now d) ⌝ }
+    requires { ⌜ HoldsTables m n (now w) (now d) ⌝ }
     requires { ⌜ b < n ⌝ }
-    ensures { λ _. ⌜ Does m n (now (w .exit)) (now (d .exit)) (store stamp (view m n (now (w .entry)) (now (d .entry))) b k) ⌝ }
+    ensures { λ _. ⌜ LeavesTables m n (now (w .exit)) (now (d .exit)) (store stamp (view m n (now (w .entry)) (now (d .entry))) b k) ⌝ }
 {
     w[7 * m + 2 * n + b as usize] = k;
 }
 
 // v's edges and regions go to b, the spent slots of its chain dropped before.
 fn hand(w: &mut [u32], d: &mut [f64], m: usize, n: usize, b: u32, v: u32, g: u32)
-    requires { ⌜ Room m n (now w) (now d) ⌝ }
+    requires { ⌜ HoldsTables m n (now w) (now d) ⌝ }
     requires { ⌜ Sound m n (view m n (now w) (now d)) ⌝ }
     requires { ⌜ Gains n b v g ⌝ }
     requires { ⌜ Fit n b v (view m n (now w) (now d)) ⌝ }
-    ensures { λ _. ⌜ Does m n (now (w .exit)) (now (d .exit)) (handed m b v g (view m n (now (w .entry)) (now (d .entry)))) ⌝ }
+    ensures { λ _. ⌜ LeavesTables m n (now (w .exit)) (now (d .exit)) (handed m b v g (view m n (now (w .entry)) (now (d .entry)))) ⌝ }
 {
     prune(w, d, m, n, v);
     walk_moved(w, d, m, n, b, v, g);
@@ -400,7 +400,7 @@ pub fn merge(
     g: u32,
     k: u32,
 ) -> bool
-    requires { ⌜ Room m n (now w) (now d) ⌝ }
+    requires { ⌜ HoldsTables m n (now w) (now d) ⌝ }
     requires { ⌜ Sound m n (view m n (now w) (now d)) ⌝ }
     requires { ⌜ Gains n b v g ⌝ }
     requires { ⌜ Fit n b v (view m n (now w) (now d)) ⌝ }

@@ -9,7 +9,7 @@ use lib.IntN.{ℤ, _+ℤ_}
 use lib.ListN.{length, getD, set, length-set}
 use lib.Seq.{getD-set-same, getD-set-other}
 use Rattle.network.specs.Network.{Region, gather, raised, bounded}
-use Rattle.merge.specs.Inside.Mem.{Mem, Sound, store}
+use Rattle.merge.specs.Inside.Tables.{Tables, Sound, store}
 use Rattle.merge.specs.Inside.Table.{enext, rnext, stamp, size, elen, rlen, count}
 use Rattle.merge.specs.Inside.Steps.{turned, splice, grow}
 use Rattle.network.specs.Inside.Net.{edgeOf, edgeNow}
@@ -50,8 +50,8 @@ chains-len N size own pos len len' C e = record {
 }
 
 -- ---- the tables after
-module _ (m b v : ℕ) (s : Mem) where
-  abbrev pub after : Mem
+module _ (m b v : ℕ) (s : Tables) where
+  abbrev pub after : Tables
   after = grow b v (splice m b v s)
 
   pub after-edges : (j : ℕ) → edgeNow after j ≡ edgeNow s j

@@ -13,9 +13,9 @@ use Rattle.lists.proofs.SeqLaws.{upto-length}
 use Rattle.lists.proofs.SegLaws.{length-put, getD-put-below, seg-put-same, seg-put-out}
 use Rattle.memory.proofs.TreeLaws.{played-like, tree-set}
 use Rattle.memory.specs.Inside.Layout.{tableWords}
-use Rattle.merge.specs.Inside.Mem.{Mem, view, Room, store}
+use Rattle.merge.specs.Inside.Tables.{Tables, view, HoldsTables, store}
 use Rattle.merge.specs.Inside.Table.{Table, from, long, is, first, second, enext, rnext, stamp, elen, rlen, count}
-use Rattle.merge.specs.Inside.Does.{Does}
+use Rattle.merge.specs.Inside.Leaves.{LeavesTables}
 use Rattle.network.specs.Inside.Begin.{slots, regionsFrom, linkAt, linkEdge, linkFrom, Linkable}
 use Rattle.merge.proofs.TableLaws.{same-table, apart}
 use Rattle.merge.proofs.View.{read, write}
@@ -24,17 +24,17 @@ use Rattle.merge.proofs.SoundSet.{eq-or-ne}
 use lib.Ieee.{Float}
 
 -- ---- loops that go on with a table function
-pub record Going (m n : ℕ) (rest : ℕ → Mem → ℕ → Mem) (w₀ : List ℕ) (w : List ℕ) (d : List Float) (l i : ℕ) (goal : Mem) : Type 0 where
-  pub room : Room m n w d
+pub record Going (m n : ℕ) (rest : ℕ → Tables → ℕ → Tables) (w₀ : List ℕ) (w : List ℕ) (d : List Float) (l i : ℕ) (goal : Tables) : Type 0 where
+  pub room : HoldsTables m n w d
   pub most : i ≤ l
   pub left : rest (l - i) (view m n w d) i ≡ goal
   pub same-w : length w ≡ length w₀
 
-pub going-start : (m n : ℕ) (rest : ℕ → Mem → ℕ → Mem) (w : List ℕ) (d : List Float) (l : ℕ) → Room m n w d → Going m n rest w w d l 0 (rest l (view m n w d) 0)
+pub going-start : (m n : ℕ) (rest : ℕ → Tables → ℕ → Tables) (w : List ℕ) (d : List Float) (l : ℕ) → HoldsTables m n w d → Going m n rest w w d l 0 (rest l (view m n w d) 0)
 going-start m n rest w d l r = let z : l - 0 ≡ l = omega arith in record { room = r; most = omega arith; left = ap (λ (x : ℕ). rest x (view m n w d) 0) z; same-w = refl }
 
 -- the slots numbered
-pub slots-does : (m n : ℕ) (w v : List ℕ) (d : List Float) → Room m n w d → v ≡ put w (5 * m) (upto (2 * m + n) 0) → Does m n v d (slots m n (view m n w d))
+pub slots-does : (m n : ℕ) (w v : List ℕ) (d : List Float) → HoldsTables m n w d → v ≡ put w (5 * m) (upto (2 * m + n) 0) → LeavesTables m n v d (slots m n (view m n w d))
 unfolding view slots
 slots-does m n w v d r e =
     let l : length (upto (2 * m + n) 0) ≡ 2 * m + n = upto-length (2 * m + n) 0 in
@@ -53,7 +53,7 @@ slots-does m n w v d r e =
 abbrev stored : ℕ → ℕ → List ℕ → ℕ → List ℕ
 stored m n w x = set (set (set (set (set w (7 * m + n + x) x) (7 * m + 5 * n + x) 1) (7 * m + 4 * n + x) 1) (7 * m + 6 * n + x) 1000) (7 * m + 2 * n + x) 0
 
-pub regions-turn : (m n : ℕ) (w₀ w : List ℕ) (d : List Float) (x : ℕ) (goal : Mem) → Going m n regionsFrom w₀ w d n x goal → x < n → Going m n regionsFrom w₀ (stored m n w x) d n (x + 1) goal
+pub regions-turn : (m n : ℕ) (w₀ w : List ℕ) (d : List Float) (x : ℕ) (goal : Tables) → Going m n regionsFrom w₀ w d n x goal → x < n → Going m n regionsFrom w₀ (stored m n w x) d n (x + 1) goal
 unfolding regionsFrom
 regions-turn m n w₀ w d x goal k lt =
     let z : n - x ≡ suc (n - (x + 1)) = omega arith in
@@ -72,23 +72,23 @@ regions-turn m n w₀ w d x goal k lt =
       room = room-of m n w w₅ d d (k .room) (l₅ ∙ l₄ ∙ l₃ ∙ l₂ ∙ l₁) refl
           (tree-set m w₄ (7 * m + 2 * n + x) 0 (omega arith) (tree-set m w₃ (7 * m + 6 * n + x) 1000 (omega arith) (tree-set m w₂ (7 * m + 4 * n + x) 1 (omega arith) (tree-set m w₁ (7 * m + 5 * n + x) 1 (omega arith) (tree-set m w (7 * m + n + x) x (omega arith) (k .room .tree))))));
       most = omega arith;
-      left = ap (λ (s : Mem). regionsFrom (n - (x + 1)) s (x + 1))
+      left = ap (λ (s : Tables). regionsFrom (n - (x + 1)) s (x + 1))
           (write stamp m n w₄ d x 0 lt (omega arith)
-          ∙ ap (λ (s : Mem). store stamp s x 0) (write count m n w₃ d x 1000 lt (omega arith)
-          ∙ ap (λ (s : Mem). store count s x 1000) (write elen m n w₂ d x 1 lt (omega arith)
-          ∙ ap (λ (s : Mem). store elen s x 1) (write rlen m n w₁ d x 1 lt (omega arith)
-          ∙ ap (λ (s : Mem). store rlen s x 1) (write rnext m n w d x x lt l₀)))))
+          ∙ ap (λ (s : Tables). store stamp s x 0) (write count m n w₃ d x 1000 lt (omega arith)
+          ∙ ap (λ (s : Tables). store count s x 1000) (write elen m n w₂ d x 1 lt (omega arith)
+          ∙ ap (λ (s : Tables). store elen s x 1) (write rlen m n w₁ d x 1 lt (omega arith)
+          ∙ ap (λ (s : Tables). store rlen s x 1) (write rnext m n w d x x lt l₀)))))
           ∙ ap (λ (y : ℕ). regionsFrom y (view m n w d) x) (sym z) ∙ k .left;
       same-w = l₅ ∙ l₄ ∙ l₃ ∙ l₂ ∙ l₁ ∙ k .same-w;
     }
 
-pub regions-end : (m n : ℕ) (w₀ w : List ℕ) (d : List Float) (x : ℕ) (goal : Mem) → Going m n regionsFrom w₀ w d n x goal → n ≤ x → Does m n w d goal
+pub regions-end : (m n : ℕ) (w₀ w : List ℕ) (d : List Float) (x : ℕ) (goal : Tables) → Going m n regionsFrom w₀ w d n x goal → n ≤ x → LeavesTables m n w d goal
 unfolding regionsFrom
 regions-end m n w₀ w d x goal k h = let z : n - x ≡ 0 = omega arith in record { tables = ap (λ (y : ℕ). regionsFrom y (view m n w d) x) (sym z) ∙ k .left; tree = k .room .tree }
 
 -- ---- link
-pub link-does : (m n : ℕ) (w : List ℕ) (d : List Float) → Room m n w d → (a i : ℕ) → a < n → i < 2 * m
-    → Does m n (set (set (set w (5 * m + (2 * m + a)) (getD w (5 * m + i) 0)) (5 * m + i) (getD w (5 * m + (2 * m + a)) 0)) (7 * m + 4 * n + a) (getD w (7 * m + 4 * n + a) 0 + 1)) d (linkAt m a i (view m n w d))
+pub link-does : (m n : ℕ) (w : List ℕ) (d : List Float) → HoldsTables m n w d → (a i : ℕ) → a < n → i < 2 * m
+    → LeavesTables m n (set (set (set w (5 * m + (2 * m + a)) (getD w (5 * m + i) 0)) (5 * m + i) (getD w (5 * m + (2 * m + a)) 0)) (7 * m + 4 * n + a) (getD w (7 * m + 4 * n + a) 0 + 1)) d (linkAt m a i (view m n w d))
 unfolding linkAt
 link-does m n w d r a i ha hi =
     let t : ℕ = getD w (5 * m + i) 0 in
@@ -102,12 +102,12 @@ link-does m n w d r a i ha hi =
     record {
       tables = rw (read enext m n w d i (omega arith), read enext m n w d (2 * m + a) (omega arith), read elen m n w d a ha)
           (write elen m n w₂ d a (l + 1) ha (omega arith)
-          ∙ ap (λ (s : Mem). store elen s a (l + 1)) (write enext m n w₁ d i h (omega arith) (omega arith)
-          ∙ ap (λ (s : Mem). store enext s i h) (write enext m n w d (2 * m + a) t (omega arith) l₀)));
+          ∙ ap (λ (s : Tables). store elen s a (l + 1)) (write enext m n w₁ d i h (omega arith) (omega arith)
+          ∙ ap (λ (s : Tables). store enext s i h) (write enext m n w d (2 * m + a) t (omega arith) l₀)));
       tree = tree-set m w₂ (7 * m + 4 * n + a) (l + 1) (omega arith) (tree-set m w₁ (5 * m + i) h (omega arith) (tree-set m w (5 * m + (2 * m + a)) t (omega arith) (r .tree)));
     }
 
-link-len : (m a i : ℕ) (s : Mem) (x : ℕ) → getD (linkAt m a i s .at elen) x 0 ≤ getD (s .at elen) x 0 + 1
+link-len : (m a i : ℕ) (s : Tables) (x : ℕ) → getD (linkAt m a i s .at elen) x 0 ≤ getD (s .at elen) x 0 + 1
 unfolding linkAt store
 link-len m a i s x = ⊎-elim
     (λ e. ⊎-elim
@@ -118,24 +118,24 @@ link-len m a i s x = ⊎-elim
     (λ e. let q : getD (set (s .at elen) a (getD (s .at elen) a 0 + 1)) x 0 ≡ getD (s .at elen) x 0 = getD-set-other (s .at elen) a x (getD (s .at elen) a 0 + 1) 0 e in omega arith)
     (eq-or-ne x a)
 
-link-ends : (m a i : ℕ) (s : Mem) → (linkAt m a i s .at first ≡ s .at first) × (linkAt m a i s .at second ≡ s .at second)
+link-ends : (m a i : ℕ) (s : Tables) → (linkAt m a i s .at first ≡ s .at first) × (linkAt m a i s .at second ≡ s .at second)
 unfolding linkAt store
 link-ends m a i s = (refl, refl)
 
 -- ---- link_all
-pub record Linking (m n : ℕ) (w₀ : List ℕ) (d₀ : List Float) (w : List ℕ) (d : List Float) (j : ℕ) (goal : Mem) : Type 0 where
-  pub room : Room m n w d
+pub record Linking (m n : ℕ) (w₀ : List ℕ) (d₀ : List Float) (w : List ℕ) (d : List Float) (j : ℕ) (goal : Tables) : Type 0 where
+  pub room : HoldsTables m n w d
   pub able : Linkable m n j (view m n w d)
   pub most : j ≤ m
   pub left : linkFrom (m - j) m (view m n w d) j ≡ goal
   pub same-w : length w ≡ length w₀
   pub same-d : length d ≡ length d₀
 
-pub linking-start : (m n : ℕ) (w : List ℕ) (d : List Float) → Room m n w d → Linkable m n 0 (view m n w d) → Linking m n w d w d 0 (linkFrom m m (view m n w d) 0)
+pub linking-start : (m n : ℕ) (w : List ℕ) (d : List Float) → HoldsTables m n w d → Linkable m n 0 (view m n w d) → Linking m n w d w d 0 (linkFrom m m (view m n w d) 0)
 linking-start m n w d r a = let z : m - 0 ≡ m = omega arith in record { room = r; able = a; most = omega arith; left = ap (λ (x : ℕ). linkFrom x m (view m n w d) 0) z; same-w = refl; same-d = refl }
 
-module _ (m n : ℕ) (w₀ : List ℕ) (d₀ : List Float) (w : List ℕ) (d : List Float) (j : ℕ) (goal : Mem) (k : Linking m n w₀ d₀ w d j goal) (lt : j < m) where
-  abbrev s : Mem
+module _ (m n : ℕ) (w₀ : List ℕ) (d₀ : List Float) (w : List ℕ) (d : List Float) (j : ℕ) (goal : Tables) (k : Linking m n w₀ d₀ w d j goal) (lt : j < m) where
+  abbrev s : Tables
   s = view m n w d
 
   abbrev a : ℕ
@@ -150,23 +150,23 @@ module _ (m n : ℕ) (w₀ : List ℕ) (d₀ : List Float) (w : List ℕ) (d : L
   second-is : getD (s .at second) j 0 ≡ b
   second-is = read second m n w d j lt
 
-  pub link-one : Room m n w d × (((a < n) × (2 * j < 2 * m)) × (getD (s .at elen) a 0 + 1 < 2 ^ 32))
+  pub link-one : HoldsTables m n w d × (((a < n) × (2 * j < 2 * m)) × (getD (s .at elen) a 0 + 1 < 2 ^ 32))
   link-one =
       let ha : a < n = omega (arith, first-is, k .able .first-in j lt) in
       (k .room, ((ha, omega arith), omega (arith, k .able .lengths a ha, k .room .small)))
 
-  module _ (w₁ : List ℕ) (d₁ : List Float) (lw₁ : length w₁ ≡ length w) (ld₁ : length d₁ ≡ length d) (D₁ : Does m n w₁ d₁ (linkAt m a (2 * j) s)) where
-    pub link-two : Room m n w₁ d₁ × (((b < n) × (2 * j + 1 < 2 * m)) × (getD (view m n w₁ d₁ .at elen) b 0 + 1 < 2 ^ 32))
+  module _ (w₁ : List ℕ) (d₁ : List Float) (lw₁ : length w₁ ≡ length w) (ld₁ : length d₁ ≡ length d) (D₁ : LeavesTables m n w₁ d₁ (linkAt m a (2 * j) s)) where
+    pub link-two : HoldsTables m n w₁ d₁ × (((b < n) × (2 * j + 1 < 2 * m)) × (getD (view m n w₁ d₁ .at elen) b 0 + 1 < 2 ^ 32))
     link-two =
         let hb : b < n = omega (arith, second-is, k .able .second-in j lt) in
-        let e : getD (view m n w₁ d₁ .at elen) b 0 ≡ getD (linkAt m a (2 * j) s .at elen) b 0 = ap (λ (u : Mem). getD (u .at elen) b 0) (D₁ .tables) in
+        let e : getD (view m n w₁ d₁ .at elen) b 0 ≡ getD (linkAt m a (2 * j) s .at elen) b 0 = ap (λ (u : Tables). getD (u .at elen) b 0) (D₁ .tables) in
         (room-of m n w w₁ d d₁ (k .room) lw₁ ld₁ (D₁ .tree), ((hb, omega arith), omega (arith, link-len m a (2 * j) s b, k .able .lengths b hb, k .room .small)))
 
-    pub link-turn : (w₂ : List ℕ) (d₂ : List Float) → length w₂ ≡ length w₁ → length d₂ ≡ length d₁ → Does m n w₂ d₂ (linkAt m b (2 * j + 1) (view m n w₁ d₁)) → Linking m n w₀ d₀ w₂ d₂ (j + 1) goal
+    pub link-turn : (w₂ : List ℕ) (d₂ : List Float) → length w₂ ≡ length w₁ → length d₂ ≡ length d₁ → LeavesTables m n w₂ d₂ (linkAt m b (2 * j + 1) (view m n w₁ d₁)) → Linking m n w₀ d₀ w₂ d₂ (j + 1) goal
     unfolding linkFrom linkEdge
     link-turn w₂ d₂ lw₂ ld₂ D₂ =
-        let s₁ : Mem = linkAt m a (2 * j) s in
-        let s₂ : Mem = linkAt m b (2 * j + 1) s₁ in
+        let s₁ : Tables = linkAt m a (2 * j) s in
+        let s₂ : Tables = linkAt m b (2 * j + 1) s₁ in
         let e : view m n w₂ d₂ ≡ s₂ = D₂ .tables ∙ ap (linkAt m b (2 * j + 1)) (D₁ .tables) in
         let z : m - j ≡ suc (m - (j + 1)) = omega arith in
         record {
@@ -177,12 +177,12 @@ module _ (m n : ℕ) (w₀ : List ℕ) (d₀ : List Float) (w : List ℕ) (d : L
             lengths = λ x h. omega (arith, link-len m b (2 * j + 1) s₁ x, link-len m a (2 * j) s x, k .able .lengths x h);
           });
           most = omega arith;
-          left = ap (λ (u : Mem). linkFrom (m - (j + 1)) m u (j + 1)) (e ∙ ap (λ (y : ℕ). linkAt m y (2 * j + 1) s₁) (sym second-is) ∙ ap (λ (y : ℕ). linkAt m (getD (s .at second) j 0) (2 * j + 1) (linkAt m y (2 * j) s)) (sym first-is))
+          left = ap (λ (u : Tables). linkFrom (m - (j + 1)) m u (j + 1)) (e ∙ ap (λ (y : ℕ). linkAt m y (2 * j + 1) s₁) (sym second-is) ∙ ap (λ (y : ℕ). linkAt m (getD (s .at second) j 0) (2 * j + 1) (linkAt m y (2 * j) s)) (sym first-is))
               ∙ ap (λ (y : ℕ). linkFrom y m s j) (sym z) ∙ k .left;
           same-w = lw₂ ∙ lw₁ ∙ k .same-w;
           same-d = ld₂ ∙ ld₁ ∙ k .same-d;
         }
 
-pub linking-end : (m n : ℕ) (w₀ : List ℕ) (d₀ : List Float) (w : List ℕ) (d : List Float) (j : ℕ) (goal : Mem) → Linking m n w₀ d₀ w d j goal → m ≤ j → Does m n w d goal
+pub linking-end : (m n : ℕ) (w₀ : List ℕ) (d₀ : List Float) (w : List ℕ) (d : List Float) (j : ℕ) (goal : Tables) → Linking m n w₀ d₀ w d j goal → m ≤ j → LeavesTables m n w d goal
 unfolding linkFrom
 linking-end m n w₀ d₀ w d j goal k h = let z : m - j ≡ 0 = omega arith in record { tables = ap (λ (y : ℕ). linkFrom y m (view m n w d) j) (sym z) ∙ k .left; tree = k .room .tree }

@@ -7,14 +7,14 @@ use Prim.Native.Nat.{ℕ, suc, _+_, _*_, _-_, _/_, _≤_, _<_}
 use native.Mathlib.Omega.{arith}
 use lib.ListN.{getD}
 use Rattle.network.specs.Network.{Edge}
-use Rattle.merge.specs.Inside.Mem.{Mem}
+use Rattle.merge.specs.Inside.Tables.{Tables}
 use Rattle.merge.specs.Inside.Table.{enext, elen}
 use Rattle.merge.specs.Inside.Chain.{cur, Chains}
 use Rattle.network.specs.Inside.Rep.{Circled, Ends}
 use Rattle.network.proofs.Circles.{later}
 
 -- the same chains in other tables
-pub circled-by : (m n : ℕ) (node : ℕ → ℕ) (E : ℕ → Edge) (s s' : Mem) (o q l : ℕ → ℕ) → s' .at enext ≡ s .at enext → s' .at elen ≡ s .at elen → Circled m n node E s o q l → Circled m n node E s' o q l
+pub circled-by : (m n : ℕ) (node : ℕ → ℕ) (E : ℕ → Edge) (s s' : Tables) (o q l : ℕ → ℕ) → s' .at enext ≡ s .at enext → s' .at elen ≡ s .at elen → Circled m n node E s o q l → Circled m n node E s' o q l
 circled-by m n node E s s' o q l e f C = record {
   echains = subst (λ (N : List ℕ). Chains N (2 * m + n) o q l) (sym e) (C .echains);
   header = C .header;
@@ -23,7 +23,7 @@ circled-by m n node E s s' o q l e f C = record {
 }
 
 -- fewer live edges
-pub circled-less : (m n : ℕ) (node : ℕ → ℕ) (E K : ℕ → Edge) (s : Mem) (o q l : ℕ → ℕ) → ((j : ℕ) → K j .live ≡ true → (E j .live ≡ true) × (K j ≡ E j)) → Circled m n node E s o q l → Circled m n node K s o q l
+pub circled-less : (m n : ℕ) (node : ℕ → ℕ) (E K : ℕ → Edge) (s : Tables) (o q l : ℕ → ℕ) → ((j : ℕ) → K j .live ≡ true → (E j .live ≡ true) × (K j ≡ E j)) → Circled m n node E s o q l → Circled m n node K s o q l
 circled-less m n node E K s o q l w C = record {
   echains = C .echains;
   header = C .header;
@@ -54,7 +54,7 @@ at-end m o j e x h = go
     go (inr p) (inr q) = even (p .0 ∙ ap (λ (y : ℕ). 2 * m + y) q)
 
 -- a slot of node x's chain is met on the walk along it
-pub met : (m n : ℕ) (node : ℕ → ℕ) (K : ℕ → Edge) (s : Mem) (o q l : ℕ → ℕ) → Circled m n node K s o q l → (j x : ℕ) → x < n → node x ≡ x → At m o j x
+pub met : (m n : ℕ) (node : ℕ → ℕ) (K : ℕ → Edge) (s : Tables) (o q l : ℕ → ℕ) → Circled m n node K s o q l → (j x : ℕ) → x < n → node x ≡ x → At m o j x
     → (i : ℕ) × (i < getD (s .at elen) x 0 - 1) × (cur (s .at enext) (getD (s .at enext) (2 * m + x) 0) i / 2 ≡ j)
 unfolding cur
 met m n node K s o q l C j x h w a =

@@ -10,7 +10,7 @@ use lib.ListN.{getD, set, length-set}
 use lib.Seq.{getD-set-same, getD-set-other}
 use borrow.Author.Tests.{lt-ltb, eqb-true}
 use Rattle.network.specs.Network.{Edge}
-use Rattle.merge.specs.Inside.Mem.{Mem, Sound, store}
+use Rattle.merge.specs.Inside.Tables.{Tables, Sound, store}
 use Rattle.merge.specs.Inside.Table.{weight, enext, elen}
 use Rattle.merge.specs.Inside.Steps.{spent, dropAt, passed, kept, along, pruned}
 use Rattle.merge.specs.Inside.Chain.{cur, Chains, own-split, pos-split, len-split}
@@ -22,12 +22,12 @@ use Rattle.merge.proofs.Passing.{sound-drop}
 use Rattle.merge.proofs.Frames.{Same, same-refl, same-drop}
 
 -- a slot that is spent
-spent-dead : (m : ℕ) (s : Mem) (x : ℕ) → spent m s x ≡ true → x / 2 < m → getD (s .at weight) (x / 2) 0 ≡ 0
+spent-dead : (m : ℕ) (s : Tables) (x : ℕ) → spent m s x ≡ true → x / 2 < m → getD (s .at weight) (x / 2) 0 ≡ 0
 unfolding spent
 spent-dead m s x e h = eqb-true (getD (s .at weight) (x / 2) 0) 0 (sym (ap (λ (t : Bool). cond t (eqb (getD (s .at weight) (x / 2) 0) 0) true) (lt-ltb (x / 2) m h)) ∙ e)
 
 -- the chains after it, and all other tables as before
-pub record Pruned (m n : ℕ) (node : ℕ → ℕ) (K : ℕ → Edge) (s t : Mem) : Type 0 where
+pub record Pruned (m n : ℕ) (node : ℕ → ℕ) (K : ℕ → Edge) (s t : Tables) : Type 0 where
   pub o : ℕ → ℕ
   pub q : ℕ → ℕ
   pub l : ℕ → ℕ
@@ -39,14 +39,14 @@ module _ (m n : ℕ) (node : ℕ → ℕ) (K : ℕ → Edge) (b : ℕ) (hb : b <
   abbrev h : ℕ
   h = 2 * m + b
 
-  drop-next : (s : Mem) → Sound m n s → (p x : ℕ) → p < 2 * m + n → (p ≡ x → ⊥) → getD (dropAt b s p x .at enext) p 0 ≡ getD (s .at enext) x 0
+  drop-next : (s : Tables) → Sound m n s → (p x : ℕ) → p < 2 * m + n → (p ≡ x → ⊥) → getD (dropAt b s p x .at enext) p 0 ≡ getD (s .at enext) x 0
   unfolding dropAt store
   drop-next s sound p x hp px =
       let t : ℕ = getD (s .at enext) x 0 in
       getD-set-other (set (s .at enext) p t) x p x 0 px ∙ getD-set-same (s .at enext) p t 0 (omega (arith, sound .lengths enext))
 
   -- ---- one slot is dropped
-  module _ (s : Mem) (sound : Sound m n s) (o q l : ℕ → ℕ) (C : Circled m n node K s o q l) (p x : ℕ) (hp : p < 2 * m + n) (op : o p ≡ h) (next : getD (s .at enext) p 0 ≡ x) (not-led : x ≡ h → ⊥)
+  module _ (s : Tables) (sound : Sound m n s) (o q l : ℕ → ℕ) (C : Circled m n node K s o q l) (p x : ℕ) (hp : p < 2 * m + n) (op : o p ≡ h) (next : getD (s .at enext) p 0 ≡ x) (not-led : x ≡ h → ⊥)
       (hx : x < 2 * m + n) (ox : o x ≡ h) (px : p ≡ x → ⊥) (far : (j : ℕ) → j < m → K j .live ≡ true → x / 2 ≡ j → ⊥) where
     abbrev N₁ : List ℕ
     N₁ = set (s .at enext) p (getD (s .at enext) x 0)
@@ -89,9 +89,9 @@ module _ (m n : ℕ) (node : ℕ → ℕ) (K : ℕ → Edge) (b : ℕ) (hb : b <
         go j hj k (inr u) = inr (slot-kept (2 * j) j hj k (omega arith) ∙ u .0, slot-kept (2 * j + 1) j hj k (omega arith) ∙ u .1)
 
   -- ---- the walk from tables s₀, whose live edges have weights
-  module _ (s₀ : Mem) (lives : (j : ℕ) → j < m → K j .live ≡ true → getD (s₀ .at weight) j 0 ≡ 0 → ⊥) where
+  module _ (s₀ : Tables) (lives : (j : ℕ) → j < m → K j .live ≡ true → getD (s₀ .at weight) j 0 ≡ 0 → ⊥) where
     -- on the way: k slots are left after p
-    record Going (s : Mem) (o q l : ℕ → ℕ) (p x k : ℕ) : Type 0 where
+    record Going (s : Tables) (o q l : ℕ → ℕ) (p x k : ℕ) : Type 0 where
       circled : Circled m n node K s o q l
       same : Same s s₀
       sound : Sound m n s
@@ -100,7 +100,7 @@ module _ (m n : ℕ) (node : ℕ → ℕ) (K : ℕ → Edge) (b : ℕ) (hb : b <
       x-is : getD (s .at enext) p 0 ≡ x
       left : suc (q p + k) ≡ l h
 
-    module _ (s : Mem) (o q l : ℕ → ℕ) (p x k : ℕ) (G : Going s o q l p x (suc k)) where
+    module _ (s : Tables) (o q l : ℕ → ℕ) (p x k : ℕ) (G : Going s o q l p x (suc k)) where
       C : Chains (s .at enext) (2 * m + n) o q l
       C = G .circled .echains
 
@@ -144,7 +144,7 @@ module _ (m n : ℕ) (node : ℕ → ℕ) (K : ℕ → Edge) (b : ℕ) (hb : b <
       stayed : Going s o q l x (getD (s .at enext) x 0) k
       stayed = record { circled = G .circled; same = G .same; sound = G .sound; p-in = hx; p-own = ox; x-is = refl; left = omega (arith, G .left, qx) }
 
-    go-on : (k : ℕ) (s : Mem) (o q l : ℕ → ℕ) (p x : ℕ) → Going s o q l p x k → Pruned m n node K s₀ (along k m b s p x)
+    go-on : (k : ℕ) (s : Tables) (o q l : ℕ → ℕ) (p x : ℕ) → Going s o q l p x k → Pruned m n node K s₀ (along k m b s p x)
     unfolding along passed kept
     go-on zero s o q l p x G = record { o = o; q = q; l = l; circled = G .circled; same = G .same; sound = G .sound }
     go-on (suc k) s o q l p x G = by (spent m s x) refl
@@ -156,7 +156,7 @@ module _ (m n : ℕ) (node : ℕ → ℕ) (K : ℕ → Edge) (b : ℕ) (hb : b <
         by true e u v = u e
         by false e u v = v
 
-pub prune-is : (m n : ℕ) (node : ℕ → ℕ) (K : ℕ → Edge) (v : ℕ) → v < n → node v ≡ v → (s : Mem) (o q l : ℕ → ℕ) → Circled m n node K s o q l → Sound m n s
+pub prune-is : (m n : ℕ) (node : ℕ → ℕ) (K : ℕ → Edge) (v : ℕ) → v < n → node v ≡ v → (s : Tables) (o q l : ℕ → ℕ) → Circled m n node K s o q l → Sound m n s
     → ((j : ℕ) → j < m → K j .live ≡ true → getD (s .at weight) j 0 ≡ 0 → ⊥) → Pruned m n node K s (pruned m v s)
 unfolding pruned
 prune-is m n node K v hv lv s o q l C sound lives =

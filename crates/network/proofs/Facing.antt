@@ -10,7 +10,7 @@ use lib.ListN.{getD}
 use lib.Seq.{getD-set-same, getD-set-other}
 use borrow.Author.Tests.{ltb-true, lt-ltb, le-ltb, eq-eqb, ne-eqb}
 use Rattle.network.specs.Network.{Edge, turn, turnIf}
-use Rattle.merge.specs.Inside.Mem.{Mem, Sound, store, diff-set}
+use Rattle.merge.specs.Inside.Tables.{Tables, Sound, store, diff-set}
 use Rattle.merge.specs.Inside.Table.{weight, first, second, stamp}
 use Rattle.merge.specs.Inside.Steps.{turnAt, turned, faceAt, absorbAt, attachAt}
 use Rattle.network.specs.Inside.Net.{edgeOf, edgeNow}
@@ -46,7 +46,7 @@ unfolding turn turnIf
 turn-no b e h = rw (ne-eqb b (e .second) (λ w. h (sym w))) refl
 
 -- ---- the edge as it stands by the edge as it is stored
-module _ (s : Mem) (j : ℕ) where
+module _ (s : Tables) (j : ℕ) where
   pub now-live : edgeNow s j .live ≡ edgeOf s j .live
   unfolding edgeNow turnIf
   now-live = refl
@@ -59,17 +59,17 @@ module _ (s : Mem) (j : ℕ) where
   unfolding edgeNow
   now-turned h = rw h refl
 
-  pub now-by : (t : Mem) → turned t j ≡ turned s j → edgeOf t j ≡ edgeOf s j → edgeNow t j ≡ edgeNow s j
+  pub now-by : (t : Tables) → turned t j ≡ turned s j → edgeOf t j ≡ edgeOf s j → edgeNow t j ≡ edgeNow s j
   unfolding edgeNow
   now-by t p q = ap (λ (b : Bool). turnIf b (edgeOf t j)) p ∙ ap (turnIf (turned s j)) q
 
 -- what the words say of an edge that stands as e
-pub record Stands (s : Mem) (j : ℕ) (e : Edge) : Type 0 where
+pub record Stands (s : Tables) (j : ℕ) (e : Edge) : Type 0 where
   pub some : getD (s .at weight) j 0 ≡ 0 → ⊥
   pub weight-is : getD (s .at weight) j 0 ≡ e .link .weight
   pub ends : ((getD (s .at first) j 0 ≡ e .first) × (getD (s .at second) j 0 ≡ e .second)) ⊎ ((getD (s .at first) j 0 ≡ e .second) × (getD (s .at second) j 0 ≡ e .first))
 
-pub stands : (s : Mem) (j : ℕ) (e : Edge) → edgeNow s j ≡ e → e .live ≡ true → Stands s j e
+pub stands : (s : Tables) (j : ℕ) (e : Edge) → edgeNow s j ≡ e → e .live ≡ true → Stands s j e
 unfolding edgeNow turnIf edgeOf
 stands s j e h l = record {
   some = live-word s j (unfold edgeOf in ap (λ (x : Edge). x .live) h ∙ l);
@@ -83,14 +83,14 @@ stands s j e h l = record {
     go false p q = inl (p, q)
 
 -- ends in range
-pub stands-in : (m n : ℕ) (s : Mem) (j : ℕ) (e : Edge) → Sound m n s → j < m → Stands s j e → (e .first < n) × (e .second < n)
+pub stands-in : (m n : ℕ) (s : Tables) (j : ℕ) (e : Edge) → Sound m n s → j < m → Stands s j e → (e .first < n) × (e .second < n)
 stands-in m n s j e h lt w = ⊎-elim
     (λ p. (omega (arith, p .0, h .within first j lt), omega (arith, p .1, h .within second j lt)))
     (λ p. (omega (arith, p .1, h .within second j lt), omega (arith, p .0, h .within first j lt)))
     (w .ends)
 
 -- ---- facing
-module _ (m n : ℕ) (s : Mem) (h : Sound m n s) (f : ℕ) (lt : f < m) where
+module _ (m n : ℕ) (s : Tables) (h : Sound m n s) (f : ℕ) (lt : f < m) where
   -- the stamps of the ends of an edge that is turned
   back : turned s f ≡ true → turned (turnAt s f) f ≡ false
   unfolding turned turnAt store diff-set
@@ -130,7 +130,7 @@ module _ (m n : ℕ) (s : Mem) (h : Sound m n s) (f : ℕ) (lt : f < m) where
       go false e = e
 
 -- ---- the newest base's edges stand from it
-pub mate-now : (m b : ℕ) (s : Mem) (c q : ℕ) → Mate m b s c q → getD (s .at stamp) c 0 < getD (s .at stamp) b 0 → (edgeNow s q .first ≡ b) × (edgeNow s q .second ≡ c)
+pub mate-now : (m b : ℕ) (s : Tables) (c q : ℕ) → Mate m b s c q → getD (s .at stamp) c 0 < getD (s .at stamp) b 0 → (edgeNow s q .first ≡ b) × (edgeNow s q .second ≡ c)
 unfolding edgeOf turnIf
 mate-now m b s c q t lt = go (t .ends)
   where
@@ -143,7 +143,7 @@ mate-now m b s c q t lt = go (t .ends)
         (ap (λ (x : Edge). x .first) (now-turned s q yes) ∙ e .1, ap (λ (x : Edge). x .second) (now-turned s q yes) ∙ e .0)
 
 -- ---- a stamp greater than all others turns the node's edges to it
-module _ (m n : ℕ) (s : Mem) (h : Sound m n s) (b k : ℕ) (hb : b < n) (newest : (x : ℕ) → getD (s .at stamp) x 0 < k) where
+module _ (m n : ℕ) (s : Tables) (h : Sound m n s) (b k : ℕ) (hb : b < n) (newest : (x : ℕ) → getD (s .at stamp) x 0 < k) where
   at-b : getD (store stamp s b k .at stamp) b 0 ≡ k
   unfolding store
   at-b = getD-set-same (s .at stamp) b k 0 (omega (arith, h .lengths stamp))
@@ -209,11 +209,11 @@ module _ (m n : ℕ) (s : Mem) (h : Sound m n s) (b k : ℕ) (hb : b < n) (newes
     stamp-now = ⊎-elim second-b (λ q. ⊎-elim first-b (λ p. neither p q) (eq-or-ne x b)) (eq-or-ne y b)
 
 -- ---- which way edges stand after a step
-pub absorb-turned : (s : Mem) (q f : ℕ) (x : Float) (j : ℕ) → turned (absorbAt s q f x) j ≡ turned s j
+pub absorb-turned : (s : Tables) (q f : ℕ) (x : Float) (j : ℕ) → turned (absorbAt s q f x) j ≡ turned s j
 unfolding turned absorbAt store diff-set
 absorb-turned s q f x j = refl
 
-module _ (m n b : ℕ) (s : Mem) (h : Sound m n s) (f c : ℕ) (x : Float) (lt : f < m) where
+module _ (m n b : ℕ) (s : Tables) (h : Sound m n s) (f c : ℕ) (x : Float) (lt : f < m) where
   pub attach-turned : (j : ℕ) → (j ≡ f → ⊥) → turned (attachAt b s f c x) j ≡ turned s j
   unfolding turned attachAt store diff-set
   attach-turned j ne = rw (getD-set-other (s .at first) f j b 0 ne, getD-set-other (s .at second) f j c 0 ne) refl

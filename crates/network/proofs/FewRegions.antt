@@ -9,9 +9,10 @@ use lib.IntN.{pos}
 use lib.Ieee.{Float}
 use borrow.Author.Tests.{le-ltb, eqb-true}
 use Rattle.lists.specs.Seq.{upto, keep, each, all, All}
-use Rattle.edges.specs.Edges.{Shape, Pair, pairs, gathered, firstIs, secondIs, recordsOf, records, greaterFirst, used}
+use Rattle.edges.specs.Edges.{Pair, pairs, gathered, firstIs, secondIs, recordsOf, records, greaterFirst, used}
+use Rattle.edges.specs.declared.edges.Shape.{Shape}
 use Rattle.edges.specs.declared.edges.EdgeRecord.{EdgeRecord}
-use Rattle.network.specs.Network.{start, numbered, alone, merges, run, replay, trace, countOf, sizeIn, networkBy, goodBy}
+use Rattle.network.specs.Network.{start, numbered, alone, merges, run, replay, trace, countOf, sizeIn, networkBy, mergesInRange}
 use Rattle.edges.proofs.RecordLaws.{gathered-all, records-nil}
 
 -- one region's records join it to itself
@@ -73,17 +74,17 @@ count-alone k (n ∷ ns) a = go (eqb a k) (count-alone (suc k) ns a)
     go false ih = ih
 
 -- a network without edges
-module _ (wide : Float) (s : Shape) (k : ℕ) (L : List ℕ) (vel : List Float) (h : used k (pairs s L vel) ≡ []) where
-  pub no-merges : merges (networkBy wide s k L vel) ≡ []
+module _ (twoNyquist : Float) (s : Shape) (k : ℕ) (L : List ℕ) (vel : List Float) (h : used k (pairs s L vel) ≡ []) where
+  pub no-merges : merges (networkBy twoNyquist s k L vel) ≡ []
   unfolding networkBy merges start numbered
   no-merges = rw h (unfold run in refl)
 
-  pub no-refusal : goodBy (networkBy wide s k L vel) ≡ true
-  unfolding goodBy
+  pub no-refusal : mergesInRange (networkBy twoNyquist s k L vel) ≡ true
+  unfolding mergesInRange
   no-refusal = rw no-merges (unfold trace all in refl)
 
-  pub no-counts : (a : ℕ) → countOf (replay (networkBy wide s k L vel) (merges (networkBy wide s k L vel)) .regions) a ≡ pos 0
+  pub no-counts : (a : ℕ) → countOf (replay (networkBy twoNyquist s k L vel) (merges (networkBy twoNyquist s k L vel)) .regions) a ≡ pos 0
   no-counts a = rw no-merges (still a)
     where
-      still : (a : ℕ) → countOf (replay (networkBy wide s k L vel) [] .regions) a ≡ pos 0
+      still : (a : ℕ) → countOf (replay (networkBy twoNyquist s k L vel) [] .regions) a ≡ pos 0
       still a = unfold replay networkBy start in count-alone 1 (map (sizeIn L) (upto k 1)) a

@@ -7,7 +7,7 @@ use mathlib.Core.List.{List, []}
 use lib.IntN.{pos}
 use lib.ListN.{length, getD, replicate, length-replicate}
 use lib.Ieee.{Float, binary64, mul, ofBits, ofInt}
-use Rattle.arithmetic.specs.Intervals.{folded}
+use Rattle.arithmetic.specs.Intervals.{twoNyquist}
 use Rattle.arithmetic.specs.Rounding.{real}
 use Rattle.lists.specs.Inside.Seg.{seg, put}
 use Rattle.lists.specs.Seq.{tabulate}
@@ -19,11 +19,10 @@ use Rattle.labels.proofs.RegionLaws.{label-at-most, number-at-most}
 use Rattle.memory.specs.Inside.Layout.{sizesAt, countsAt}
 use Rattle.merge.specs.Inside.Steps.{unbias}
 use Rattle.edges.specs.Edges.{pairs, used}
-use Rattle.edges.specs.Inside.Sees.{shape}
-use Rattle.edges.specs.declared.edges.Frame.{Frame}
+use Rattle.edges.specs.declared.edges.Shape.{Shape}
 use Rattle.network.specs.Network.{sizeIn, merges, networkBy}
-use Rattle.network.specs.Inside.Reduce.{Reduces, Reduced, Tables}
-use Rattle.network.specs.Inside.Find.{frameOf, limitsBy, regionsBy, networkFor, Labelled, Few, Finds, Leaves}
+use Rattle.network.specs.Inside.Reduce.{Reduces, Reduced, TablesLeft}
+use Rattle.network.specs.Inside.Find.{shapeOf, limitsBy, regionsBy, networkFor, Labelled, Few, Finds, Leaves}
 use Rattle.network.specs.declared.options.Options.{Options}
 use Rattle.network.specs.declared.network.Ran.{Ran}
 use Rattle.network.specs.declared.network.Ran.the-variants.{Settled, Denied}
@@ -38,8 +37,8 @@ replicate-at (suc k) x zero h = refl
 replicate-at (suc k) x (suc i) h = replicate-at k x i (omega arith)
 
 -- 2 × Nyquist as the code has it
-pub width-is : (x : Float) → mul binary64 (ofBits binary64 4611686018427387904) x ≡ folded x
-unfolding folded
+pub width-is : (x : Float) → mul binary64 (ofBits binary64 4611686018427387904) x ≡ twoNyquist x
+unfolding twoNyquist
 width-is x = ap (λ (y : Float). mul binary64 y x) two-is
   where
     two-is : ofBits binary64 4611686018427387904 ≡ real (pos 2)
@@ -91,8 +90,8 @@ module _ (o : Options) (p : Plan) (vel : List Float) (mask w : List ℕ) (d : Li
     lr : length {A = ℕ} (replicate (k + 1) 1000) ≡ k + 1
     lr = length-replicate (k + 1) 1000
 
-    no-edges : used k (pairs (shape (frameOf o)) (seg v 0 n) vel) ≡ []
-    no-edges = used-few k (pairs (shape (frameOf o)) (seg v 0 n) vel) h
+    no-edges : used k (pairs (shapeOf o) (seg v 0 n) vel) ≡ []
+    no-edges = used-few k (pairs (shapeOf o) (seg v 0 n) vel) h
 
     count-at : (l : ℕ) → l ≤ k → getD u (countsAt n k + l) 0 ≡ 1000
     unfolding countsAt
@@ -108,9 +107,9 @@ module _ (o : Options) (p : Plan) (vel : List Float) (mask w : List ℕ) (d : Li
     low : (a b : ℕ) → a + b ≤ n + (k + 1) → seg u a b ≡ seg (put v n (tabulate (k + 1) (sizeIn (seg v 0 n)))) a b
     low a b g = ap (λ (x : List ℕ). seg x a b) e ∙ seg-put-below (put v n (tabulate (k + 1) (sizeIn (seg v 0 n)))) (n + (k + 1)) (replicate (k + 1) 1000) a b g
 
-    tables : Tables (networkBy (folded (o .nyquist)) (shape (frameOf o)) k (seg v 0 n) vel) n k (seg v 0 n) u
+    tables : TablesLeft (networkBy (twoNyquist (o .nyquist)) (shapeOf o) k (seg v 0 n) vel) n k (seg v 0 n) u
     tables = record {
-      counts = λ g l a. ap unbias (count-at l a) ∙ no-turn ∙ sym (no-counts (folded (o .nyquist)) (shape (frameOf o)) k (seg v 0 n) vel no-edges l);
+      counts = λ g l a. ap unbias (count-at l a) ∙ no-turn ∙ sym (no-counts (twoNyquist (o .nyquist)) (shapeOf o) k (seg v 0 n) vel no-edges l);
       most = λ g l a. omega (arith, count-at l a);
       sizes = unfold sizesAt in low n (k + 1) (omega arith)
           ∙ ap (seg (put v n (tabulate (k + 1) (sizeIn (seg v 0 n)))) n) (sym ls)
@@ -120,17 +119,17 @@ module _ (o : Options) (p : Plan) (vel : List Float) (mask w : List ℕ) (d : Li
 
     pub few-left : Leaves (regionsBy o p vel mask) (networkFor o (regionsBy o p vel mask) vel) (length vel) u (Regions (record { regions = k; merges = 0 }))
     few-left =
-        let t = networkBy (folded (o .nyquist)) (shape (frameOf o)) k (seg v 0 n) vel in
+        let t = networkBy (twoNyquist (o .nyquist)) (shapeOf o) k (seg v 0 n) vel in
         by-found u (Regions (record { regions = k; merges = 0 })) (record {
-          refused = λ g. absurd (true≢false (sym (no-refusal (folded (o .nyquist)) (shape (frameOf o)) k (seg v 0 n) vel no-edges) ∙ g));
-          settled = λ g. ap (λ (l : List ℕ). Regions (record { regions = k; merges = length l })) (sym (no-merges (folded (o .nyquist)) (shape (frameOf o)) k (seg v 0 n) vel no-edges));
+          refused = λ g. absurd (true≢false (sym (no-refusal (twoNyquist (o .nyquist)) (shapeOf o) k (seg v 0 n) vel no-edges) ∙ g));
+          settled = λ g. ap (λ (l : List ℕ). Regions (record { regions = k; merges = length l })) (sym (no-merges (twoNyquist (o .nyquist)) (shapeOf o) k (seg v 0 n) vel no-edges));
           tables = tables;
         })
 
   -- ---- from two regions on
 
-  pub reduce-asks : 2 ≤ k → (f : Frame) → f ≡ frameOf o → Reduces f v d vel n k
-  reduce-asks h f e = subst (λ (x : Frame). Reduces x v d vel n k) (sym e) (record {
+  pub reduce-asks : 2 ≤ k → (f : Shape) → f ≡ shapeOf o → Reduces f v d vel n k
+  reduce-asks h f e = subst (λ (x : Shape). Reduces x v d vel n k) (sym e) (record {
     whole = q .whole;
     some = omega (arith, h, region-few);
     few = region-few;
@@ -141,10 +140,10 @@ module _ (o : Options) (p : Plan) (vel : List Float) (mask w : List ℕ) (d : Li
     floats = q .floats;
   })
 
-  pub reduced-left : (u : List ℕ) (x : Ran) (f : Frame) (wide : Float) → f ≡ frameOf o → wide ≡ folded (o .nyquist) → Reduced (networkBy wide (shape f) k (seg v 0 n) vel) n k v u x → (r : Finding) → r ≡ answered k x
+  pub reduced-left : (u : List ℕ) (x : Ran) (f : Shape) (x2 : Float) → f ≡ shapeOf o → x2 ≡ twoNyquist (o .nyquist) → Reduced (networkBy x2 f k (seg v 0 n) vel) n k v u x → (r : Finding) → r ≡ answered k x
       → Leaves (regionsBy o p vel mask) (networkFor o (regionsBy o p vel mask) vel) (length vel) u r
-  reduced-left u x f wide ef ew R r e =
-      let R′ : Reduced (networkBy (folded (o .nyquist)) (shape (frameOf o)) k (seg v 0 n) vel) n k v u x =
-      subst (λ (y : Frame). Reduced (networkBy (folded (o .nyquist)) (shape y) k (seg v 0 n) vel) n k v u x) ef
-      (subst (λ (y : Float). Reduced (networkBy y (shape f) k (seg v 0 n) vel) n k v u x) ew R) in
+  reduced-left u x f x2 ef ew R r e =
+      let R′ : Reduced (networkBy (twoNyquist (o .nyquist)) (shapeOf o) k (seg v 0 n) vel) n k v u x =
+      subst (λ (y : Shape). Reduced (networkBy (twoNyquist (o .nyquist)) y k (seg v 0 n) vel) n k v u x) ef
+      (subst (λ (y : Float). Reduced (networkBy y f k (seg v 0 n) vel) n k v u x) ew R) in
       by-found u r (record { refused = λ g. e ∙ ap (answered k) (R′ .refused g); settled = λ g. e ∙ ap (answered k) (R′ .settled g); tables = R′ .tables })

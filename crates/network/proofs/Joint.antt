@@ -22,7 +22,7 @@ use Rattle.edges.specs.Edges.{Pair, difference, used}
 use Rattle.network.specs.Network as Network
 use Rattle.network.specs.Network.{Edge, Region, numbered, sizeIn, gatesOf}
 use Rattle.network.specs.Inside.Simple.{Simple, Joined}
-use Rattle.merge.specs.Inside.Mem.{Mem}
+use Rattle.merge.specs.Inside.Tables.{Tables}
 use Rattle.merge.specs.Inside.Table.{weight, first, second, size}
 use Rattle.network.specs.Inside.Net.{edgeOf}
 use Rattle.network.specs.Inside.Begin.{Raw, rawRegion}
@@ -33,12 +33,12 @@ abbrev pub blank : EdgeRecord
 blank = record { one = 0; two = 0; count = 0; sum1 = nan; sum2 = nan }
 
 -- the tables of m edges, from records of k regions, and of the sizes of labels 0 to k
-pub record Filled (wide : Float) (k m : ℕ) (L : List ℕ) (rs : List EdgeRecord) (s : Mem) : Type 0 where
+pub record Filled (twoNyquist : Float) (k m : ℕ) (L : List ℕ) (rs : List EdgeRecord) (s : Tables) : Type 0 where
   pub count : m ≡ length rs
   pub weight : s .at weight ≡ map (λ r. r .count) rs
   pub first : s .at first ≡ map (λ r. r .one) rs
   pub second : s .at second ≡ map (λ r. r .two) rs
-  pub diff : seg (s .diff) 0 m ≡ map (difference wide) rs
+  pub diff : seg (s .diff) 0 m ≡ map (difference twoNyquist) rs
   pub size : s .at size ≡ tabulate (k + 1) (sizeIn L)
 
 -- ---- an edge of the tables is the record's
@@ -49,13 +49,13 @@ narrowed-fits nan = nan-fits binary32
 narrowed-fits (inf s) = inf-fits binary32 s
 narrowed-fits (fin s m e) = round-fits binary32 s _ _
 
-upto-numbered : (wide : Float) (f : ℕ → Edge) (rs : List EdgeRecord) (k : ℕ) → ((j : ℕ) → j < length rs → f (k + j) ≡ Network.edgeOf wide (k + j) (getD rs j blank)) → map f (upto (length rs) k) ≡ numbered wide k rs
+upto-numbered : (twoNyquist : Float) (f : ℕ → Edge) (rs : List EdgeRecord) (k : ℕ) → ((j : ℕ) → j < length rs → f (k + j) ≡ Network.edgeOf twoNyquist (k + j) (getD rs j blank)) → map f (upto (length rs) k) ≡ numbered twoNyquist k rs
 unfolding upto numbered
-upto-numbered wide f [] k h = refl
-upto-numbered wide f (r ∷ rs) k h =
+upto-numbered twoNyquist f [] k h = refl
+upto-numbered twoNyquist f (r ∷ rs) k h =
     let z : k + 0 ≡ k = omega arith in
-    let a : f k ≡ Network.edgeOf wide k r = subst (λ (i : ℕ). f i ≡ Network.edgeOf wide i r) z (h 0 (omega arith)) in
-    rw (a, upto-numbered wide f rs (suc k) (λ j l. let y : suc k + j ≡ k + suc j = omega arith in subst (λ (i : ℕ). f i ≡ Network.edgeOf wide i (getD rs j blank)) (sym y) (h (suc j) (omega arith)))) refl
+    let a : f k ≡ Network.edgeOf twoNyquist k r = subst (λ (i : ℕ). f i ≡ Network.edgeOf twoNyquist i r) z (h 0 (omega arith)) in
+    rw (a, upto-numbered twoNyquist f rs (suc k) (λ j l. let y : suc k + j ≡ k + suc j = omega arith in subst (λ (i : ℕ). f i ≡ Network.edgeOf twoNyquist i (getD rs j blank)) (sym y) (h (suc j) (omega arith)))) refl
 
 -- ---- the gates of labels i to i + n - 1
 
@@ -105,7 +105,7 @@ gates-most : (L : List ℕ) (i n : ℕ) → gatesFrom L i n ≤ length L
 gates-most [] i n = omega (arith, none-from i n)
 gates-most (x ∷ L) i n = omega (arith, more-from x L i n, hits-most x i n, gates-most L i n)
 
-module _ (wide : Float) (k m : ℕ) (L : List ℕ) (ps : List Pair) (s : Mem) (F : Filled wide k m L (used k ps) s) where
+module _ (twoNyquist : Float) (k m : ℕ) (L : List ℕ) (ps : List Pair) (s : Tables) (F : Filled twoNyquist k m L (used k ps) s) where
   abbrev at : ℕ → EdgeRecord
   at j = getD (used k ps) j blank
 
@@ -124,21 +124,21 @@ module _ (wide : Float) (k m : ℕ) (L : List ℕ) (ps : List Pair) (s : Mem) (F
   pub second-of : (j : ℕ) → j < m → getD (s .at second) j 0 ≡ getD (used k ps) j blank .two
   second-of j h = ap (λ (l : List ℕ). getD l j 0) (F .second) ∙ map-getD (λ (r : EdgeRecord). r .two) (used k ps) j blank 0 (in-rs j h)
 
-  pub diff-of : (j : ℕ) → j < m → getD (s .diff) j nan ≡ difference wide (getD (used k ps) j blank)
+  pub diff-of : (j : ℕ) → j < m → getD (s .diff) j nan ≡ difference twoNyquist (getD (used k ps) j blank)
   diff-of j h =
       sym (getD-seg (s .diff) 0 m j nan h ∙ ap (λ (i : ℕ). getD (s .diff) i nan) (omega arith))
-      ∙ ap (λ (l : List Float). getD l j nan) (F .diff) ∙ map-getD (difference wide) (used k ps) j blank nan (in-rs j h)
+      ∙ ap (λ (l : List Float). getD l j nan) (F .diff) ∙ map-getD (difference twoNyquist) (used k ps) j blank nan (in-rs j h)
 
-  edge-of : (j : ℕ) → j < m → edgeOf s j ≡ Network.edgeOf wide j (getD (used k ps) j blank)
+  edge-of : (j : ℕ) → j < m → edgeOf s j ≡ Network.edgeOf twoNyquist j (getD (used k ps) j blank)
   unfolding edgeOf Network.edgeOf
   edge-of j h =
       let live : not (eqb (getD (s .at weight) j 0) 0) ≡ true = ap (λ (b : Bool). not b) (ne-eqb (getD (s .at weight) j 0) 0 (λ e. omega (arith, weight-of j h, good j h .some))) in
       λ i. record { num = j; live = live i; first = first-of j h i; second = second-of j h i; link = record { weight = weight-of j h i; diff = diff-of j h i } }
 
-  pub edges-are : map (edgeOf s) (upto m 0) ≡ numbered wide 0 (used k ps)
+  pub edges-are : map (edgeOf s) (upto m 0) ≡ numbered twoNyquist 0 (used k ps)
   edges-are =
       ap (λ (x : ℕ). map (edgeOf s) (upto x 0)) (F .count)
-      ∙ upto-numbered wide (edgeOf s) (used k ps) 0 (λ j h. let z : 0 + j ≡ j = omega arith in subst (λ (i : ℕ). edgeOf s i ≡ Network.edgeOf wide i (getD (used k ps) j blank)) (sym z) (edge-of j (omega (arith, F .count))))
+      ∙ upto-numbered twoNyquist (edgeOf s) (used k ps) 0 (λ j h. let z : 0 + j ≡ j = omega arith in subst (λ (i : ℕ). edgeOf s i ≡ Network.edgeOf twoNyquist i (getD (used k ps) j blank)) (sym z) (edge-of j (omega (arith, F .count))))
 
   -- ---- the network is simple
 

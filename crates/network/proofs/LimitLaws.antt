@@ -51,8 +51,8 @@ module _ (o : Options) (p : Plan) (vel : List Float) (mask : List ℕ) (w : List
       room k = unfold front in rw (length-append (limitsBy o p) (drop (length (limitsBy o p)) out)) (omega (arith, long))
 
   -- what finding the regions asks
-  pub regions-ask : Sheet.Sweep (o .gates) vel mask (take (m - 0) l) (take (3 * length vel + 64 - 0) w)
-  regions-ask = subst (λ (x : List Float). Sheet.Sweep (o .gates) vel mask x (take (3 * length vel + 64 - 0) w)) (sym limits-read) (record {
+  pub regions-ask : Sheet.FindsRegions (o .gates) vel mask (take (m - 0) l) (take (3 * length vel + 64 - 0) w)
+  regions-ask = subst (λ (x : List Float). Sheet.FindsRegions (o .gates) vel mask x (take (3 * length vel + 64 - 0) w)) (sym limits-read) (record {
     masks = h .masks;
     small = omega (arith, h .small);
     some-gates = h .some-gates;

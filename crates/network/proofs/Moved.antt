@@ -14,8 +14,8 @@ use borrow.Author.Tests.{eqb-true, eq-eqb, ne-eqb}
 use Rattle.lists.specs.Seq.{upto}
 use Rattle.network.specs.Network.{Edge, Link, find, absorb, hand, turn, turnIf, adjust, shifted, isZero}
 use Rattle.arithmetic.specs.Rounding.{scale}
-use Rattle.network.proofs.SimpleLaws.{Turned}
-use Rattle.merge.specs.Inside.Mem.{Mem}
+use Rattle.network.proofs.SimpleLaws.{OtherEnds}
+use Rattle.merge.specs.Inside.Tables.{Tables}
 use Rattle.merge.specs.Inside.Table.{enext, stamp, elen}
 use Rattle.merge.specs.Inside.Steps.{unbias, joinEdge, shift, movedEdge}
 use Rattle.merge.specs.Inside.Chain.{cur}
@@ -64,7 +64,7 @@ shift-two g w d = rw (zero-gain g) (go (eqb g 1000))
 pub record Setting (m b v g : ℕ) (P Q : ℕ → Edge) : Type 0 where
   pub apart : b ≡ v → ⊥
   pub number : (j : ℕ) → P j .num ≡ j
-  pub turned : (j : ℕ) → j < m → P j .live ≡ true → Turned b v (P j)
+  pub turned : (j : ℕ) → j < m → P j .live ≡ true → OtherEnds b v (P j)
   pub single : (i j : ℕ) → i < m → j < m → P i .live ≡ true → P j .live ≡ true → P i .first ≡ P j .first → P i .second ≡ P j .second → i ≡ j
   pub prepared : (j : ℕ) → j < m → P j .live ≡ true → P j ≡ turn v (adjust v (unbias g) (Q j))
   pub alike : (j : ℕ) → Q j .live ≡ P j .live
@@ -80,7 +80,7 @@ mid m b v P Q done j =
     (cond (eqb v (P j .first)) (cond (done j) (hand b (find (map P (upto m 0)) b (P j .second)) (P j)) (Q j)) (P j))
 
 -- the tables in the middle of the walk: links N, lengths L and stamps T stay
-pub record Middle (m b v : ℕ) (P Q : ℕ → Edge) (N L T : List ℕ) (done : ℕ → Bool) (s : Mem) : Type 0 where
+pub record Middle (m b v : ℕ) (P Q : ℕ → Edge) (N L T : List ℕ) (done : ℕ → Bool) (s : Tables) : Type 0 where
   pub like : (j : ℕ) → j < m → Like (edgeNow s j) (mid m b v P Q done j)
   pub links : s .at enext ≡ N
   pub lens : s .at elen ≡ L
@@ -172,7 +172,7 @@ module _ (m b v g : ℕ) (P Q : ℕ → Edge) (S : Setting m b v g P Q) where
       go false r h = record { ends = inl (sym (ap (λ (x : Edge). x .first) h) ∙ e, sym (ap (λ (x : Edge). x .second) h)); weigh = sym (ap (λ (x : Edge). x .link .weight) h) }
 
   -- the step that the code takes at an edge of the moved node
-  pub moved-is : (s : Mem) (f : ℕ) → f < m → edgeOf s f ≡ Q f → P f .live ≡ true → P f .first ≡ v → movedEdge m b v g s f ≡ joinEdge m b s f (P f .second) (P f .link .diff)
+  pub moved-is : (s : Tables) (f : ℕ) → f < m → edgeOf s f ≡ Q f → P f .live ≡ true → P f .first ≡ v → movedEdge m b v g s f ≡ joinEdge m b s f (P f .second) (P f .link .diff)
   unfolding turn turnIf adjust
   moved-is s f lt q l e = go (eqb v (Q f .second)) refl (S .prepared f lt l)
     where

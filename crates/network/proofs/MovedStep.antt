@@ -12,7 +12,7 @@ use lib.ListN.{getD}
 use borrow.Author.Tests.{eqb-true, eqb-false, ne-eqb, lt-ltb, ltb-true, ltb-false}
 use Rattle.lists.specs.Seq.{upto}
 use Rattle.network.specs.Network.{Edge, Link, find, absorb, absent, hand}
-use Rattle.merge.specs.Inside.Mem.{Mem, Sound}
+use Rattle.merge.specs.Inside.Tables.{Tables, Sound}
 use Rattle.merge.specs.Inside.Table.{weight, enext, stamp, elen}
 use Rattle.merge.specs.Inside.Steps.{turned, faceAt, mate, absorbAt, attachAt, joinEdge, movedEdge, takeEdge}
 use Rattle.merge.specs.Inside.Chain.{cur}
@@ -28,7 +28,7 @@ use Rattle.network.proofs.Moved.{Setting, Middle, Grounds, only, mid, a
 
 module _ (m b v g : ℕ) (P Q : ℕ → Edge) (S : Setting m b v g P Q) (N L T : List ℕ) (G : Grounds m b P N L T) where
   -- facing an edge changes nothing of this
-  middle-face : (n : ℕ) (s : Mem) (done : ℕ → Bool) (f : ℕ) → Sound m n s → f < m → Middle m b v P Q N L T done s → Middle m b v P Q N L T done (faceAt s f)
+  middle-face : (n : ℕ) (s : Tables) (done : ℕ → Bool) (f : ℕ) → Sound m n s → f < m → Middle m b v P Q N L T done s → Middle m b v P Q N L T done (faceAt s f)
   middle-face n s done f h lt I = record {
     like = λ j hj. like-at _ _ _ (face-now m n s h f lt j) (I .like j hj);
     links = frame-face s f .at enext ∙ I .links;
@@ -37,14 +37,14 @@ module _ (m b v g : ℕ) (P Q : ℕ → Edge) (S : Setting m b v g P Q) (N L T :
   }
 
   -- edge q is the base's to c, as prepared
-  record Partner (s : Mem) (c q : ℕ) : Type 0 where
+  record Partner (s : Tables) (c q : ℕ) : Type 0 where
     q-live : P q .live ≡ true
     q-first : P q .first ≡ b
     q-second : P q .second ≡ c
     q-now : edgeNow s q ≡ P q
 
   -- ---- the step at an edge f of the moved node that is not done
-  module _ (n : ℕ) (s : Mem) (sound : Sound m n s) (done : ℕ → Bool) (I : Middle m b v P Q N L T done s)
+  module _ (n : ℕ) (s : Tables) (sound : Sound m n s) (done : ℕ → Bool) (I : Middle m b v P Q N L T done s)
       (f : ℕ) (lt : f < m) (l : P f .live ≡ true) (e : P f .first ≡ v) (todo : done f ≡ false) where
     abbrev c₀ : ℕ
     c₀ = P f .second
@@ -134,7 +134,7 @@ module _ (m b v g : ℕ) (P Q : ℕ → Edge) (S : Setting m b v g P Q) (N L T :
       taken = find-one P b c₀ 0 m q (omega arith) (omega arith) (hit b c₀ (P q) (pq .q-live) (pq .q-first) (pq .q-second))
           (λ j a c h. alone m b v g P Q S b c₀ j q (omega arith) hq (hit-is b c₀ (P j) h) (record { live = pq .q-live; first = pq .q-first; second = pq .q-second }))
 
-      abbrev s' : Mem
+      abbrev s' : Tables
       s' = absorbAt s q f (P f .link .diff)
 
       grown : edgeNow s' q ≡ mid m b v P Q (also done f) q
@@ -200,7 +200,7 @@ module _ (m b v g : ℕ) (P Q : ℕ → Edge) (S : Setting m b v g P Q) (N L T :
       free : find (map P (upto m 0)) b c₀ ≡ none
       free = find-no P b c₀ 0 m (λ j a c h. nobody j (omega arith) (hit-is b c₀ (P j) h))
 
-      abbrev s'' : Mem
+      abbrev s'' : Tables
       s'' = attachAt b s f c₀ (P f .link .diff)
 
       handed : edgeNow s'' f ≡ mid m b v P Q (also done f) f
@@ -226,7 +226,7 @@ module _ (m b v g : ℕ) (P Q : ℕ → Edge) (S : Setting m b v g P Q) (N L T :
       }
 
   -- ---- the step
-  module _ (n : ℕ) (s : Mem) (sound : Sound m n s) (done : ℕ → Bool) (I : Middle m b v P Q N L T done s)
+  module _ (n : ℕ) (s : Tables) (sound : Sound m n s) (done : ℕ → Bool) (I : Middle m b v P Q N L T done s)
       (f : ℕ) (lt : f < m) (l : P f .live ≡ true) (e : P f .first ≡ v) (todo : done f ≡ false) where
     -- the mate is faced before it takes the edge up
     faced : (q : ℕ) → Mate m b s (P f .second) q → Middle m b v P Q N L T (also done f) (absorbAt (faceAt s q) q f (P f .link .diff))
@@ -245,13 +245,13 @@ module _ (m b v g : ℕ) (P Q : ℕ → Edge) (S : Setting m b v g P Q) (N L T :
         go false r = attached n s sound done I f lt l e todo (ltb-false (mate m b s (P f .second)) m r)
 
   -- ---- any slot of the chain
-  pub record Next (n : ℕ) (s : Mem) (done : ℕ → Bool) (f : ℕ) : Type 0 where
+  pub record Next (n : ℕ) (s : Tables) (done : ℕ → Bool) (f : ℕ) : Type 0 where
     pub done' : ℕ → Bool
     pub middle : Middle m b v P Q N L T done' s
     pub more : (j : ℕ) → done j ≡ true → done' j ≡ true
     pub here : P f .live ≡ true → P f .first ≡ v → done' f ≡ true
 
-  straight-step : (n : ℕ) (s : Mem) → Sound m n s → (done : ℕ → Bool) → Middle m b v P Q N L T done s → (f : ℕ) → f < m → turned s f ≡ false → Next n (movedEdge m b v g s f) done f
+  straight-step : (n : ℕ) (s : Tables) → Sound m n s → (done : ℕ → Bool) → Middle m b v P Q N L T done s → (f : ℕ) → f < m → turned s f ≡ false → Next n (movedEdge m b v g s f) done f
   straight-step n s sound done I f lt straight = go (P f .live) refl (eqb b (P f .first)) refl (eqb v (P f .first)) refl (done f) refl
     where
       still : (P f .live ≡ true → P f .first ≡ v → done f ≡ true) → movedEdge m b v g s f ≡ s → Next n (movedEdge m b v g s f) done f
@@ -295,6 +295,6 @@ module _ (m b v g : ℕ) (P Q : ℕ → Edge) (S : Setting m b v g P Q) (N L T :
           let fv : P f .first ≡ v = sym (eqb-true v (P f .first) ye) in
           record { done' = also done f; middle = moved-step n s sound done I f lt ue fv ze straight; more = λ j r. also-old done f j r; here = λ l r. also-new done f }
 
-  pub any-step : (n : ℕ) (s : Mem) → Sound m n s → (done : ℕ → Bool) → Middle m b v P Q N L T done s → (f : ℕ) → f < m → Next n (takeEdge m b v g s f) done f
+  pub any-step : (n : ℕ) (s : Tables) → Sound m n s → (done : ℕ → Bool) → Middle m b v P Q N L T done s → (f : ℕ) → f < m → Next n (takeEdge m b v g s f) done f
   unfolding takeEdge
   any-step n s sound done I f lt = rw (lt-ltb f m lt) (straight-step n (faceAt s f) (sound-face m n s f sound lt) done (middle-face n s done f sound lt I) f lt (face-straight m n s sound f lt))

@@ -11,10 +11,10 @@ use Rattle.lists.specs.Seq.{upto}
 use Rattle.merge.proofs.Bias.{lt-or-le}
 use lib.ListN.{getD}
 use Rattle.network.specs.Network.{Edge, Link, find, absorb, hand, combine, turn, turnIf, adjust, shifted, isZero}
-use Rattle.merge.specs.Inside.Mem.{Mem, Sound}
+use Rattle.merge.specs.Inside.Tables.{Tables, Sound}
 use Rattle.merge.specs.Inside.Table.{enext, stamp, elen}
 use Rattle.merge.specs.Inside.Steps.{unbias, takeEdge, walkMoved}
-use Rattle.merge.specs.Inside.Does.{Gains}
+use Rattle.merge.specs.Inside.Leaves.{Gains}
 use Rattle.network.specs.Inside.Net.{edgeNow, Like}
 use Rattle.merge.specs.Inside.Chain.{cur}
 use Rattle.merge.proofs.SoundSteps.{sound-take}
@@ -48,7 +48,7 @@ module _ (m b v g : ℕ) (P Q : ℕ → Edge) (S : Setting m b v g P Q) where
   none-done : (x c : ℕ) → find (map (only P nothing) (upto m 0)) x c ≡ none
   none-done x c = find-no (only P nothing) x c 0 m (λ j a d h. true≢false (sym (hit-only m b v g P Q S nothing x c j h .1)))
 
-  pub begin : (s : Mem) → ((j : ℕ) → j < m → Like (edgeNow s j) (Q j)) → Middle m b v P Q (s .at enext) (s .at elen) (s .at stamp) nothing s
+  pub begin : (s : Tables) → ((j : ℕ) → j < m → Like (edgeNow s j) (Q j)) → Middle m b v P Q (s .at enext) (s .at elen) (s .at stamp) nothing s
   begin s like = record { like = λ j hj. go j hj (P j .live) refl (eqb b (P j .first)) refl (eqb v (P j .first)) refl; links = refl; lens = refl; stamps = refl }
     where
       go : (j : ℕ) → j < m → (u : Bool) → P j .live ≡ u → (x : Bool) → eqb b (P j .first) ≡ x → (y : Bool) → eqb v (P j .first) ≡ y → Like (edgeNow s j) (mid m b v P Q nothing j)
@@ -64,17 +64,17 @@ module _ (m b v g : ℕ) (P Q : ℕ → Edge) (S : Setting m b v g P Q) where
 
   -- ---- the walk
   module _ (N L T : List ℕ) (G : Grounds m b P N L T) where
-    pub record Walked (s : Mem) (done : ℕ → Bool) (x k : ℕ) : Type 0 where
+    pub record Walked (s : Tables) (done : ℕ → Bool) (x k : ℕ) : Type 0 where
       pub done' : ℕ → Bool
       pub middle : Middle m b v P Q N L T done' s
       pub more : (j : ℕ) → done j ≡ true → done' j ≡ true
       pub seen : (i : ℕ) → i < k → cur N x i / 2 < m → P (cur N x i / 2) .live ≡ true → P (cur N x i / 2) .first ≡ v → done' (cur N x i / 2) ≡ true
 
-    abbrev One : Mem → (ℕ → Bool) → ℕ → Type 0
+    abbrev One : Tables → (ℕ → Bool) → ℕ → Type 0
     One s done f = (done' : ℕ → Bool) × Middle m b v P Q N L T done' s × ((j : ℕ) → done j ≡ true → done' j ≡ true) × (f < m → P f .live ≡ true → P f .first ≡ v → done' f ≡ true)
 
     -- a slot that is no edge's leaves all as it is
-    one-slot : (n : ℕ) (s : Mem) → Sound m n s → (done : ℕ → Bool) → Middle m b v P Q N L T done s → (f : ℕ) → One (takeEdge m b v g s f) done f
+    one-slot : (n : ℕ) (s : Tables) → Sound m n s → (done : ℕ → Bool) → Middle m b v P Q N L T done s → (f : ℕ) → One (takeEdge m b v g s f) done f
     one-slot n s h done I f = ⊎-elim
         (λ lt. let t : Next m b v g P Q S N L T G n (takeEdge m b v g s f) done f = any-step m b v g P Q S N L T G n s h done I f lt in (t .done', t .middle, t .more, λ q. t .here))
         (λ le. (done, subst (Middle m b v P Q N L T done) (sym (past le)) I, λ j r. r, λ q. absurd (omega arith)))
@@ -83,12 +83,12 @@ module _ (m b v g : ℕ) (P Q : ℕ → Edge) (S : Setting m b v g P Q) where
         past : m ≤ f → takeEdge m b v g s f ≡ s
         past le = unfold takeEdge in rw (le-ltb f m le) refl
 
-    pub walk : (n : ℕ) → Gains n b v g → (k : ℕ) (s : Mem) → Sound m n s → (done : ℕ → Bool) → Middle m b v P Q N L T done s → (x : ℕ) → Walked (walkMoved k m b v g s x) done x k
+    pub walk : (n : ℕ) → Gains n b v g → (k : ℕ) (s : Tables) → Sound m n s → (done : ℕ → Bool) → Middle m b v P Q N L T done s → (x : ℕ) → Walked (walkMoved k m b v g s x) done x k
     unfolding walkMoved cur
     walk n ok zero s h done I x = record { done' = done; middle = I; more = λ j r. r; seen = λ i p. absurd (omega arith) }
     walk n ok (suc k) s h done I x =
         let one : One (takeEdge m b v g s (x / 2)) done (x / 2) = one-slot n s h done I (x / 2) in
-        let s' : Mem = takeEdge m b v g s (x / 2) in
+        let s' : Tables = takeEdge m b v g s (x / 2) in
         let nx : getD (s .at enext) x 0 ≡ getD N x 0 = ap (λ (l : List ℕ). getD l x 0) (I .links) in
         let rest : Walked (walkMoved k m b v g s' (getD N x 0)) (one .0) (getD N x 0) k = walk n ok k s' (sound-take m n b v g s (x / 2) h ok) (one .0) (one .1) (getD N x 0) in
         record {
@@ -105,7 +105,7 @@ module _ (m b v g : ℕ) (P Q : ℕ → Edge) (S : Setting m b v g P Q) where
         elim-seen d a c (suc i) p = c i (omega arith)
 
   -- ---- the end
-  pub finish : (N L T : List ℕ) (s : Mem) (done : ℕ → Bool) → Middle m b v P Q N L T done s → ((j : ℕ) → j < m → P j .live ≡ true → P j .first ≡ v → done j ≡ true) → (j : ℕ) → j < m → Like (edgeNow s j) (combine (map P (upto m 0)) b v (P j))
+  pub finish : (N L T : List ℕ) (s : Tables) (done : ℕ → Bool) → Middle m b v P Q N L T done s → ((j : ℕ) → j < m → P j .live ≡ true → P j .first ≡ v → done j ≡ true) → (j : ℕ) → j < m → Like (edgeNow s j) (combine (map P (upto m 0)) b v (P j))
   unfolding combine only
   finish N L T s done I all j hj = go (P j .live) refl (eqb b (P j .first)) refl (eqb v (P j .first)) refl
     where

@@ -19,7 +19,7 @@ use Rattle.network.proofs.Moved.{Setting, same-no, same-yes}
 use lib.Ieee.{Float}
 use borrow.Author.Tests.{eqb-true, eqb-false}
 use Rattle.network.specs.Inside.Simple.{Simple}
-use Rattle.lists.specs.Seq.{Mem as Has, upto}
+use Rattle.lists.specs.Seq.{Member as Has, upto}
 
 pub at-upto : (E : ℕ → Edge) → ((j : ℕ) → E j .num ≡ j) → (k n i : ℕ) → k ≤ i → i < k + n → E i .live ≡ true → at (map E (upto n k)) i ≡ some (E i)
 unfolding at upto

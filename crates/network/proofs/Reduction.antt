@@ -12,32 +12,31 @@ use lib.Ieee.{Float}
 use borrow.Rule.Slice.PartMut.{putMid}
 use Rattle.lists.specs.Seq.{tabulate}
 use Rattle.lists.proofs.SeqLaws.{tab-length}
-use Rattle.lists.specs.Inside.Seg.{seg, put, Apart}
+use Rattle.lists.specs.Inside.Seg.{seg, put, Disjoint}
 use Rattle.lists.proofs.SegLaws.{eq-or-ne, length-put, length-seg, getD-seg, getD-put-in, seg-put-below, seg-put-above, seg-put-same, seg-set-out, seg-part, put-mid, lent-seg}
 use Rattle.edges.specs.Edges.{Pair, pairs, used}
-use Rattle.network.specs.Network.{sizeIn, merges, replay, countOf, networkBy, goodBy}
-use Rattle.edges.specs.Inside.Sees.{shape}
-use Rattle.edges.specs.Inside.Whole.{Asked, Edged}
+use Rattle.network.specs.Network.{sizeIn, merges, replay, countOf, networkBy, mergesInRange}
+use Rattle.edges.specs.Inside.Whole.{FindsEdges, Edged}
 use Rattle.network.specs.Inside.Sizes.{Sizes}
-use Rattle.merge.specs.Inside.Mem.{view}
+use Rattle.merge.specs.Inside.Tables.{view}
 use Rattle.merge.specs.Inside.Table.{count}
 use Rattle.merge.specs.Inside.Steps.{unbias}
 use Rattle.network.specs.Inside.Begin.{Space, Raw, AllIs}
 use Rattle.memory.specs.Inside.Layout.{sizesAt, countsAt}
 use Rattle.network.specs.Inside.Reduce.{Reduces, Reduced}
-use Rattle.edges.specs.declared.edges.Frame.{Frame}
+use Rattle.edges.specs.declared.edges.Shape.{Shape}
 use Rattle.network.specs.declared.network.Ran.{Ran}
 use Rattle.network.proofs.Joint.{Filled, raw}
 use Rattle.network.proofs.Started.{network, Left, refused, left, no-region-0}
 
-module _ (f : Frame) (u : List ℕ) (d vel : List Float) (n k : ℕ) (wide : Float) (q : Reduces f u d vel n k) where
+module _ (f : Shape) (u : List ℕ) (d vel : List Float) (n k : ℕ) (twoNyquist : Float) (q : Reduces f u d vel n k) where
   abbrev L : List ℕ
   L = seg u 0 n
 
   abbrev ps : List Pair
-  ps = pairs (shape f) (seg u 0 n) vel
+  ps = pairs f (seg u 0 n) vel
 
-  pub asked : Asked f u d vel n k (13 * n)
+  pub asked : FindsEdges f u d vel n k (13 * n)
   asked = record {
     whole = q .whole;
     small = omega (arith, q .small);
@@ -49,7 +48,7 @@ module _ (f : Frame) (u : List ℕ) (d vel : List Float) (n k : ℕ) (wide : Flo
     diffs = omega (arith, q .floats);
   }
 
-  module _ (v1 : List ℕ) (d1 : List Float) (e : ℕ) (l1 : length v1 ≡ length u) (ld : length d1 ≡ length d) (E : Edged wide n u v1 d1 (13 * n) e (used k ps)) where
+  module _ (v1 : List ℕ) (d1 : List Float) (e : ℕ) (l1 : length v1 ≡ length u) (ld : length d1 ≡ length d) (E : Edged twoNyquist n u v1 d1 (13 * n) e (used k ps)) where
     pub sizes-ask : Sizes v1 n n (k + 1)
     sizes-ask = record {
       above = omega arith;
@@ -75,7 +74,7 @@ module _ (f : Frame) (u : List ℕ) (d vel : List Float) (n k : ℕ) (wide : Flo
       sizes-2 : seg v2 n (k + 1) ≡ tabulate (k + 1) (sizeIn (seg u 0 n))
       sizes-2 = ap (λ (x : List ℕ). seg x n (k + 1)) e2′ ∙ ap (seg (put v1 n (tabulate (k + 1) (sizeIn (seg u 0 n)))) n) (sym ls) ∙ seg-put-same v1 n (tabulate (k + 1) (sizeIn (seg u 0 n))) (omega (arith, ls, l1, q .words, q .few))
 
-      pub copy-ask : (n + (k + 1) ≤ length v2) × (13 * n + 7 * e + 3 * (k + 1) + (k + 1) ≤ length v2) × Apart n (k + 1) (13 * n + 7 * e + 3 * (k + 1)) (k + 1)
+      pub copy-ask : (n + (k + 1) ≤ length v2) × (13 * n + 7 * e + 3 * (k + 1) + (k + 1) ≤ length v2) × Disjoint n (k + 1) (13 * n + 7 * e + 3 * (k + 1)) (k + 1)
       copy-ask = (omega (arith, l2, q .words, q .few), omega (arith, l2, q .words, q .few, E .few), λ j a b c g. omega (arith, q .few, q .some))
 
       module _ (v3 : List ℕ) (e3 : v3 ≡ put v2 (13 * n + 7 * e + 3 * (k + 1)) (seg v2 n (k + 1))) where
@@ -105,7 +104,7 @@ module _ (f : Frame) (u : List ℕ) (d vel : List Float) (n k : ℕ) (wide : Flo
             small = omega (arith, q .small, q .few, E .few);
           }
 
-          pub filled : Filled wide k e (seg u 0 n) (used k ps) (view e (k + 1) (seg v3 (13 * n) c) d1)
+          pub filled : Filled twoNyquist k e (seg u 0 n) (used k ps) (view e (k + 1) (seg v3 (13 * n) c) d1)
           unfolding view
           filled = record {
             count = E .count;
@@ -122,7 +121,7 @@ module _ (f : Frame) (u : List ℕ) (d vel : List Float) (n k : ℕ) (wide : Flo
           }
 
           pub raw-ask : Raw e (k + 1) (view e (k + 1) (seg v3 (13 * n) c) d1)
-          raw-ask = raw wide k e (seg u 0 n) ps (view e (k + 1) (seg v3 (13 * n) c) d1) filled n (E .light) (omega (arith, q .small)) (length-seg u 0 n (omega (arith, q .words)))
+          raw-ask = raw twoNyquist k e (seg u 0 n) ps (view e (k + 1) (seg v3 (13 * n) c) d1) filled n (E .light) (omega (arith, q .small)) (length-seg u 0 n (omega (arith, q .words)))
 
           module _ (y : List ℕ) (d2 : List Float) (r : Ran) (ly : length y ≡ length (seg v3 (13 * n) c)) (A : AllIs e (k + 1) (view e (k + 1) (seg v3 (13 * n) c) d1) y d2 r)
               (v4 : List ℕ) (e4 : v4 ≡ putMid (13 * n) c v3 y) where
@@ -135,7 +134,7 @@ module _ (f : Frame) (u : List ℕ) (d vel : List Float) (n k : ℕ) (wide : Flo
             l4 : length v4 ≡ length u
             l4 = ap length e4′ ∙ length-put v3 (13 * n) y ∙ l3
 
-            pub copy2-ask : (13 * n + 7 * e + 6 * (k + 1) + (k + 1) ≤ length v4) × (n + (k + 1) + (k + 1) ≤ length v4) × Apart (13 * n + 7 * e + 6 * (k + 1)) (k + 1) (n + (k + 1)) (k + 1)
+            pub copy2-ask : (13 * n + 7 * e + 6 * (k + 1) + (k + 1) ≤ length v4) × (n + (k + 1) + (k + 1) ≤ length v4) × Disjoint (13 * n + 7 * e + 6 * (k + 1)) (k + 1) (n + (k + 1)) (k + 1)
             copy2-ask = (omega (arith, l4, q .words, q .few, E .few), omega (arith, l4, q .words, q .few), λ j a b g h. omega (arith, q .few, q .some))
 
             -- the counts that merging left
@@ -176,12 +175,12 @@ module _ (f : Frame) (u : List ℕ) (d vel : List Float) (n k : ℕ) (wide : Flo
                   ap (λ (i : ℕ). getD v6 i 0) {x = n + (k + 1) + 0} {y = n + (k + 1)} (omega arith)
                   ∙ ap (λ (x : List ℕ). getD x (n + (k + 1)) 0) e6 ∙ getD-set-same v5 (n + (k + 1)) 1000 0 (omega (arith, l5, q .words, q .few))
 
-              net : networkBy wide (shape f) k (seg u 0 n) vel ≡ network wide k e (seg u 0 n) ps (view e (k + 1) (seg v3 (13 * n) c) d1) filled
+              net : networkBy twoNyquist f k (seg u 0 n) vel ≡ network twoNyquist k e (seg u 0 n) ps (view e (k + 1) (seg v3 (13 * n) c) d1) filled
               net = unfold networkBy network in refl
 
-              pub reduced : Reduced (networkBy wide (shape f) k (seg u 0 n) vel) n k u v6 r
+              pub reduced : Reduced (networkBy twoNyquist f k (seg u 0 n) vel) n k u v6 r
               reduced = rw net (record {
-                refused = λ g. unfold goodBy in refused wide k e (seg u 0 n) ps (view e (k + 1) (seg v3 (13 * n) c) d1) filled y d2 r A g;
+                refused = λ g. unfold mergesInRange in refused twoNyquist k e (seg u 0 n) ps (view e (k + 1) (seg v3 (13 * n) c) d1) filled y d2 r A g;
                 settled = λ g. leaves g .settled;
                 tables = record {
                   counts = λ g l h. ⊎-elim
@@ -197,14 +196,14 @@ module _ (f : Frame) (u : List ℕ) (d vel : List Float) (n k : ℕ) (wide : Flo
                 };
               })
                 where
-                  leaves : goodBy (network wide k e (seg u 0 n) ps (view e (k + 1) (seg v3 (13 * n) c) d1) filled) ≡ true → Left wide k e (seg u 0 n) ps (view e (k + 1) (seg v3 (13 * n) c) d1) filled y d2 r
-                  leaves g = unfold goodBy in left wide k e (seg u 0 n) ps (view e (k + 1) (seg v3 (13 * n) c) d1) filled y d2 r A g
+                  leaves : mergesInRange (network twoNyquist k e (seg u 0 n) ps (view e (k + 1) (seg v3 (13 * n) c) d1) filled) ≡ true → Left twoNyquist k e (seg u 0 n) ps (view e (k + 1) (seg v3 (13 * n) c) d1) filled y d2 r
+                  leaves g = unfold mergesInRange in left twoNyquist k e (seg u 0 n) ps (view e (k + 1) (seg v3 (13 * n) c) d1) filled y d2 r A g
 
                   no-turn : unbias 1000 ≡ pos 0
                   no-turn = unfold unbias in refl
 
-                  zero-count : unbias 1000 ≡ countOf (replay (network wide k e (seg u 0 n) ps (view e (k + 1) (seg v3 (13 * n) c) d1) filled) (merges (network wide k e (seg u 0 n) ps (view e (k + 1) (seg v3 (13 * n) c) d1) filled)) .regions) 0
-                  zero-count = no-turn ∙ sym (no-region-0 wide k e (seg u 0 n) ps (view e (k + 1) (seg v3 (13 * n) c) d1) filled)
+                  zero-count : unbias 1000 ≡ countOf (replay (network twoNyquist k e (seg u 0 n) ps (view e (k + 1) (seg v3 (13 * n) c) d1) filled) (merges (network twoNyquist k e (seg u 0 n) ps (view e (k + 1) (seg v3 (13 * n) c) d1) filled)) .regions) 0
+                  zero-count = no-turn ∙ sym (no-region-0 twoNyquist k e (seg u 0 n) ps (view e (k + 1) (seg v3 (13 * n) c) d1) filled)
 
                   count-0′ : getD v6 (countsAt n k + 0) 0 ≡ 1000
                   count-0′ = unfold countsAt in count-0

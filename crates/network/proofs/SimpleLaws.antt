@@ -14,22 +14,22 @@ use Rattle.network.specs.Inside.Simple.{Joined, Simple}
 use Rattle.network.proofs.Restrict.{prepare-num, combine-num}
 use Rattle.network.proofs.Ends.{prepare-live, combine-live}
 use Rattle.lists.proofs.SeqLaws.{eqb-refl}
-use Rattle.lists.specs.Seq.{Mem}
+use Rattle.lists.specs.Seq.{Member}
 use Rattle.lists.proofs.AllLaws.{and-left}
 
 module _ {A : Type 0} where
-  mem-map : (g : A → A) (b : A) (l : List A) → Mem b (map g l) → (a : A) × Mem a l × (g a ≡ b)
+  mem-map : (g : A → A) (b : A) (l : List A) → Member b (map g l) → (a : A) × Member a l × (g a ≡ b)
   mem-map g b [] h = absurd h
   mem-map g b (x ∷ xs) (inl e) = (x, inl refl, e)
-  mem-map g b (x ∷ xs) (inr h) = let w : (a : A) × Mem a xs × (g a ≡ b) = mem-map g b xs h in (w .0, inr (w .1), w .2)
+  mem-map g b (x ∷ xs) (inr h) = let w : (a : A) × Member a xs × (g a ≡ b) = mem-map g b xs h in (w .0, inr (w .1), w .2)
 
-simple-map : (g : Edge → Edge) (es : List Edge) → ((e : Edge) → Mem e es → g e .live ≡ true → g e .first ≡ g e .second → ⊥)
-    → ((e f : Edge) → Mem e es → Mem f es → g e .live ≡ true → g f .live ≡ true → Joined (g e) (g f) → g e .num ≡ g f .num) → Simple (map g es)
+simple-map : (g : Edge → Edge) (es : List Edge) → ((e : Edge) → Member e es → g e .live ≡ true → g e .first ≡ g e .second → ⊥)
+    → ((e f : Edge) → Member e es → Member f es → g e .live ≡ true → g f .live ≡ true → Joined (g e) (g f) → g e .num ≡ g f .num) → Simple (map g es)
 simple-map g es h k = record {
-  proper = λ e m l r. let w : (a : Edge) × Mem a es × (g a ≡ e) = mem-map g e es m in h (w .0) (w .1) (ap (λ (x : Edge). x .live) (w .2) ∙ l) (rw (w .2) r);
+  proper = λ e m l r. let w : (a : Edge) × Member a es × (g a ≡ e) = mem-map g e es m in h (w .0) (w .1) (ap (λ (x : Edge). x .live) (w .2) ∙ l) (rw (w .2) r);
   single = λ e f m n l₁ l₂ j.
-      let w : (a : Edge) × Mem a es × (g a ≡ e) = mem-map g e es m in
-      let v : (a : Edge) × Mem a es × (g a ≡ f) = mem-map g f es n in
+      let w : (a : Edge) × Member a es × (g a ≡ e) = mem-map g e es m in
+      let v : (a : Edge) × Member a es × (g a ≡ f) = mem-map g f es n in
       sym (ap (λ (x : Edge). x .num) (w .2)) ∙ k (w .0) (v .0) (w .1) (v .1) (ap (λ (x : Edge). x .live) (w .2) ∙ l₁) (ap (λ (x : Edge). x .live) (v .2) ∙ l₂) (rw (w .2, v .2) j) ∙ ap (λ (x : Edge). x .num) (v .2);
 }
 
@@ -76,10 +76,10 @@ turned b m e p h k = go (eqb b (e .second)) refl
     go true r = back (eqb m (e .first)) refl (sym (eqb-true b (e .second) r))
     go false r = on (eqb m (e .second)) refl (eqb-false b (e .second) r)
 
-abbrev pub Turned : ℕ → ℕ → Edge → Type 0
-Turned b m e = (e .second ≡ b → ⊥) × (e .second ≡ m → ⊥) × (e .first ≡ e .second → ⊥)
+abbrev pub OtherEnds : ℕ → ℕ → Edge → Type 0
+OtherEnds b m e = (e .second ≡ b → ⊥) × (e .second ≡ m → ⊥) × (e .first ≡ e .second → ⊥)
 
-find-none : (es : List Edge) (x : ℕ) (e f : Edge) → find es x (f .second) ≡ none → Mem e es → e .live ≡ true → e .first ≡ x → e .second ≡ f .second → ⊥
+find-none : (es : List Edge) (x : ℕ) (e f : Edge) → find es x (f .second) ≡ none → Member e es → e .live ≡ true → e .first ≡ x → e .second ≡ f .second → ⊥
 unfolding find
 find-none [] x e f h m l s t = m
 find-none (g ∷ es) x e f h (inl w) l s t = Option·none-ne-some (g .link) (sym h ∙ hit)
@@ -113,13 +113,13 @@ view es b m e = go (eqb b (e .first)) (eqb m (e .first)) refl refl (find es m (e
     go false true r t g (some h) w = of-moved (sym (eqb-true m (e .first) t)) refl refl (λ l. absurd (gone (e .live) l))
     go false false r t g h w = of-none (λ w. eqb-false b (e .first) r (sym w)) refl refl
 
-module _ (es : List Edge) (b m : ℕ) (simple : Simple es) (turn-ok : (e : Edge) → Mem e es → e .live ≡ true → Turned b m e) where
-  combine-proper : (e e′ : Edge) → View es b m e e′ → Mem e es → e .live ≡ true → e′ .first ≡ e′ .second → ⊥
+module _ (es : List Edge) (b m : ℕ) (simple : Simple es) (turn-ok : (e : Edge) → Member e es → e .live ≡ true → OtherEnds b m e) where
+  combine-proper : (e e′ : Edge) → View es b m e e′ → Member e es → e .live ≡ true → e′ .first ≡ e′ .second → ⊥
   combine-proper e e′ (of-base r s t) n l w = turn-ok e n l .0 (sym t ∙ sym w ∙ s)
   combine-proper e e′ (of-moved r s t u) n l w = turn-ok e n l .0 (sym t ∙ sym w ∙ s)
   combine-proper e e′ (of-none r s t) n l w = simple .proper e n l (sym s ∙ w ∙ t)
 
-  combine-single : (e e′ f f′ : Edge) → View es b m e e′ → View es b m f f′ → Mem e es → Mem f es → e .live ≡ true → f .live ≡ true → e′ .live ≡ true → f′ .live ≡ true → Joined e′ f′ → e .num ≡ f .num
+  combine-single : (e e′ f f′ : Edge) → View es b m e e′ → View es b m f f′ → Member e es → Member f es → e .live ≡ true → f .live ≡ true → e′ .live ≡ true → f′ .live ≡ true → Joined e′ f′ → e .num ≡ f .num
   combine-single e e′ f f′ (of-base r s t) (of-base r′ s′ t′) n o l k a c (inl j) = simple .single e f n o l k (inl (r ∙ sym r′, sym t ∙ j .1 ∙ t′))
   combine-single e e′ f f′ (of-base r s t) (of-moved r′ s′ t′ u) n o l k a c (inl j) = absurd (find-none es b e f (u c) n l r (sym t ∙ j .1 ∙ t′))
   combine-single e e′ f f′ (of-base r s t) (of-none r′ s′ t′) n o l k a c (inl j) = absurd (r′ (sym s′ ∙ sym (j .0) ∙ s))
@@ -150,18 +150,18 @@ module _ (es : List Edge) (b m : ℕ) (simple : Simple es) (turn-ok : (e : Edge)
       (λ e n l w. combine-proper e (combine es b m e) (view es b m e) n (combine-live es b m e l) w)
       (λ e f n o l k j. combine-num es b m e ∙ combine-single e (combine es b m e) f (combine es b m f) (view es b m e) (view es b m f) n o (combine-live es b m e l) (combine-live es b m f k) l k j ∙ sym (combine-num es b m f))
 
-at-mem : (i : ℕ) (es : List Edge) (e : Edge) → at es i ≡ some e → Mem e es × (e .live ≡ true)
+at-mem : (i : ℕ) (es : List Edge) (e : Edge) → at es i ≡ some e → Member e es × (e .live ≡ true)
 unfolding at
 at-mem i [] e h = absurd (Option·none-ne-some e h)
 at-mem i (f ∷ es) e h = go (f .live && eqb i (f .num)) refl h (at-mem i es e)
   where
-    go : (b : Bool) → (f .live && eqb i (f .num)) ≡ b → cond b (some f) (at es i) ≡ some e → (at es i ≡ some e → Mem e es × (e .live ≡ true)) → ((f ≡ e) ⊎ Mem e es) × (e .live ≡ true)
+    go : (b : Bool) → (f .live && eqb i (f .num)) ≡ b → cond b (some f) (at es i) ≡ some e → (at es i ≡ some e → Member e es × (e .live ≡ true)) → ((f ≡ e) ⊎ Member e es) × (e .live ≡ true)
     go true r h ih = let w : f ≡ e = Option·some-injective f e h in (inl w, ap (λ (x : Edge). x .live) (sym w) ∙ and-left (f .live) _ r)
-    go false r h ih = let w : Mem e es × (e .live ≡ true) = ih h in (inr (w .0), w .1)
+    go false r h ih = let w : Member e es × (e .live ≡ true) = ih h in (inr (w .0), w .1)
 
 module _ (es : List Edge) (simple : Simple es) (i : ℕ) (c : Edge) (found : at es i ≡ some c) (rs : List Region) where
   -- No live edge but the chosen one joins the base and the moved node
-  pub ends-apart : (e : Edge) → Mem e es → e .live ≡ true → (c .num ≡ e .num → ⊥)
+  pub ends-apart : (e : Edge) → Member e es → e .live ≡ true → (c .num ≡ e .num → ⊥)
       → ((e .first ≡ plan rs c .base) × (e .second ≡ plan rs c .moved) → ⊥) × ((e .first ≡ plan rs c .moved) × (e .second ≡ plan rs c .base) → ⊥)
   unfolding plan planFor
   ends-apart e n l h = go (ltb (sizeOf rs (c .second)) (sizeOf rs (c .first)))
@@ -182,7 +182,7 @@ module _ (es : List Edge) (simple : Simple es) (i : ℕ) (c : Edge) (found : at 
       go true false r t = (refl, eqb-false (c .num) (e .num) r)
       go false y r t = absurd (true≢false (sym t))
 
-  turned-prepare : (e : Edge) → Mem e es → prepare (plan rs c) e .live ≡ true → Turned (plan rs c .base) (plan rs c .moved) (prepare (plan rs c) e)
+  turned-prepare : (e : Edge) → Member e es → prepare (plan rs c) e .live ≡ true → OtherEnds (plan rs c .base) (plan rs c .moved) (prepare (plan rs c) e)
   unfolding prepare adjust kill
   turned-prepare e n l =
       let pl : Plan = plan rs c in
@@ -190,9 +190,9 @@ module _ (es : List Edge) (simple : Simple es) (i : ℕ) (c : Edge) (found : at 
       let w : ((e .first ≡ pl .base) × (e .second ≡ pl .moved) → ⊥) × ((e .first ≡ pl .moved) × (e .second ≡ pl .base) → ⊥) = ends-apart e n (v .0) (v .1) in
       turned (pl .base) (pl .moved) (adjust (pl .moved) (pl .gain) (kill (pl .edge) e)) (simple .proper e n (v .0)) (w .0) (w .1)
 
-  pub prepared-turned : (e : Edge) → Mem e (map (prepare (plan rs c)) es) → e .live ≡ true → Turned (plan rs c .base) (plan rs c .moved) e
+  pub prepared-turned : (e : Edge) → Member e (map (prepare (plan rs c)) es) → e .live ≡ true → OtherEnds (plan rs c .base) (plan rs c .moved) e
   prepared-turned e n l =
-      let w : (a : Edge) × Mem a es × (prepare (plan rs c) a ≡ e) = mem-map (prepare (plan rs c)) e es n in
+      let w : (a : Edge) × Member a es × (prepare (plan rs c) a ≡ e) = mem-map (prepare (plan rs c)) e es n in
       rw (w .2) at (turned-prepare (w .0) (w .1) (ap (λ (x : Edge). x .live) (w .2) ∙ l))
 
   pub prepared-simple : Simple (map (prepare (plan rs c)) es)

@@ -11,7 +11,7 @@ use lib.Seq.{getD-set-same, getD-set-other}
 use borrow.Author.Tests.{lt-ltb, le-ltb}
 use Rattle.lists.specs.Seq.{upto}
 use Rattle.lists.proofs.SeqLaws.{upto-length}
-use Rattle.merge.specs.Inside.Mem.{Mem, store}
+use Rattle.merge.specs.Inside.Tables.{Tables, store}
 use Rattle.merge.specs.Inside.Table.{Table, first, second, enext, rnext, stamp, elen, rlen, count, is}
 use Rattle.merge.specs.Inside.Chain.{cur, Chains, own-joined, pos-joined, len-joined}
 use Rattle.network.specs.Inside.Begin.{slots, regionsFrom, linkAt, linkEdge, linkFrom}
@@ -30,15 +30,15 @@ ofNodes u = is rnext u || is rlen u || is elen u || is count u || is stamp u
 abbrev pub setUp : Table → Bool
 setUp u = is enext u || ofNodes u
 
-pub record Given (t s : Mem) : Type 0 where
+pub record Given (t s : Tables) : Type 0 where
   pub tables : Alike setUp t s
   pub diff : t .diff ≡ s .diff
 
-pub given-then : (t u s : Mem) → Given t u → Given u s → Given t s
+pub given-then : (t u s : Tables) → Given t u → Given u s → Given t s
 given-then t u s a b = record { tables = alike-then setUp t u s (a .tables) (b .tables); diff = a .diff ∙ b .diff }
 
 -- what leaves the chains of slots alone leaves what is given alone
-pub given-same : (t s : Mem) → Same t s → Given t s
+pub given-same : (t s : Tables) → Same t s → Given t s
 given-same t s h = record { tables = alike-less ofSlots setUp t s (λ u. go (is enext u) (is rnext u) (is rlen u) (is elen u) (is count u) (is stamp u)) (h .beside); diff = h .diff }
   where
     go : (a b c d e f : Bool) → (a || d) ≡ true → (a || (b || c || d || e || f)) ≡ true
@@ -48,7 +48,7 @@ given-same t s h = record { tables = alike-less ofSlots setUp t s (λ u. go (is 
     go false false false d e f h = rw h refl
 
 -- ---- slots
-pub given-slots : (m n : ℕ) (s : Mem) → Given (slots m n s) s
+pub given-slots : (m n : ℕ) (s : Tables) → Given (slots m n s) s
 unfolding slots
 given-slots m n s = record { tables = alike-less (is enext) setUp (slots m n s) s (λ u e. rw e refl) (record { at = λ u. go u (is enext u) }); diff = refl }
   where
@@ -56,7 +56,7 @@ given-slots m n s = record { tables = alike-less (is enext) setUp (slots m n s) 
     go u true = tt
     go u false = refl
 
-pub slots-long : (m n : ℕ) (s : Mem) → length (s .at enext) ≡ 2 * m + n → (u : Table) → length (slots m n s .at u) ≡ length (s .at u)
+pub slots-long : (m n : ℕ) (s : Tables) → length (s .at enext) ≡ 2 * m + n → (u : Table) → length (slots m n s .at u) ≡ length (s .at u)
 unfolding slots
 slots-long m n s l u = go (is enext u) refl
   where
@@ -65,14 +65,14 @@ slots-long m n s l u = go (is enext u) refl
     go false e = refl
 
 -- ---- regions
-pub record Regions (s t : Mem) (i k : ℕ) : Type 0 where
+pub record Regions (s t : Tables) (i k : ℕ) : Type 0 where
   pub tables : Alike ofNodes t s
   pub diff : t .diff ≡ s .diff
   pub long : (u : Table) → length (t .at u) ≡ length (s .at u)
   pub below : (x : ℕ) → x < i → (getD (t .at rnext) x 0 ≡ getD (s .at rnext) x 0) × (getD (t .at elen) x 0 ≡ getD (s .at elen) x 0) × (getD (t .at rlen) x 0 ≡ getD (s .at rlen) x 0) × (getD (t .at count) x 0 ≡ getD (s .at count) x 0) × (getD (t .at stamp) x 0 ≡ getD (s .at stamp) x 0)
   pub own : (x : ℕ) → i ≤ x → x < i + k → (getD (t .at rnext) x 0 ≡ x) × (getD (t .at elen) x 0 ≡ 1) × (getD (t .at rlen) x 0 ≡ 1) × (getD (t .at count) x 0 ≡ 1000) × (getD (t .at stamp) x 0 ≡ 0)
 
-pub given-regions : (s t : Mem) (i k : ℕ) → Regions s t i k → Given t s
+pub given-regions : (s t : Tables) (i k : ℕ) → Regions s t i k → Given t s
 given-regions s t i k h = record { tables = alike-less ofNodes setUp t s (λ u. go (is enext u) (ofNodes u)) (h .tables); diff = h .diff }
   where
     go : (a b : Bool) → b ≡ true → (a || b) ≡ true
@@ -80,35 +80,35 @@ given-regions s t i k h = record { tables = alike-less ofNodes setUp t s (λ u. 
     go false b h = h
 
 -- one region set up
-abbrev lone : Mem → ℕ → Mem
+abbrev lone : Tables → ℕ → Tables
 lone s i = store stamp (store count (store elen (store rlen (store rnext s i i) i 1) i 1) i 1000) i 0
 
-alike-lone : (s : Mem) (i : ℕ) → Alike ofNodes (lone s i) s
+alike-lone : (s : Tables) (i : ℕ) → Alike ofNodes (lone s i) s
 alike-lone s i =
-    let s₁ : Mem = store rnext s i i in
-    let s₂ : Mem = store rlen s₁ i 1 in
-    let s₃ : Mem = store elen s₂ i 1 in
-    let s₄ : Mem = store count s₃ i 1000 in
+    let s₁ : Tables = store rnext s i i in
+    let s₂ : Tables = store rlen s₁ i 1 in
+    let s₃ : Tables = store elen s₂ i 1 in
+    let s₄ : Tables = store count s₃ i 1000 in
     alike-then ofNodes (lone s i) s₄ s (alike-store ofNodes stamp s₄ i 0 refl)
     (alike-then ofNodes s₄ s₃ s (alike-store ofNodes count s₃ i 1000 refl)
     (alike-then ofNodes s₃ s₂ s (alike-store ofNodes elen s₂ i 1 refl)
     (alike-then ofNodes s₂ s₁ s (alike-store ofNodes rlen s₁ i 1 refl) (alike-store ofNodes rnext s i i refl))))
 
-long-lone : (s : Mem) (i : ℕ) (u : Table) → length (lone s i .at u) ≡ length (s .at u)
+long-lone : (s : Tables) (i : ℕ) (u : Table) → length (lone s i .at u) ≡ length (s .at u)
 long-lone s i u =
-    let s₁ : Mem = store rnext s i i in
-    let s₂ : Mem = store rlen s₁ i 1 in
-    let s₃ : Mem = store elen s₂ i 1 in
-    let s₄ : Mem = store count s₃ i 1000 in
+    let s₁ : Tables = store rnext s i i in
+    let s₂ : Tables = store rlen s₁ i 1 in
+    let s₃ : Tables = store elen s₂ i 1 in
+    let s₄ : Tables = store count s₃ i 1000 in
     length-store stamp u s₄ i 0 ∙ length-store count u s₃ i 1000 ∙ length-store elen u s₂ i 1 ∙ length-store rlen u s₁ i 1 ∙ length-store rnext u s i i
 
-pub regions-are : (n k : ℕ) (s : Mem) (i : ℕ) → i + k ≤ n → length (s .at rnext) ≡ n → length (s .at elen) ≡ n → length (s .at rlen) ≡ n → length (s .at count) ≡ n → length (s .at stamp) ≡ n → Regions s (regionsFrom k s i) i k
+pub regions-are : (n k : ℕ) (s : Tables) (i : ℕ) → i + k ≤ n → length (s .at rnext) ≡ n → length (s .at elen) ≡ n → length (s .at rlen) ≡ n → length (s .at count) ≡ n → length (s .at stamp) ≡ n → Regions s (regionsFrom k s i) i k
 unfolding regionsFrom store
 regions-are n zero s i h a b c d f = record { tables = alike-refl ofNodes s; diff = refl; long = λ u. refl; below = λ x p. (refl, refl, refl, refl, refl); own = λ x p q. absurd (omega arith) }
 regions-are n (suc k) s i h a b c d f =
-    let u : Mem = lone s i in
+    let u : Tables = lone s i in
     let r : Regions u (regionsFrom k u (i + 1)) (i + 1) k = regions-are n k u (i + 1) (omega arith) (length-set (s .at rnext) i i ∙ a) (length-set (s .at elen) i 1 ∙ b) (length-set (s .at rlen) i 1 ∙ c) (length-set (s .at count) i 1000 ∙ d) (length-set (s .at stamp) i 0 ∙ f) in
-    let t : Mem = regionsFrom k u (i + 1) in
+    let t : Tables = regionsFrom k u (i + 1) in
     record {
       tables = alike-then ofNodes t u s (r .tables) (alike-lone s i);
       diff = r .diff;
@@ -150,10 +150,10 @@ next-in N size own place len C i p =
     (lt-or-le (suc (place i)) (len (own i)))
 
 -- ---- linking
-abbrev pub lens : ℕ → Mem → ℕ → ℕ
+abbrev pub lens : ℕ → Tables → ℕ → ℕ
 lens m s h = cond (ltb h (2 * m)) 1 (getD (s .at elen) (h - 2 * m) 0)
 
-pub record Linked (m n L : ℕ) (s : Mem) : Type 0 where
+pub record Linked (m n L : ℕ) (s : Tables) : Type 0 where
   pub own : ℕ → ℕ
   pub pos' : ℕ → ℕ
   pub l-enext : length (s .at enext) ≡ 2 * m + n
@@ -164,7 +164,7 @@ pub record Linked (m n L : ℕ) (s : Mem) : Type 0 where
   pub todo : (i : ℕ) → L ≤ i → i < 2 * m → own i ≡ i
   pub heads : (x : ℕ) → x < n → own (2 * m + x) ≡ 2 * m + x
 
-record LinkedOne (m n L a : ℕ) (s t : Mem) (I : Linked m n L s) : Type 0 where
+record LinkedOne (m n L a : ℕ) (s t : Tables) (I : Linked m n L s) : Type 0 where
   own' : ℕ → ℕ
   pos'' : ℕ → ℕ
   kept : Same t s
@@ -174,14 +174,14 @@ record LinkedOne (m n L a : ℕ) (s t : Mem) (I : Linked m n L s) : Type 0 where
   new : own' L ≡ 2 * m + a
   old : (i : ℕ) → i < 2 * m + n → (i ≡ L → ⊥) → own' i ≡ I .own i
 
-same-link : (m a L : ℕ) (s : Mem) → Same (linkAt m a L s) s
+same-link : (m a L : ℕ) (s : Tables) → Same (linkAt m a L s) s
 unfolding linkAt
 same-link m a L s = record {
   beside = alike-then ofSlots _ _ _ (alike-store ofSlots elen _ a _ refl) (alike-then ofSlots _ _ _ (alike-store ofSlots enext _ L _ refl) (alike-store ofSlots enext s (2 * m + a) _ refl));
   diff = unfold store in refl;
 }
 
-link-one : (m n L a : ℕ) (s : Mem) (I : Linked m n L s) → L < 2 * m → a < n → LinkedOne m n L a s (linkAt m a L s) I
+link-one : (m n L a : ℕ) (s : Tables) (I : Linked m n L s) → L < 2 * m → a < n → LinkedOne m n L a s (linkAt m a L s) I
 unfolding linkAt store swap own-joined
 link-one m n L a s I lt ha = record {
   own' = own-joined (I .own) (2 * m + a) L;
@@ -212,7 +212,7 @@ link-one m n L a s I lt ha = record {
     len-is : (h : ℕ) → len-joined (lens m s) (2 * m + a) L h ≡ lens m (linkAt m a L s) h
     len-is h = unfold len-joined in ⊎-elim here (λ w. ap (λ (x : Bool). cond x (lens m s (2 * m + a) + lens m s L) (lens m s h)) (same-no (2 * m + a) h w) ∙ there w) (eq-or-ne (2 * m + a) h)
       where
-        at-a : (x : Mem) → lens m x (2 * m + a) ≡ getD (x .at elen) a 0
+        at-a : (x : Tables) → lens m x (2 * m + a) ≡ getD (x .at elen) a 0
         at-a x = let z : 2 * m + a - 2 * m ≡ a = omega arith in ap (λ (y : Bool). cond y 1 (getD (x .at elen) (2 * m + a - 2 * m) 0)) (le-ltb (2 * m + a) (2 * m) (omega arith)) ∙ ap (λ (y : ℕ). getD (x .at elen) y 0) z
 
         here : 2 * m + a ≡ h → cond (eqb (2 * m + a) h) (lens m s (2 * m + a) + lens m s L) (lens m s h) ≡ lens m (linkAt m a L s) h
@@ -227,10 +227,10 @@ link-one m n L a s I lt ha = record {
             (λ p. ap (λ (x : ℕ). cond (ltb h (2 * m)) 1 x) (sym (getD-set-other (s .at elen) a (h - 2 * m) (getD (s .at elen) a 0 + 1) 0 (λ q. w (omega arith)))))
             (lt-or-le h (2 * m))
 
-same-then : (t u s : Mem) → Same t u → Same u s → Same t s
+same-then : (t u s : Tables) → Same t u → Same u s → Same t s
 same-then t u s a b = record { beside = alike-then ofSlots t u s (a .beside) (b .beside); diff = a .diff ∙ b .diff }
 
-half-even : (m n j a : ℕ) (s t : Mem) (I : Linked m n (2 * j) s) → LinkedOne m n (2 * j) a s t I → j < m → a ≡ getD (s .at first) j 0 → Linked m n (2 * j + 1) t
+half-even : (m n j a : ℕ) (s t : Tables) (I : Linked m n (2 * j) s) → LinkedOne m n (2 * j) a s t I → j < m → a ≡ getD (s .at first) j 0 → Linked m n (2 * j + 1) t
 half-even m n j a s t I o lt e = record {
   own = o .own';
   pos' = o .pos'';
@@ -246,7 +246,7 @@ half-even m n j a s t I o lt e = record {
   heads = λ x p. o .old (2 * m + x) (omega arith) (λ r. omega arith) ∙ I .heads x p;
 }
 
-half-odd : (m n j a : ℕ) (s t : Mem) (I : Linked m n (2 * j + 1) s) → LinkedOne m n (2 * j + 1) a s t I → j < m → a ≡ getD (s .at second) j 0 → Linked m n (2 * (j + 1)) t
+half-odd : (m n j a : ℕ) (s t : Tables) (I : Linked m n (2 * j + 1) s) → LinkedOne m n (2 * j + 1) a s t I → j < m → a ≡ getD (s .at second) j 0 → Linked m n (2 * (j + 1)) t
 half-odd m n j a s t I o lt e = record {
   own = o .own';
   pos' = o .pos'';
@@ -262,18 +262,18 @@ half-odd m n j a s t I o lt e = record {
   heads = λ x p. o .old (2 * m + x) (omega arith) (λ r. omega arith) ∙ I .heads x p;
 }
 
-abbrev pub InRange : ℕ → ℕ → Mem → Type 0
+abbrev pub InRange : ℕ → ℕ → Tables → Type 0
 InRange m n s = ((j : ℕ) → j < m → getD (s .at first) j 0 < n) × ((j : ℕ) → j < m → getD (s .at second) j 0 < n)
 
-pub range-of : (m n : ℕ) (t s : Mem) → Given t s → InRange m n s → InRange m n t
+pub range-of : (m n : ℕ) (t s : Tables) → Given t s → InRange m n s → InRange m n t
 range-of m n t s g r = (subst (λ (l : List ℕ). (j : ℕ) → j < m → getD l j 0 < n) (sym (g .tables .at first)) (r .0), subst (λ (l : List ℕ). (j : ℕ) → j < m → getD l j 0 < n) (sym (g .tables .at second)) (r .1))
 
-linked-edge : (m n j : ℕ) (s : Mem) → Linked m n (2 * j) s → j < m → InRange m n s → Linked m n (2 * (j + 1)) (linkEdge m s j) × Same (linkEdge m s j) s
+linked-edge : (m n j : ℕ) (s : Tables) → Linked m n (2 * j) s → j < m → InRange m n s → Linked m n (2 * (j + 1)) (linkEdge m s j) × Same (linkEdge m s j) s
 unfolding linkEdge
 linked-edge m n j s I lt r =
     let a : ℕ = getD (s .at first) j 0 in
     let b : ℕ = getD (s .at second) j 0 in
-    let s₁ : Mem = linkAt m a (2 * j) s in
+    let s₁ : Tables = linkAt m a (2 * j) s in
     let o₁ : LinkedOne m n (2 * j) a s s₁ I = link-one m n (2 * j) a s I (omega arith) (r .0 j lt) in
     let I₁ : Linked m n (2 * j + 1) s₁ = half-even m n j a s s₁ I o₁ lt refl in
     let o₂ : LinkedOne m n (2 * j + 1) b s₁ (linkAt m b (2 * j + 1) s₁) I₁ = link-one m n (2 * j + 1) b s₁ I₁ (omega arith) (r .1 j lt) in (
@@ -281,7 +281,7 @@ linked-edge m n j s I lt r =
       same-then _ s₁ s (o₂ .kept) (o₁ .kept),
     )
 
-pub linked-all : (m n k : ℕ) (s : Mem) (j : ℕ) → Linked m n (2 * j) s → j + k ≤ m → InRange m n s → Linked m n (2 * (j + k)) (linkFrom k m s j) × Same (linkFrom k m s j) s
+pub linked-all : (m n k : ℕ) (s : Tables) (j : ℕ) → Linked m n (2 * j) s → j + k ≤ m → InRange m n s → Linked m n (2 * (j + k)) (linkFrom k m s j) × Same (linkFrom k m s j) s
 unfolding linkFrom
 linked-all m n zero s j I h r = let z : 2 * j ≡ 2 * (j + 0) = omega arith in
     (subst (λ (x : ℕ). Linked m n x s) z I, same-refl s)
@@ -293,12 +293,12 @@ linked-all m n (suc k) s j I h r =
     (subst (λ (x : ℕ). Linked m n x (linkFrom k m (linkEdge m s j) (j + 1))) z (w .0), same-then _ (linkEdge m s j) s (w .1) (e .1))
 
 -- linking keeps every length
-pub linked-long : (k m : ℕ) (s : Mem) (j : ℕ) (u : Table) → length (linkFrom k m s j .at u) ≡ length (s .at u)
+pub linked-long : (k m : ℕ) (s : Tables) (j : ℕ) (u : Table) → length (linkFrom k m s j .at u) ≡ length (s .at u)
 unfolding linkFrom linkEdge
 linked-long zero m s j u = refl
 linked-long (suc k) m s j u =
-    let s₁ : Mem = linkAt m (getD (s .at first) j 0) (2 * j) s in
+    let s₁ : Tables = linkAt m (getD (s .at first) j 0) (2 * j) s in
     linked-long k m (linkAt m (getD (s .at second) j 0) (2 * j + 1) s₁) (j + 1) u ∙ one (getD (s .at second) j 0) (2 * j + 1) s₁ ∙ one (getD (s .at first) j 0) (2 * j) s
   where
-    one : (a L : ℕ) (s : Mem) → length (linkAt m a L s .at u) ≡ length (s .at u)
+    one : (a L : ℕ) (s : Tables) → length (linkAt m a L s .at u) ≡ length (s .at u)
     one a L s = unfold linkAt in length-store elen u _ a _ ∙ length-store enext u _ L _ ∙ length-store enext u s (2 * m + a) _

@@ -15,10 +15,10 @@ use Rattle.lists.specs.Seq.{upto, sum}
 use Rattle.lists.specs.Inside.Seg.{put}
 use Rattle.lists.proofs.SeqLaws.{upto-at, map-upto-same}
 use Rattle.memory.specs.Inside.Tree.{Weighed}
-use Rattle.merge.specs.Inside.Mem.{Mem, view, Room, Sound}
+use Rattle.merge.specs.Inside.Tables.{Tables, view, HoldsTables, Sound}
 use Rattle.merge.specs.Inside.Table.{Table, long, weight, first, second, enext, rnext, stamp, size, elen, rlen, count}
 use Rattle.merge.specs.Inside.Steps.{unbias, turned}
-use Rattle.merge.specs.Inside.Does.{Does}
+use Rattle.merge.specs.Inside.Leaves.{LeavesTables}
 use Rattle.network.specs.Inside.Net.{edgeOf, regionOf, stateOf}
 use Rattle.network.specs.Inside.Rep.{Rep, Circled}
 use Rattle.network.specs.Inside.TurnIs.{gatesIn, firstOf, RanIs}
@@ -60,19 +60,19 @@ size-one f e k (suc n) x p q = ⊎-elim
     (eq-or-ne x k)
 
 -- ---- the lengths of the tables in the words
-pub record Lengths (m n : ℕ) (s : Mem) : Type 0 where
+pub record Lengths (m n : ℕ) (s : Tables) : Type 0 where
   pub lengths : (u : Table) → length (s .at u) ≡ long u m n
   pub l-diff : m ≤ length (s .diff)
 
 -- ---- all together
-module _ (m n : ℕ) (s : Mem) (lens₀ : Lengths m n s) (raw : Raw m n s) (small : 2 * m + n < 2 ^ 32) where
-  abbrev s₁ : Mem
+module _ (m n : ℕ) (s : Tables) (lens₀ : Lengths m n s) (raw : Raw m n s) (small : 2 * m + n < 2 ^ 32) where
+  abbrev s₁ : Tables
   s₁ = slots m n s
 
-  abbrev s₂ : Mem
+  abbrev s₂ : Tables
   s₂ = regionsFrom n s₁ 0
 
-  abbrev s₃ : Mem
+  abbrev s₃ : Tables
   s₃ = linkFrom m m s₂ 0
 
   long₁ : (u : Table) → length (s₁ .at u) ≡ long u m n
@@ -212,7 +212,7 @@ module _ (m n : ℕ) (s : Mem) (lens₀ : Lengths m n s) (raw : Raw m n s) (smal
 
 -- ---- begin
 module _ (m n : ℕ) (w : List ℕ) (d : List Float) (sp : Space m n w d) (raw : Raw m n (view m n w d)) (w₁ : List ℕ) (D₁ : Weighed m w w₁) where
-  abbrev s₀ : Mem
+  abbrev s₀ : Tables
   s₀ = view m n w d
 
   l₀ : Lengths m n s₀
@@ -221,37 +221,37 @@ module _ (m n : ℕ) (w : List ℕ) (d : List Float) (sp : Space m n w d) (raw :
   tables₁ : view m n w₁ d ≡ s₀
   tables₁ = view-weighed m n w w₁ d D₁
 
-  room₁ : Room m n w₁ d
+  room₁ : HoldsTables m n w₁ d
   room₁ = record { words = omega (arith, sp .words, D₁ .long); diffs = sp .diffs; small = sp .small; tree = D₁ .tree }
 
   module _ (w₂ : List ℕ) (lw₂ : length w₂ ≡ length w₁) (e₂ : w₂ ≡ put w₁ (5 * m) (upto (2 * m + n) 0)) where
-    D₂ : Does m n w₂ d (slots m n (view m n w₁ d))
+    D₂ : LeavesTables m n w₂ d (slots m n (view m n w₁ d))
     D₂ = slots-does m n w₁ w₂ d room₁ e₂
 
-    pub begin-regions : Room m n w₂ d
+    pub begin-regions : HoldsTables m n w₂ d
     begin-regions = room-of m n w₁ w₂ d d room₁ lw₂ refl (D₂ .tree)
 
-    module _ (w₃ : List ℕ) (d₃ : List Float) (lw₃ : length w₃ ≡ length w₂) (ld₃ : length d₃ ≡ length d) (D₃ : Does m n w₃ d₃ (regionsFrom n (view m n w₂ d) 0)) where
+    module _ (w₃ : List ℕ) (d₃ : List Float) (lw₃ : length w₃ ≡ length w₂) (ld₃ : length d₃ ≡ length d) (D₃ : LeavesTables m n w₃ d₃ (regionsFrom n (view m n w₂ d) 0)) where
       tables₃ : view m n w₃ d₃ ≡ regionsFrom n (slots m n s₀) 0
-      tables₃ = D₃ .tables ∙ ap (λ (u : Mem). regionsFrom n u 0) (D₂ .tables ∙ ap (slots m n) tables₁)
+      tables₃ = D₃ .tables ∙ ap (λ (u : Tables). regionsFrom n u 0) (D₂ .tables ∙ ap (slots m n) tables₁)
 
-      room₃ : Room m n w₃ d₃
+      room₃ : HoldsTables m n w₃ d₃
       room₃ = room-of m n w₂ w₃ d d₃ begin-regions lw₃ ld₃ (D₃ .tree)
 
-      pub begin-link : Room m n w₃ d₃ × Linkable m n 0 (view m n w₃ d₃)
+      pub begin-link : HoldsTables m n w₃ d₃ × Linkable m n 0 (view m n w₃ d₃)
       begin-link = (room₃, subst (Linkable m n 0) (sym tables₃) (linkable m n s₀ l₀ raw (sp .small)))
 
-      pub begin-done : (w₄ : List ℕ) (d₄ : List Float) → length w₄ ≡ length w₃ → length d₄ ≡ length d₃ → Does m n w₄ d₄ (linkFrom m m (view m n w₃ d₃) 0) → Begun m n s₀ w₄ d₄
+      pub begin-done : (w₄ : List ℕ) (d₄ : List Float) → length w₄ ≡ length w₃ → length d₄ ≡ length d₃ → LeavesTables m n w₄ d₄ (linkFrom m m (view m n w₃ d₃) 0) → Begun m n s₀ w₄ d₄
       begin-done w₄ d₄ lw₄ ld₄ D₄ =
-          let e : linkFrom m m (regionsFrom n (slots m n s₀) 0) 0 ≡ view m n w₄ d₄ = sym (D₄ .tables ∙ ap (λ (u : Mem). linkFrom m m u 0) tables₃) in
+          let e : linkFrom m m (regionsFrom n (slots m n s₀) 0) 0 ≡ view m n w₄ d₄ = sym (D₄ .tables ∙ ap (λ (u : Tables). linkFrom m m u 0) tables₃) in
           record {
             room = room-of m n w₃ w₄ d₃ d₄ room₃ lw₄ ld₄ (D₄ .tree);
-            rep = subst (λ (u : Mem). Rep m n (gatesIn u) 0 u (firstOf m n u)) e (rep₃ m n s₀ l₀ raw (sp .small));
+            rep = subst (λ (u : Tables). Rep m n (gatesIn u) 0 u (firstOf m n u)) e (rep₃ m n s₀ l₀ raw (sp .small));
             net = ap (firstOf m n) (sym e) ∙ net₃ m n s₀ l₀ raw (sp .small);
             sizes = ap gatesIn (sym e) ∙ gates₃ m n s₀ l₀ raw (sp .small);
           }
 
 -- ---- merge_all
-pub all-is : (m n : ℕ) (s : Mem) (w : List ℕ) (d : List Float) (w' : List ℕ) (d' : List Float) (r : Ran) → Begun m n s w d → RanIs m n (gatesIn (view m n w d)) (settle m (firstOf m n (view m n w d)) 0) w' d' r → AllIs m n s w' d' r
+pub all-is : (m n : ℕ) (s : Tables) (w : List ℕ) (d : List Float) (w' : List ℕ) (d' : List Float) (r : Ran) → Begun m n s w d → RanIs m n (gatesIn (view m n w d)) (settle m (firstOf m n (view m n w d)) 0) w' d' r → AllIs m n s w' d' r
 unfolding AllIs
 all-is m n s w d w' d' r b h = subst (λ (g : ℕ → ℕ). RanIs m n g (settle m (rawNet m n s) 0) w' d' r) (b .sizes) (subst (λ (t : State). RanIs m n (gatesIn (view m n w d)) (settle m t 0) w' d' r) (b .net) h)

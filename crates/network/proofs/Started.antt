@@ -17,7 +17,7 @@ use Rattle.lists.proofs.SeqLaws.{map-upto-length, keep-every}
 use Rattle.lists.specs.Seq.{All, upto, keep, all}
 use Rattle.edges.specs.Edges.{Pair, used}
 use Rattle.network.specs.Network.{Region, State, Event, alone, start, sizeIn, merges, run, trace, replay, inRange, countOf}
-use Rattle.merge.specs.Inside.Mem.{Mem, view}
+use Rattle.merge.specs.Inside.Tables.{Tables, view}
 use Rattle.merge.specs.Inside.Table.{count, first, second}
 use Rattle.merge.specs.Inside.Steps.{unbias}
 use Rattle.network.specs.Inside.Net.{edgeOf, regionOf}
@@ -52,18 +52,18 @@ any-edge i = true
 label-ok : (l : ℕ) → 0 < l → not (eqb l 0) ≡ true
 label-ok l h = ap (λ (b : Bool). not b) (ne-eqb l 0 (λ e. omega arith))
 
-module _ (wide : Float) (k m : ℕ) (L : List ℕ) (ps : List Pair) (s : Mem) (F : Filled wide k m L (used k ps) s) where
+module _ (twoNyquist : Float) (k m : ℕ) (L : List ℕ) (ps : List Pair) (s : Tables) (F : Filled twoNyquist k m L (used k ps) s) where
   pub tables : State
   tables = rawNet m (k + 1) s
 
   unfoldable pub network : State
-  network = start wide (used k ps) (map (sizeIn L) (upto k 1))
+  network = start twoNyquist (used k ps) (map (sizeIn L) (upto k 1))
 
   edges-ok : All (OkE some-label any-edge) (map (edgeOf s) (upto m 0))
   edges-ok = all-upto (OkE some-label any-edge) (edgeOf s) 0 m (λ j a b.
       let h : j < m = omega arith in
-      let g = good wide k m L ps s F j h in
-      unfold edgeOf in (label-ok (getD (s .at first) j 0) (omega (arith, first-of wide k m L ps s F j h, g .low, g .less)), label-ok (getD (s .at second) j 0) (omega (arith, second-of wide k m L ps s F j h, g .low))))
+      let g = good twoNyquist k m L ps s F j h in
+      unfold edgeOf in (label-ok (getD (s .at first) j 0) (omega (arith, first-of twoNyquist k m L ps s F j h, g .low, g .less)), label-ok (getD (s .at second) j 0) (omega (arith, second-of twoNyquist k m L ps s F j h, g .low))))
 
   closed : Closed some-label any-edge tables
   unfolding tables rawNet
@@ -72,7 +72,7 @@ module _ (wide : Float) (k m : ℕ) (L : List ℕ) (ps : List Pair) (s : Mem) (F
     regions-ok = all-upto (OkR some-label any-edge) (rawRegion s) 0 (k + 1) (λ i a b. unfold rawRegion in refl);
   }
 
-  regions-from : (i n : ℕ) → map (region wide k m L ps s F) (upto n i) ≡ alone i (map (sizeIn L) (upto n i))
+  regions-from : (i n : ℕ) → map (region twoNyquist k m L ps s F) (upto n i) ≡ alone i (map (sizeIn L) (upto n i))
   unfolding upto alone region
   regions-from i zero = refl
   regions-from i (suc n) = ap (λ (l : List Region). record { label = i; size = sizeIn L i; node = i; count = pos 0 } ∷ l) (regions-from (suc i) n)
@@ -81,20 +81,20 @@ module _ (wide : Float) (k m : ℕ) (L : List ℕ) (ps : List Pair) (s : Mem) (F
   unfolding restrict tables rawNet network start
   restricted = λ i. record { edges = es i; regions = rs i }
     where
-      es : keep (edgeIn some-label any-edge) (map (edgeOf s) (upto m 0)) ≡ Rattle.network.specs.Network.numbered wide 0 (used k ps)
-      es = keep-every (edgeIn some-label any-edge) (map (edgeOf s) (upto m 0)) (λ e. unfold edgeIn in refl) ∙ edges-are wide k m L ps s F
+      es : keep (edgeIn some-label any-edge) (map (edgeOf s) (upto m 0)) ≡ Rattle.network.specs.Network.numbered twoNyquist 0 (used k ps)
+      es = keep-every (edgeIn some-label any-edge) (map (edgeOf s) (upto m 0)) (λ e. unfold edgeIn in refl) ∙ edges-are twoNyquist k m L ps s F
 
-      named : (i : ℕ) → 1 ≤ i → regionIn some-label any-edge (region wide k m L ps s F i) ≡ true
+      named : (i : ℕ) → 1 ≤ i → regionIn some-label any-edge (region twoNyquist k m L ps s F i) ≡ true
       named i h = unfold regionIn region in label-ok i h
 
-      without-0 : keep (regionIn some-label any-edge) (map (region wide k m L ps s F) (upto (suc k) 0)) ≡ keep (regionIn some-label any-edge) (map (region wide k m L ps s F) (upto k 1))
+      without-0 : keep (regionIn some-label any-edge) (map (region twoNyquist k m L ps s F) (upto (suc k) 0)) ≡ keep (regionIn some-label any-edge) (map (region twoNyquist k m L ps s F) (upto k 1))
       without-0 = unfold upto keep region regionIn in refl
 
       rs : keep (regionIn some-label any-edge) (map (rawRegion s) (upto (k + 1) 0)) ≡ alone 1 (map (sizeIn L) (upto k 1))
       rs =
-          ap (keep (regionIn some-label any-edge)) (regions-are wide k m L ps s F ∙ ap (λ (x : ℕ). map (region wide k m L ps s F) (upto x 0)) (add-one k))
+          ap (keep (regionIn some-label any-edge)) (regions-are twoNyquist k m L ps s F ∙ ap (λ (x : ℕ). map (region twoNyquist k m L ps s F) (upto x 0)) (add-one k))
           ∙ without-0
-          ∙ keep-all (regionIn some-label any-edge) (map (region wide k m L ps s F) (upto k 1)) (all-upto (λ r. regionIn some-label any-edge r ≡ true) (region wide k m L ps s F) 1 k (λ i a b. named i a))
+          ∙ keep-all (regionIn some-label any-edge) (map (region twoNyquist k m L ps s F) (upto k 1)) (all-upto (λ r. regionIn some-label any-edge r ≡ true) (region twoNyquist k m L ps s F) 1 k (λ i a b. named i a))
           ∙ regions-from 1 k
 
   -- ---- so the two runs are one

@@ -11,10 +11,10 @@ use lib.Seq.{getD-set-same, getD-set-other}
 use Rattle.lists.proofs.AllLaws.{mem-upto}
 use Rattle.lists.specs.Seq.{upto}
 use Rattle.network.specs.Network.{Edge, Region, State, Plan, sizeOf, plan, planFor, kill, turn, turnIf, adjust, prepare, combine}
-use Rattle.merge.specs.Inside.Mem.{Mem, Sound, store}
+use Rattle.merge.specs.Inside.Tables.{Tables, Sound, store}
 use Rattle.merge.specs.Inside.Table.{is, weight, first, second, enext, rnext, stamp, size, elen, rlen, count}
 use Rattle.merge.specs.Inside.Steps.{unbias, turned, pruned, takeEdge, walkMoved, movedAll}
-use Rattle.merge.specs.Inside.Does.{Gains}
+use Rattle.merge.specs.Inside.Leaves.{Gains}
 use Rattle.network.specs.Inside.Net.{edgeOf, edgeNow, regionOf, Like}
 use Rattle.merge.specs.Inside.Chain.{cur}
 use Rattle.network.specs.Inside.Rep.{Rep, Circled}
@@ -29,23 +29,23 @@ use Rattle.network.proofs.Chained.{circled-by, circled-less, at-end, me
 use Rattle.network.proofs.Dropping.{Pruned, prune-is}
 use Rattle.network.proofs.Moved.{same-no, same-yes, Setting, Middle, Grounds}
 use Rattle.network.proofs.MovedWalk.{begin, Walked, walk, finish}
-use Rattle.merge.proofs.Counts.{Counted}
+use Rattle.merge.proofs.Counts.{CountsDiffer}
 use Rattle.network.proofs.Prepared.{nodes-apart, setting}
 
-pub sound-walk-moved : (m n b v g k : ℕ) (s : Mem) (x : ℕ) → Gains n b v g → Sound m n s → Sound m n (walkMoved k m b v g s x)
+pub sound-walk-moved : (m n b v g k : ℕ) (s : Tables) (x : ℕ) → Gains n b v g → Sound m n s → Sound m n (walkMoved k m b v g s x)
 unfolding walkMoved
 sound-walk-moved m n b v g zero s x ok h = h
 sound-walk-moved m n b v g (suc k) s x ok h = sound-walk-moved m n b v g k (takeEdge m b v g s (x / 2)) (getD (s .at enext) x 0) ok (sound-take m n b v g s (x / 2) h ok)
 
-pub sound-moved-all : (m n b v g : ℕ) (s : Mem) → Gains n b v g → Sound m n s → Sound m n (movedAll m b v g s)
+pub sound-moved-all : (m n b v g : ℕ) (s : Tables) → Gains n b v g → Sound m n s → Sound m n (movedAll m b v g s)
 unfolding movedAll
 sound-moved-all m n b v g s ok h = sound-walk-moved m n b v g (getD (s .at elen) v 0 - 1) s (getD (s .at enext) (2 * m + v) 0) ok h
 
-counted-edges : (s t : Mem) → Counted s t → (j : ℕ) → edgeNow s j ≡ edgeNow t j
+counted-edges : (s t : Tables) → CountsDiffer s t → (j : ℕ) → edgeNow s j ≡ edgeNow t j
 unfolding edgeNow turned edgeOf
 counted-edges s t c j = rw (c .tables .at weight, c .tables .at first, c .tables .at second, c .tables .at stamp, c .diff) refl
 
-same-edges : (s t : Mem) → Same s t → (j : ℕ) → edgeNow s j ≡ edgeNow t j
+same-edges : (s t : Tables) → Same s t → (j : ℕ) → edgeNow s j ≡ edgeNow t j
 unfolding edgeNow turned edgeOf
 same-edges s t c j = rw (c .beside .at weight, c .beside .at first, c .beside .at second, c .beside .at stamp, c .diff) refl
 
@@ -73,7 +73,7 @@ pub prep-live : (pl : Plan) (e : Edge) → prepare pl e .live ≡ kill (pl .edge
 unfolding kill prepare turn turnIf adjust
 prep-live pl e = refl
 
-module _ (m n : ℕ) (gates : ℕ → ℕ) (past : ℕ) (s : Mem) (t : State) (R : Rep m n gates past s t) where
+module _ (m n : ℕ) (gates : ℕ → ℕ) (past : ℕ) (s : Tables) (t : State) (R : Rep m n gates past s t) where
   -- ---- ends of live edges
   pub ends-in : (j : ℕ) → j < m → R .E j .live ≡ true → (R .E j .first < n) × (R .E j .second < n)
   ends-in j h l = stands-in m n s j (R .E j) (R .sound) h (stands s j (R .E j) (R .like j h .whole l) l)
@@ -116,7 +116,7 @@ module _ (m n : ℕ) (gates : ℕ → ℕ) (past : ℕ) (s : Mem) (t : State) (R
     apart = nodes-apart m (R .E) (R .number) (R .simple) e lt l rs
 
     -- ---- the chosen edge dies
-    abbrev pub s₁ : Mem
+    abbrev pub s₁ : Tables
     s₁ = store weight s e 0
 
     pub sound₁ : Sound m n s₁
@@ -170,7 +170,7 @@ module _ (m n : ℕ) (gates : ℕ → ℕ) (past : ℕ) (s : Mem) (t : State) (R
         (eq-or-ne j e)
 
     -- ---- the base is stamped, and its edges stand from it
-    abbrev pub s₂ : Mem
+    abbrev pub s₂ : Tables
     s₂ = store stamp s₁ (pl .base) (past + 1)
 
     pub beside₂ : Alike (is stamp) s₂ s₁
@@ -209,7 +209,7 @@ module _ (m n : ℕ) (gates : ℕ → ℕ) (past : ℕ) (s : Mem) (t : State) (R
             like-of _ _ (stamp-now m n s₁ sound₁ (pl .base) (past + 1) base-in newest₁ j apart₁ ∙ ap (turn (pl .base)) is)
 
     -- ---- the moved node's edges go to the base
-    module _ (g : ℕ) (gain : unbias g ≡ pl .gain) (g-in : g ≤ 2000) (s₃ : Mem) (counted : Counted s₃ s₂) (sound₃ : Sound m n s₃) where
+    module _ (g : ℕ) (gain : unbias g ≡ pl .gain) (g-in : g ≤ 2000) (s₃ : Tables) (counted : CountsDiffer s₃ s₂) (sound₃ : Sound m n s₃) where
       ok : Gains n (pl .base) (pl .moved) g
       ok = record { b-in = base-in; v-in = moved-in; apart = apart; g-in = g-in }
 
@@ -223,7 +223,7 @@ module _ (m n : ℕ) (gates : ℕ → ℕ) (past : ℕ) (s : Mem) (t : State) (R
       like₃ : (j : ℕ) → j < m → Like (edgeNow s₃ j) (ready j)
       like₃ j h = like-at _ _ _ (counted-edges s₃ s₂ counted j) (like₂ j h)
 
-      abbrev pub sₚ : Mem
+      abbrev pub sₚ : Tables
       sₚ = pruned m (pl .moved) s₃
 
       pub prunedₚ : Pruned m n (R .node) killed s₃ sₚ
@@ -237,7 +237,7 @@ module _ (m n : ℕ) (gates : ℕ → ℕ) (past : ℕ) (s : Mem) (t : State) (R
       middleₚ : Middle m (pl .base) (pl .moved) prep ready (sₚ .at enext) (sₚ .at elen) (sₚ .at stamp) (λ j. false) sₚ
       middleₚ = begin m (pl .base) (pl .moved) g prep ready S sₚ (λ j h. like-at _ _ _ (same-edges sₚ s₃ (prunedₚ .same) j) (like₃ j h))
 
-      abbrev pub s₄ : Mem
+      abbrev pub s₄ : Tables
       s₄ = movedAll m (pl .base) (pl .moved) g sₚ
 
       pub sound₄ : Sound m n s₄

@@ -12,10 +12,10 @@ use Rattle.network.specs.Network.{Edge, Region, State, Plan, Link, sizeO
 use Rattle.network.proofs.Restrict.{prepare-num, combine-num}
 use Rattle.network.proofs.Ends.{combine-live}
 use Rattle.network.proofs.Choice.{size-base}
-use Rattle.network.proofs.SimpleLaws.{Turned, step-simple}
-use Rattle.merge.specs.Inside.Mem.{Mem, Sound, store}
+use Rattle.network.proofs.SimpleLaws.{OtherEnds, step-simple}
+use Rattle.merge.specs.Inside.Tables.{Tables, Sound, store}
 use Rattle.merge.specs.Inside.Table.{weight, enext, rnext, stamp, size, elen, rlen, count}
-use Rattle.merge.specs.Inside.Steps.{unbias, accepts, walkRaise, pruned, movedAll, handed, then, merged}
+use Rattle.merge.specs.Inside.Steps.{unbias, countInRange, walkRaise, pruned, movedAll, handed, then, merged}
 use Rattle.network.specs.Inside.Net.{regionOf}
 use Rattle.merge.specs.Inside.Chain.{cur, Chains, own-joined, pos-joined, len-joined}
 use Rattle.network.specs.Inside.Rep.{Rep, Circled, Ends}
@@ -61,7 +61,7 @@ combine-ends es b v e ns = go (eqb b (e .first)) refl (eqb v (e .first)) refl (f
     go false xe true ye o = (rw ye refl, ts)
     go false xe false ye o = (rw ye refl, ts)
 
-module _ (m n : ℕ) (gates : ℕ → ℕ) (past : ℕ) (s : Mem) (t : State) (R : Rep m n gates past s t) (e : ℕ) (lt : e < m) (l : R .E e .live ≡ true) where
+module _ (m n : ℕ) (gates : ℕ → ℕ) (past : ℕ) (s : Tables) (t : State) (R : Rep m n gates past s t) (e : ℕ) (lt : e < m) (l : R .E e .live ≡ true) where
   abbrev rs : List Region
   rs = map (regionOf gates (R .node) s) (upto n 0)
 
@@ -83,7 +83,7 @@ module _ (m n : ℕ) (gates : ℕ → ℕ) (past : ℕ) (s : Mem) (t : State) (R
   abbrev node' : ℕ → ℕ
   node' = own-joined (R .node) b v
 
-  abbrev s₂ : Mem
+  abbrev s₂ : Tables
   s₂ = store stamp (store weight s e 0) b (past + 1)
 
   hb : b < n
@@ -129,11 +129,11 @@ module _ (m n : ℕ) (gates : ℕ → ℕ) (past : ℕ) (s : Mem) (t : State) (R
       ∙ ap (λ (x : List Edge). map (combine x b v) x) (map-map (prepare pl) (R .E) (upto m 0)) ∙ map-map (combine (map prep (upto m 0)) b v) prep (upto m 0)
 
   -- ---- the counts
-  module _ (g : ℕ) (gain : unbias g ≡ pl .gain) (g-in : g ≤ 2000) (s₃ : Mem) (G : Gained g (s .at rnext) v (getD (s .at rlen) v 0) n s₂ s₃) where
-    abbrev s₄ : Mem
+  module _ (g : ℕ) (gain : unbias g ≡ pl .gain) (g-in : g ≤ 2000) (s₃ : Tables) (G : Gained g (s .at rnext) v (getD (s .at rlen) v 0) n s₂ s₃) where
+    abbrev s₄ : Tables
     s₄ = movedAll m b v g (pruned m v s₃)
 
-    abbrev s₆ : Mem
+    abbrev s₆ : Tables
     s₆ = after m b v s₄
 
     sound₃ : Sound m n s₃
@@ -155,13 +155,13 @@ module _ (m n : ℕ) (gates : ℕ → ℕ) (past : ℕ) (s : Mem) (t : State) (R
     count₆ = after-count m b v s₄ ∙ still₄ .3
 
     -- a region of the moved node stands in its chain
-    moved-count : (r : ℕ) → r < n → R .node r ≡ v → (accepts (getD (s .at count) r 0 + g) ≡ true) × (getD (s₃ .at count) r 0 ≡ getD (s .at count) r 0 + g - 1000)
+    moved-count : (r : ℕ) → r < n → R .node r ≡ v → (countInRange (getD (s .at count) r 0 + g) ≡ true) × (getD (s₃ .at count) r 0 ≡ getD (s .at count) r 0 + g - 1000)
     moved-count r h w =
         let i : ℕ = R .rpos r in
         let at-r : cur (s .at rnext) v i ≡ r = ap (λ (x : ℕ). cur (s .at rnext) x i) (sym w) ∙ R .rchains .at r h in
         let p : i < getD (s .at rlen) v 0 = subst (λ (x : ℕ). i < getD (s .at rlen) x 0) w (R .rchains .here r h) in
         let c : getD (s₂ .at count) (cur (s .at rnext) v i) 0 ≡ getD (s .at count) r 0 = ap (λ (x : List ℕ). getD x (cur (s .at rnext) v i) 0) count₂ ∙ ap (λ (x : ℕ). getD (s .at count) x 0) at-r in
-        (ap (λ (x : ℕ). accepts (x + g)) (sym c) ∙ G .yes i p, ap (λ (x : ℕ). getD (s₃ .at count) x 0) (sym at-r) ∙ G .here i p ∙ ap (λ (x : ℕ). x + g - 1000) c)
+        (ap (λ (x : ℕ). countInRange (x + g)) (sym c) ∙ G .yes i p, ap (λ (x : ℕ). getD (s₃ .at count) x 0) (sym at-r) ∙ G .here i p ∙ ap (λ (x : ℕ). x + g - 1000) c)
 
     other-count : (r : ℕ) → (R .node r ≡ v → ⊥) → getD (s₃ .at count) r 0 ≡ getD (s .at count) r 0
     other-count r w =
@@ -176,7 +176,7 @@ module _ (m n : ℕ) (gates : ℕ → ℕ) (past : ℕ) (s : Mem) (t : State) (R
 
         mine : R .node r ≡ v → move pl (regionOf gates (R .node) s r) ≡ regionOf gates node' s₆ r
         mine w =
-            let q : (accepts (getD (s .at count) r 0 + g) ≡ true) × (getD (s₃ .at count) r 0 ≡ getD (s .at count) r 0 + g - 1000) = moved-count r h w in
+            let q : (countInRange (getD (s .at count) r 0 + g) ≡ true) × (getD (s₃ .at count) r 0 ≡ getD (s .at count) r 0 + g - 1000) = moved-count r h w in
             let yes : eqb v (R .node r) ≡ true = same-yes v (R .node r) (sym w) in
             let c : cond (eqb v (R .node r)) (unbias (getD (s .at count) r 0) +ℤ pl .gain) (unbias (getD (s .at count) r 0)) ≡ unbias (getD (s₆ .at count) r 0) =
             ap (λ (x : Bool). cond x (unbias (getD (s .at count) r 0) +ℤ pl .gain) (unbias (getD (s .at count) r 0))) yes ∙ ap (λ (z : ℤ). unbias (getD (s .at count) r 0) +ℤ z) (sym gain)
@@ -259,7 +259,7 @@ module _ (m n : ℕ) (gates : ℕ → ℕ) (past : ℕ) (s : Mem) (t : State) (R
         there z = rw (same-no (2 * m + b) (2 * m + x) (λ y. z (omega arith)), same-no b x (λ y. z (sym y))) (C .lengths x h (was-leader x w .0))
 
     -- ---- the edges
-    prepared-second : (j : ℕ) → j < m → prep j .live ≡ true → Turned b v (prep j)
+    prepared-second : (j : ℕ) → j < m → prep j .live ≡ true → OtherEnds b v (prep j)
     prepared-second j h k = setting m (R .E) (R .number) (R .simple) e lt l rs g gain .turned j h k
 
     lived : (j : ℕ) → E' j .live ≡ true → prep j .live ≡ true
@@ -360,7 +360,7 @@ module _ (m n : ℕ) (gates : ℕ → ℕ) (past : ℕ) (s : Mem) (t : State) (R
         ∙ (unfold regionOf in sym (accepts-is (getD (s .at count) r 0) g) ∙ moved-count r (omega arith) w .0))
 
   -- ---- the whole merge
-  unfoldable pub MergeIs : Option Mem → Type 0
+  unfoldable pub MergeIs : Option Tables → Type 0
   MergeIs none = all (bounded 1000) (raised (pl .gain) rs v) ≡ false
   MergeIs (some s') = (all (bounded 1000) (raised (pl .gain) rs v) ≡ true) × Rep m n gates (past + 1) s' (step t e)
 
@@ -370,9 +370,9 @@ module _ (m n : ℕ) (gates : ℕ → ℕ) (past : ℕ) (s : Mem) (t : State) (R
       (raise g (s .at rnext) n (getD (s .at rlen) v 0) v s₂ (ap length count₂ ∙ R .sound .lengths count) rnext₂ (λ i p. R .rchains .inside v i hv lv p)
       (λ i j p q r. sym (R .rchains .placed v i hv lv p) ∙ ap (R .rpos) r ∙ R .rchains .placed v j hv lv q))
     where
-      go : (o : Option Mem) → Gives g (s .at rnext) v (getD (s .at rlen) v 0) n s₂ o → MergeIs (then o (handed m b v g))
+      go : (o : Option Tables) → Gives g (s .at rnext) v (getD (s .at rlen) v 0) n s₂ o → MergeIs (then o (handed m b v g))
       go none w =
           let r : ℕ = cur (s .at rnext) v (w .0) in
           all-no (regionOf gates (R .node) s) (pl .gain) v 0 n r (omega arith) (omega (arith, R .rchains .inside v (w .0) hv lv (w .1))) (unfold regionOf in R .rchains .owned v (w .0) hv lv (w .1))
-          (ap (λ (z : ℤ). bounded 1000 (regionOf gates (R .node) s r .count +ℤ z)) (sym gain) ∙ (unfold regionOf in sym (accepts-is (getD (s .at count) r 0) g) ∙ ap (λ (x : List ℕ). accepts (getD x r 0 + g)) (sym count₂) ∙ w .2))
+          (ap (λ (z : ℤ). bounded 1000 (regionOf gates (R .node) s r .count +ℤ z)) (sym gain) ∙ (unfold regionOf in sym (accepts-is (getD (s .at count) r 0) g) ∙ ap (λ (x : List ℕ). countInRange (getD x r 0 + g)) (sym count₂) ∙ w .2))
       go (some s₃) w = (yes' g gain g-in s₃ w, rep' g gain g-in s₃ w)

@@ -9,7 +9,7 @@ use lib.Dec.{leb, eqb}
 use lib.IntN.{ℤ, pos, negsuc, subℕ, _+ℤ_, +ℤ-comm}
 use borrow.Author.Tests.{lt-ltb, le-ltb, le-leb, lt-leb, eqb-true}
 use Rattle.network.specs.Network.{Region, Plan, sizeOf, move, bounded, gatesOf}
-use Rattle.merge.specs.Inside.Steps.{unbias, accepts}
+use Rattle.merge.specs.Inside.Steps.{unbias, countInRange}
 use Rattle.merge.proofs.Bias.{lt-or-le, unbias-up, unbias-down}
 use Rattle.network.proofs.Moved.{same-no}
 
@@ -38,8 +38,8 @@ unbias-sum c g = ⊎-elim
     (lt-or-le c 1000)
 
 -- question 9 on words is question 9 on whole numbers
-pub accepts-is : (c g : ℕ) → accepts (c + g) ≡ bounded 1000 (unbias c +ℤ unbias g)
-unfolding accepts bounded
+pub accepts-is : (c g : ℕ) → countInRange (c + g) ≡ bounded 1000 (unbias c +ℤ unbias g)
+unfolding countInRange bounded
 accepts-is c g = rw (unbias-sum c g) (go (c + g))
   where
     go : (t : ℕ) → (leb 1000 t && leb t 3000) ≡ bounded 1000 (subℕ t 2000)
@@ -54,8 +54,8 @@ accepts-is c g = rw (unbias-sum c g) (go (c + g))
         (lt-or-le 3000 t)))
         (lt-or-le t 2000)
 
-pub accepted-sum : (c g : ℕ) → accepts (c + g) ≡ true → unbias (c + g - 1000) ≡ unbias c +ℤ unbias g
-unfolding accepts
+pub accepted-sum : (c g : ℕ) → countInRange (c + g) ≡ true → unbias (c + g - 1000) ≡ unbias c +ℤ unbias g
+unfolding countInRange
 accepted-sum c g h = ⊎-elim
     (λ p. absurd (true≢false (sym h ∙ (rw (lt-leb 1000 (c + g) p) refl))))
     (λ p. go (c + g) p ∙ sym (unbias-sum c g))

@@ -9,7 +9,7 @@ use lib.ListN.{getD, set, length-set}
 use lib.Seq.{getD-set-same, getD-set-other}
 use borrow.Author.Tests.{eqb-true, eq-eqb, ne-eqb}
 use Rattle.network.specs.Network.{Edge}
-use Rattle.merge.specs.Inside.Mem.{Mem, Sound, store, diff-set}
+use Rattle.merge.specs.Inside.Tables.{Tables, Sound, store, diff-set}
 use Rattle.merge.specs.Inside.Table.{weight, first, second}
 use Rattle.merge.specs.Inside.Steps.{turnAt, absorbAt, attachAt, joinEdge, shift, movedEdge}
 use Rattle.network.specs.Inside.Net.{edgeOf, Like}
@@ -27,15 +27,15 @@ pub like-at : (x y z : Edge) → x ≡ y → Like y z → Like x z
 like-at x y z e h = subst (λ (t : Edge). Like t z) (sym e) h
 
 -- ---- live and dead words
-pub live-word : (s : Mem) (j : ℕ) → edgeOf s j .live ≡ true → getD (s .at weight) j 0 ≡ 0 → ⊥
+pub live-word : (s : Tables) (j : ℕ) → edgeOf s j .live ≡ true → getD (s .at weight) j 0 ≡ 0 → ⊥
 unfolding edgeOf
 live-word s j h e = true≢false (sym h ∙ (rw (eq-eqb (getD (s .at weight) j 0) 0 e) refl))
 
-pub word-live : (s : Mem) (j : ℕ) → (getD (s .at weight) j 0 ≡ 0 → ⊥) → edgeOf s j .live ≡ true
+pub word-live : (s : Tables) (j : ℕ) → (getD (s .at weight) j 0 ≡ 0 → ⊥) → edgeOf s j .live ≡ true
 unfolding edgeOf
 word-live s j h = rw (ne-eqb (getD (s .at weight) j 0) 0 h) refl
 
-pub dead-word : (s : Mem) (j : ℕ) → edgeOf s j .live ≡ false → getD (s .at weight) j 0 ≡ 0
+pub dead-word : (s : Tables) (j : ℕ) → edgeOf s j .live ≡ false → getD (s .at weight) j 0 ≡ 0
 unfolding edgeOf
 dead-word s j h = go (eqb (getD (s .at weight) j 0) 0) refl h
   where
@@ -43,19 +43,19 @@ dead-word s j h = go (eqb (getD (s .at weight) j 0) 0) refl h
     go true e r = eqb-true (getD (s .at weight) j 0) 0 e
     go false e r = absurd (true≢false r)
 
-pub word-dead : (s : Mem) (j : ℕ) → getD (s .at weight) j 0 ≡ 0 → edgeOf s j .live ≡ false
+pub word-dead : (s : Tables) (j : ℕ) → getD (s .at weight) j 0 ≡ 0 → edgeOf s j .live ≡ false
 unfolding edgeOf
 word-dead s j h = rw (eq-eqb (getD (s .at weight) j 0) 0 h) refl
 
 -- an edge by its words
-pub record Words (s : Mem) (j : ℕ) (e : Edge) : Type 0 where
+pub record Words (s : Tables) (j : ℕ) (e : Edge) : Type 0 where
   pub some : getD (s .at weight) j 0 ≡ 0 → ⊥
   pub first-is : getD (s .at first) j 0 ≡ e .first
   pub second-is : getD (s .at second) j 0 ≡ e .second
   pub weight-is : getD (s .at weight) j 0 ≡ e .link .weight
   pub diff-is : getD (s .diff) j nan ≡ e .link .diff
 
-pub words : (s : Mem) (j : ℕ) (e : Edge) → edgeOf s j ≡ e → e .live ≡ true → Words s j e
+pub words : (s : Tables) (j : ℕ) (e : Edge) → edgeOf s j ≡ e → e .live ≡ true → Words s j e
 words s j e h l = record {
   some = live-word s j (ap (λ (x : Edge). x .live) h ∙ l);
   first-is = unfold edgeOf in ap (λ (x : Edge). x .first) h;
@@ -65,7 +65,7 @@ words s j e h l = record {
 }
 
 -- ---- which step movedEdge is
-module _ (m b v g : ℕ) (s : Mem) (f : ℕ) where
+module _ (m b v g : ℕ) (s : Tables) (f : ℕ) where
   pub moved-none : getD (s .at weight) f 0 ≡ 0 → movedEdge m b v g s f ≡ s
   unfolding movedEdge
   moved-none e = rw (eq-eqb (getD (s .at weight) f 0) 0 e) refl
@@ -84,7 +84,7 @@ module _ (m b v g : ℕ) (s : Mem) (f : ℕ) where
     moved-two p q = rw (ne-eqb (getD (s .at weight) f 0) 0 live, ne-eqb (getD (s .at first) f 0) v p, eq-eqb (getD (s .at second) f 0) v q) refl
 
 -- ---- the edges after a step
-module _ (m n : ℕ) (s : Mem) (h : Sound m n s) where
+module _ (m n : ℕ) (s : Tables) (h : Sound m n s) where
   module _ (q f : ℕ) (x : Float) (hq : q < m) (hf : f < m) (ne : q ≡ f → ⊥) where
     pub absorb-gone : edgeOf (absorbAt s q f x) f .live ≡ false
     unfolding absorbAt store diff-set

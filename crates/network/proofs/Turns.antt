@@ -14,10 +14,10 @@ use Rattle.lists.proofs.SeqLaws.{map-upto-length, map-upto-at}
 use Rattle.network.specs.Network.{Edge, Region, State, Plan, sizeOf, at, turnIf, plan, planFor, eventOf, event, step, raised, better, choose, quot, bounded, inRange, whole}
 use Rattle.network.proofs.Choice.{Best as Heaviest, best-chosen}
 use Rattle.memory.specs.Inside.Tree.{Tree, Best}
-use Rattle.merge.specs.Inside.Mem.{Mem, view, Room, Sound}
+use Rattle.merge.specs.Inside.Tables.{Tables, view, HoldsTables, Sound}
 use Rattle.merge.specs.Inside.Table.{count, weight, first, second, enext, rnext, size, rlen}
 use Rattle.merge.specs.Inside.Steps.{unbias, turned, merged, numberOf}
-use Rattle.merge.specs.Inside.Does.{Does, Raised, Gains, Fit}
+use Rattle.merge.specs.Inside.Leaves.{LeavesTables, Raised, Gains, Fit}
 use Rattle.network.specs.Inside.Net.{edgeOf, edgeNow, regionOf}
 use Rattle.network.specs.Inside.Rep.{Rep}
 use Rattle.network.specs.Inside.Settle.{Done, onward, settle}
@@ -50,7 +50,7 @@ choose-dead E k zero h = refl
 choose-dead E k (suc n) h = ap (better (E k)) (choose-dead E (suc k) n (λ j p q. h j (omega arith) (omega arith))) ∙ (rw (h k (omega arith) (omega arith)) refl)
 
 module _ (m n : ℕ) (gates : ℕ → ℕ) (past : ℕ) (w : List ℕ) (d : List Float) (t : State) (R : Rep m n gates past (view m n w d) t) where
-  abbrev s : Mem
+  abbrev s : Tables
   s = view m n w d
 
   module _ (e : ℕ) (B : Best m w e) where
@@ -155,9 +155,9 @@ module _ (m n : ℕ) (gates : ℕ → ℕ) (past : ℕ) (w : List ℕ) (d : List
           merged-yes : (w' : List ℕ) (d' : List Float) (z : Bool) → Raised m n w' d' (merged m (past + 1) e b v g' s) z → z ≡ true → PickIs m n gates past t e w' d' Merged
           unfolding PickIs MergeIs
           merged-yes w' d' z h f =
-              let r : (s' : Mem) × (merged m (past + 1) e b v g' s ≡ some s') × Does m n w' d' s' = raised-true m n w' d' _ z h f in
+              let r : (s' : Tables) × (merged m (past + 1) e b v g' s ≡ some s') × LeavesTables m n w' d' s' = raised-true m n w' d' _ z h f in
               let o : (all (bounded 1000) (raised (plan rs (R .E e) .gain) rs (plan rs (R .E e) .moved)) ≡ true) × Rep m n gates (past + 1) (r .0) (step t e) = subst (MergeIs m n gates past s t R e lt l) (r .1) outcome in
-              (range-is ∙ (rw (N .bound, o .0) refl), subst (λ (u : Mem). Rep m n gates (past + 1) u (step t e)) (sym (r .2 .tables)) (o .1), r .2 .tree)
+              (range-is ∙ (rw (N .bound, o .0) refl), subst (λ (u : Tables). Rep m n gates (past + 1) u (step t e)) (sym (r .2 .tables)) (o .1), r .2 .tree)
 
           merged-no : (w' : List ℕ) (d' : List Float) (z : Bool) → Raised m n w' d' (merged m (past + 1) e b v g' s) z → z ≡ false → (w'' : List ℕ) (d'' : List Float) → PickIs m n gates past t e w'' d'' Refused
           unfolding PickIs MergeIs
@@ -272,7 +272,7 @@ module _ (m n : ℕ) (gates : ℕ → ℕ) (past : ℕ) (w : List ℕ) (d : List
       turn-picked w' d' Refused h = (R .E e, choose-some e B live, ap (λ (i : ℕ). inRange (event t i)) num ∙ h)
 
 -- ---- what `pop_edge` leaves where an edge is live
-module _ (m n : ℕ) (w : List ℕ) (d : List Float) (r : Room m n w d) (h : Sound m n (view m n w d)) (e : ℕ) (B : Best m w e) (live : getD w e 0 ≡ 0 → ⊥) where
+module _ (m n : ℕ) (w : List ℕ) (d : List Float) (r : HoldsTables m n w d) (h : Sound m n (view m n w d)) (e : ℕ) (B : Best m w e) (live : getD w e 0 ≡ 0 → ⊥) where
   abbrev x : ℕ
   x = getD w (3 * m + e) 0
 
@@ -328,7 +328,7 @@ module _ (m n : ℕ) (w : List ℕ) (d : List Float) (p : PoppedEdge) (k : Takes
 
 -- ---- the run
 pub record Running (m n : ℕ) (w₀ : List ℕ) (d₀ : List Float) (w : List ℕ) (d : List Float) (k : ℕ) : Type 0 where
-  pub room : Room m n w d
+  pub room : HoldsTables m n w d
   pub net : State
   pub rep : Rep m n (gatesIn (view m n w₀ d₀)) k (view m n w d) net
   pub left : settle (m - k) net k ≡ settle m (firstOf m n (view m n w₀ d₀)) 0
@@ -336,7 +336,7 @@ pub record Running (m n : ℕ) (w₀ : List ℕ) (d₀ : List Float) (w : List �
   pub same-w : length w ≡ length w₀
   pub same-d : length d ≡ length d₀
 
-pub run-start : (m n : ℕ) (w : List ℕ) (d : List Float) → Room m n w d → Rep m n (gatesIn (view m n w d)) 0 (view m n w d) (firstOf m n (view m n w d)) → Running m n w d w d 0
+pub run-start : (m n : ℕ) (w : List ℕ) (d : List Float) → HoldsTables m n w d → Rep m n (gatesIn (view m n w d)) 0 (view m n w d) (firstOf m n (view m n w d)) → Running m n w d w d 0
 run-start m n w d r R = let z : m - 0 ≡ m = omega arith in
     record { room = r; net = firstOf m n (view m n w d); rep = R; left = ap (λ (x : ℕ). settle x (firstOf m n (view m n w d)) 0) z; most = omega arith; same-w = refl; same-d = refl }
 

@@ -11,7 +11,8 @@ use Rattle.lists.specs.Seq.{upto, all, keep}
 use Rattle.arithmetic.specs.Rounding.{roundEven, real, scale}
 use Rattle.arithmetic.specs.declared.rounding.Rounded.{Rounded}
 use Rattle.arithmetic.specs.declared.rounding.Rounded.the-variants.{Whole, Outside}
-use Rattle.edges.specs.Edges.{Shape, difference, pairs, used}
+use Rattle.edges.specs.Edges.{difference, pairs, used}
+use Rattle.edges.specs.declared.edges.Shape.{Shape}
 use Rattle.edges.specs.declared.edges.EdgeRecord.{EdgeRecord}
 
 -- An edge's weight and difference: what follows its node when it moves.
@@ -321,5 +322,5 @@ unfoldable pub networkBy : Float → Shape → ℕ → List ℕ → List Float �
 networkBy w shape k labels vel = start w (used k (pairs shape labels vel)) (map (sizeIn labels) (upto k 1))
 
 -- Question 9 of every merge.
-unfoldable pub goodBy : State → Bool
-goodBy s = all inRange (trace s (merges s))
+unfoldable pub mergesInRange : State → Bool
+mergesInRange s = all inRange (trace s (merges s))

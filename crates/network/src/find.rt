@@ -112,7 +112,7 @@ pub fn find(
             merges: 0,
         });
     }
-    let f = crate::options::frame(o);
+    let f = crate::options::shape(o);
     match crate::reduce::reduce(words, floats, velocity, f, n, k, 2.0 * (o.nyquist as f64)) {
         crate::network::Ran::Settled(j) => Finding::Regions(Run {
             regions: k,

@@ -5,14 +5,14 @@ ghost use Rattle.arithmetic.specs.Rounding.{roundEven};
 ghost use Rattle.network.specs.Network.{whole};
 ghost use Rattle.network.specs.Inside.Popped.{Pops, AnyPop};
 ghost use lib.ListN.{getD};
-ghost use Rattle.merge.specs.Inside.Mem.{view, Room, Sound};
+ghost use Rattle.merge.specs.Inside.Tables.{view, HoldsTables, Sound};
 ghost use Rattle.merge.specs.Inside.Table.{elen};
 ghost use Rattle.merge.specs.Inside.Steps.{numberOf};
 ghost use Rattle.network.specs.Inside.Rep.{Rep};
 ghost use Rattle.network.specs.Inside.Settle.{settle};
 ghost use Rattle.network.specs.Inside.TurnIs.{Standing, AnyTurn, Chosen, AnyPick, gatesIn, firstOf, RanIs};
 ghost use Rattle.network.specs.Inside.Begin.{regionsFrom, linkAt, linkFrom, Space, Raw, Begun, Linkable, AllIs};
-ghost use Rattle.merge.specs.Inside.Does.{Does};
+ghost use Rattle.merge.specs.Inside.Leaves.{LeavesTables};
 
 // The heaviest live edge: its ends, its difference after the division by its weight, and its number.
 pub struct PoppedEdge {
@@ -30,7 +30,7 @@ pub enum Popped {
 
 // Chooses the heaviest live edge, the lowest number among equals: the tree's winner, as it stands.
 pub fn pop_edge(w: &[u32], d: &[f64], m: usize, n: usize) -> Popped
-    requires { ⌜ Room m n (now w) (now d) ⌝ }
+    requires { ⌜ HoldsTables m n (now w) (now d) ⌝ }
     requires { ⌜ Sound m n (view m n (now w) (now d)) ⌝ }
     requires { ⌜ 0 < m ⌝ }
     ensures { λ r. ⌜ Pops m n (now (w .entry)) (now (d .entry)) r ⌝ }
@@ -102,7 +102,7 @@ fn choose_base(
     g: u32,
     k: usize,
 ) -> Turned
-    requires { ⌜ Room m n (now w) (now d) ⌝ }
+    requires { ⌜ HoldsTables m n (now w) (now d) ⌝ }
     requires { ⌜ Standing m n k (view m n (now w) (now d)) ⌝ }
     requires { ⌜ Chosen m (view m n (now w) (now d)) e p q g ⌝ }
     requires { ⌜ k < m ⌝ }
@@ -127,7 +127,7 @@ fn choose_base(
 
 // The next merge after k of them.
 fn turn(w: &mut [u32], d: &mut [f64], m: usize, n: usize, k: usize) -> Turned
-    requires { ⌜ Room m n (now w) (now d) ⌝ }
+    requires { ⌜ HoldsTables m n (now w) (now d) ⌝ }
     requires { ⌜ Standing m n k (view m n (now w) (now d)) ⌝ }
     requires { ⌜ k < m ⌝ }
     ensures { λ r. ⌜ AnyTurn m n k (view m n (now (w .entry)) (now (d .entry))) (now (w .exit)) (now (d .exit)) r ⌝ }
@@ -151,7 +151,7 @@ pub enum Ran {
 }
 
 pub fn run(w: &mut [u32], d: &mut [f64], m: usize, n: usize) -> Ran
-    requires { ⌜ Room m n (now w) (now d) ⌝ }
+    requires { ⌜ HoldsTables m n (now w) (now d) ⌝ }
     requires { ⌜ Rep m n (gatesIn (view m n (now w) (now d))) 0 (view m n (now w) (now d)) (firstOf m n (view m n (now w) (now d))) ⌝ }
     ensures { λ r. ⌜ RanIs m n (gatesIn (view m n (now (w .entry)) (now (d .entry)))) (settle m (firstOf m n (view m n (now (w .entry)) (now (d .entry)))) 0) (now (w .exit)) (now (d .exit)) r ⌝ }
 {
@@ -174,8 +174,8 @@ pub fn run(w: &mut [u32], d: &mut [f64], m: usize, n: usize) -> Ran
 
 // Each region becomes a circle of its own, with count 0, that was never a base.
 fn fill_regions(w: &mut [u32], d: &mut [f64], m: usize, n: usize)
-    requires { ⌜ Room m n (now w) (now d) ⌝ }
-    ensures { λ _. ⌜ Does m n (now (w .exit)) (now (d .exit)) (regionsFrom n (view m n (now (w .entry)) (now (d .entry))) 0) ⌝ }
+    requires { ⌜ HoldsTables m n (now w) (now d) ⌝ }
+    ensures { λ _. ⌜ LeavesTables m n (now (w .exit)) (now (d .exit)) (regionsFrom n (view m n (now (w .entry)) (now (d .entry))) 0) ⌝ }
 {
     let mut x = 0;
     while x < n {
@@ -190,10 +190,10 @@ fn fill_regions(w: &mut [u32], d: &mut [f64], m: usize, n: usize)
 
 // Slot i goes into the circle of node a.
 fn link(w: &mut [u32], d: &mut [f64], m: usize, n: usize, a: u32, i: usize)
-    requires { ⌜ Room m n (now w) (now d) ⌝ }
+    requires { ⌜ HoldsTables m n (now w) (now d) ⌝ }
     requires { ⌜ (a < n) × (i < 2 * m) ⌝ }
     requires { ⌜ getD (view m n (now w) (now d) .at elen) a 0 + 1 < 2 ^ 32 ⌝ }
-    ensures { λ _. ⌜ Does m n (now (w .exit)) (now (d .exit)) (linkAt m a i (view m n (now (w .entry)) (now (d .entry)))) ⌝ }
+    ensures { λ _. ⌜ LeavesTables m n (now (w .exit)) (now (d .exit)) (linkAt m a i (view m n (now (w .entry)) (now (d .entry)))) ⌝ }
 {
     let h = w[5 * m + (2 * m + a as usize)];
     let t = w[5 * m + i];
@@ -205,9 +205,9 @@ fn link(w: &mut [u32], d: &mut [f64], m: usize, n: usize, a: u32, i: usize)
 
 // Both slots of each edge go into the circles of its ends.
 fn link_all(w: &mut [u32], d: &mut [f64], m: usize, n: usize)
-    requires { ⌜ Room m n (now w) (now d) ⌝ }
+    requires { ⌜ HoldsTables m n (now w) (now d) ⌝ }
     requires { ⌜ Linkable m n 0 (view m n (now w) (now d)) ⌝ }
-    ensures { λ _. ⌜ Does m n (now (w .exit)) (now (d .exit)) (linkFrom m m (view m n (now (w .entry)) (now (d .entry))) 0) ⌝ }
+    ensures { λ _. ⌜ LeavesTables m n (now (w .exit)) (now (d .exit)) (linkFrom m m (view m n (now (w .entry)) (now (d .entry))) 0) ⌝ }
 {
     let mut j = 0;
     while j < m {

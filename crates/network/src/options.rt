@@ -1,6 +1,6 @@
 // The options of a call, handed on whole from the exported entry to the functions that read them.
 ghost use mathlib.Core.Path.{_≡_};
-ghost use Rattle.network.specs.Inside.Find.{frameOf};
+ghost use Rattle.network.specs.Inside.Find.{shapeOf};
 
 pub struct Options {
     pub rays: u32,
@@ -14,14 +14,14 @@ pub struct Options {
 }
 
 // What looks go by.
-pub fn frame(o: Options) -> edges::edges::Frame
-    ensures { λ r. ⌜ r ≡ frameOf o ⌝ }
+pub fn shape(o: Options) -> edges::edges::Shape
+    ensures { λ r. ⌜ r ≡ shapeOf o ⌝ }
 {
-    edges::edges::Frame {
+    edges::edges::Shape {
         rays: o.rays as usize,
         gates: o.gates as usize,
-        across: o.skip_between_rays as usize,
-        along: o.skip_along_ray as usize,
+        skip_between_rays: o.skip_between_rays as usize,
+        skip_along_ray: o.skip_along_ray as usize,
         wrap: o.wrap,
     }
 }

@@ -1,25 +1,24 @@
 // From labels to the counts of all regions: edges, sizes and all merges, over the layout of the work memory (Layout, of the crate memory).
 ghost use Rattle.lists.specs.Inside.Seg.{seg};
-ghost use Rattle.edges.specs.Inside.Sees.{shape};
 ghost use Rattle.network.specs.Network.{networkBy};
 ghost use Rattle.network.specs.Inside.Reduce.{Reduces, Reduced};
 
-// The labels of n gates are the first n words, k the number of regions, wide 2 × Nyquist.
+// The labels of n gates are the first n words, k the number of regions.
 pub fn reduce(
     w: &mut [u32],
     d: &mut [f64],
     vel: &[f32],
-    f: edges::edges::Frame,
+    f: edges::edges::Shape,
     n: usize,
     k: usize,
-    wide: f64,
+    two_nyquist: f64,
 ) -> crate::network::Ran
     requires { ⌜ Reduces f (now w) (now d) (now vel) n k ⌝ }
-    ensures { λ r. ⌜ Reduced (networkBy wide (shape f) k (seg (now (w .entry)) 0 n) (now (vel .entry))) n k (now (w .entry)) (now (w .exit)) r ⌝ }
+    ensures { λ r. ⌜ Reduced (networkBy «two_nyquist» f k (seg (now (w .entry)) 0 n) (now (vel .entry))) n k (now (w .entry)) (now (w .exit)) r ⌝ }
 {
     let t = 13 * n;
     let nodes = k + 1;
-    let e = edges::edges::find_edges(w, d, vel, f, n, k, t, wide);
+    let e = edges::edges::find_edges(w, d, vel, f, n, k, t, two_nyquist);
     crate::sizes::count_sizes(w, n, n, nodes);
     memory::words::copy(w, n, t + 7 * e + 3 * nodes, nodes);
     let end = t + 7 * e + 7 * nodes;

@@ -3,12 +3,12 @@
 ghost use mathlib.Core.Path.{_≡_};
 ghost use Prim.Native.Nat.{_+_, _≤_};
 ghost use lib.ListN.{length};
-ghost use Rattle.lists.specs.Inside.Seg.{Apart};
-ghost use Rattle.labels.specs.Inside.Sheet.{Sweep};
+ghost use Rattle.lists.specs.Inside.Seg.{Disjoint};
+ghost use Rattle.labels.specs.Inside.Sheet.{FindsRegions};
 ghost use Rattle.edges.specs.Inside.GatePairs.{Sheet};
 ghost use Rattle.edges.specs.Inside.Sorts.{Sorts};
 ghost use Rattle.edges.specs.Inside.Gather.{Legible, Gathers};
-ghost use Rattle.merge.specs.Inside.Mem.{view};
+ghost use Rattle.merge.specs.Inside.Tables.{view};
 ghost use Rattle.network.specs.Inside.Sizes.{Sizes};
 ghost use Rattle.network.specs.Inside.Begin.{Space, Raw};
 ghost use Rattle.sweep.specs.Inside.Finish.{Finishes};
@@ -20,8 +20,8 @@ pub extern "C" fn stage_questions(
     gates: u32,
     nyquist: f32,
     splits: u32,
-    skip_rays: u32,
-    skip_gates: u32,
+    skip_between_rays: u32,
+    skip_along_ray: u32,
     centred: u32,
     wrap: u32,
     velocity: &[f32],
@@ -34,8 +34,8 @@ pub extern "C" fn stage_questions(
         gates: gates,
         nyquist: nyquist,
         splits: splits,
-        skip_between_rays: skip_rays,
-        skip_along_ray: skip_gates,
+        skip_between_rays: skip_between_rays,
+        skip_along_ray: skip_along_ray,
         centred: centred,
         wrap: wrap,
     };
@@ -69,7 +69,7 @@ pub extern "C" fn stage_labels(
     limits: &[f64],
     work: &mut [u32],
 ) -> u32
-    requires { ⌜ Sweep gates (now velocity) (now valid) (now limits) (now work) ⌝ }
+    requires { ⌜ FindsRegions gates (now velocity) (now valid) (now limits) (now work) ⌝ }
 {
     labels::regions::find_regions(gates, velocity, valid, limits, work)
 }
@@ -79,19 +79,19 @@ pub extern "C" fn stage_labels(
 pub extern "C" fn stage_looks(
     rays: usize,
     gates: usize,
-    across: usize,
-    along: usize,
+    skip_between_rays: usize,
+    skip_along_ray: usize,
     wrap: u32,
     work: &mut [u32],
     n: usize,
 ) -> usize
-    requires { ⌜ Sheet (record { rays = rays; gates = gates; across = across; along = along; wrap = wrap }) n (now work) ⌝ }
+    requires { ⌜ Sheet (record { rays = rays; gates = gates; «skip_between_rays» = «skip_between_rays»; «skip_along_ray» = «skip_along_ray»; wrap = wrap }) n (now work) ⌝ }
 {
-    let f = edges::edges::Frame {
+    let f = edges::edges::Shape {
         rays: rays,
         gates: gates,
-        across: across,
-        along: along,
+        skip_between_rays: skip_between_rays,
+        skip_along_ray: skip_along_ray,
         wrap: wrap,
     };
     edges::edges::pair_all(work, n, f)
@@ -123,11 +123,11 @@ pub extern "C" fn stage_edges(
     m: usize,
     t: usize,
     c: usize,
-    wide: f64,
+    two_nyquist: f64,
 ) -> usize
     requires { ⌜ Gathers (now work) (now floats) (now velocity) n m t c ⌝ }
 {
-    edges::edges::gather(work, floats, velocity, n, m, t, c, wide)
+    edges::edges::gather(work, floats, velocity, n, m, t, c, two_nyquist)
 }
 
 // The regions' sizes.
@@ -141,7 +141,7 @@ pub extern "C" fn stage_sizes(work: &mut [u32], n: usize, at: usize, k: usize)
 // A copy within the words.
 #[no_mangle]
 pub extern "C" fn stage_copy(work: &mut [u32], src: usize, dst: usize, len: usize)
-    requires { ⌜ (src + len ≤ length (now work)) × (dst + len ≤ length (now work)) × Apart src len dst len ⌝ }
+    requires { ⌜ (src + len ≤ length (now work)) × (dst + len ≤ length (now work)) × Disjoint src len dst len ⌝ }
 {
     memory::words::copy(work, src, dst, len);
 }

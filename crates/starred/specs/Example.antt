@@ -23,7 +23,7 @@ use Rattle.locality.proofs.Demand3Laws.{merge-lists, two-sweeps}
 -- eight gates of one ray, Nyquist 10, splits 3, skips 0, centred or not
 abbrev ray : ℕ → List ℤ → List ℕ → Sweep
 ray c vs m = record {
-  shape = record { rays = 1; gates = 8; skipRays = 0; skipGates = 0; wrap = 0 };
+  shape = record { rays = 1; gates = 8; «skip_between_rays» = 0; «skip_along_ray» = 0; wrap = 0 };
   splits = 3;
   centred = c;
   nyquist = ofInt binary32 (pos 10);

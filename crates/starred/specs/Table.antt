@@ -14,7 +14,7 @@ use Rattle.sweep.specs.Call.{Memory, Answer, call}
 -- one ray, all valid, Nyquist 10, splits 3, skips 100, no wrap, uncentred
 abbrev ray : List ℤ → Sweep
 ray vs = record {
-  shape = record { rays = 1; gates = length vs; skipRays = 100; skipGates = 100; wrap = 0 };
+  shape = record { rays = 1; gates = length vs; «skip_between_rays» = 100; «skip_along_ray» = 100; wrap = 0 };
   splits = 3;
   centred = 0;
   nyquist = ofInt binary32 (pos 10);
@@ -33,7 +33,7 @@ narrow s = record { shape = s .shape; splits = 1; centred = s .centred; nyquist 
 -- three rays of one gate, 9, masked, -9; skips 0, wrap or not
 abbrev three : ℕ → Sweep
 three w = record {
-  shape = record { rays = 3; gates = 1; skipRays = 0; skipGates = 0; wrap = w };
+  shape = record { rays = 3; gates = 1; «skip_between_rays» = 0; «skip_along_ray» = 0; wrap = w };
   splits = 3;
   centred = 0;
   nyquist = ofInt binary32 (pos 10);

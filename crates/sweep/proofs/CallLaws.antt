@@ -17,7 +17,7 @@ use Rattle.arithmetic.specs.declared.intervals.Plan.{Plan}
 use Rattle.arithmetic.proofs.Plans.{plan-number, plan-limits-are}
 use Rattle.arithmetic.proofs.Rising.{sweep-limits-rise}
 use Rattle.sweep.specs.Sweep.{Sweep, unfolded}
-use Rattle.sweep.specs.Checks.{refused, ask, firstNo, sevenOf, gatesIn, inLimits, atMost, ownLimits, asked, asked9}
+use Rattle.sweep.specs.Checks.{refused, ask, firstNo, sevenOf, gatesIn, limitsFew, atMost, ownLimits, asked, asked9}
 use Rattle.sweep.specs.Call.{Memory, Answer, lengths, clearedFor, workedOn, ending, call}
 use Rattle.sweep.specs.Entry.{answerOf}
 use Rattle.sweep.proofs.QuestionLaws.{orElse}
@@ -51,7 +51,7 @@ module _ (s : Sweep) (m : Memory) where
   pub call-missed : (r : ℕ) → r ≡ answerOf (firstNo (sevenOf s (lengths m))) → (r ≡ 0 → ⊥) → _≡_ {A = Answer} (record { number = r; memory = m }) (call s m)
   call-missed r e h = go (firstNo (sevenOf s (lengths m))) e (asked-eight s (lengths m))
     where
-      go : (o : Option ℕ) → r ≡ answerOf o → asked s (lengths m) ≡ orElse o (firstNo (ask 8 (inLimits s) ∷ [])) → _≡_ {A = Answer} (record { number = r; memory = m }) (call s m)
+      go : (o : Option ℕ) → r ≡ answerOf o → asked s (lengths m) ≡ orElse o (firstNo (ask 8 (limitsFew s) ∷ [])) → _≡_ {A = Answer} (record { number = r; memory = m }) (call s m)
       go none e q = absurd (h e)
       go (some k) e q = ap (λ (j : ℕ). record { number = j; memory = m }) e ∙ (unfold endBy in call-by (some k) q)
 
@@ -65,7 +65,7 @@ module _ (s : Sweep) (m : Memory) where
     number-is = plan-number r (s .nyquist) (s .splits) (range (valid (s .vel) (s .mask))) (range (valid (s .vel) (s .mask))) e refl
 
     eight : {b : Bool} → atMost 10000 (r .number) ≡ b → asked s (lengths m) ≡ elim b [ true ↦ none | false ↦ some 8 ]
-    unfolding inLimits firstNo
+    unfolding limitsFew firstNo
     eight t = asked-eight s (lengths m) ∙ rw h (rw (ap (atMost 10000) (sym number-is) ∙ t) refl)
 
     pub call-many : atMost 10000 (r .number) ≡ false → _≡_ {A = Answer} (record { number = 8; memory = m }) (call s m)
@@ -84,4 +84,4 @@ module _ (s : Sweep) (m : Memory) where
     limits-rise f g t =
         let p = passed s (lengths m) h in
         subst Rising (sym limits-are)
-        (sweep-limits-rise (s .nyquist) (s .splits) (s .vel) (s .mask) f g (p .asked) (p .fair) (subst (λ (z : ℤ). atLeast0 z ≤ 10000) number-is (few-limits t)))
+        (sweep-limits-rise (s .nyquist) (s .splits) (s .vel) (s .mask) f g (p .asked) (p .velocityInRange) (subst (λ (z : ℤ). atLeast0 z ≤ 10000) number-is (few-limits t)))

@@ -12,7 +12,7 @@ use lib.IntN.{pos, negsuc}
 use lib.Ieee.{Float, fin, le}
 use borrow.Author.Tests.{leb-true, eqb-true, not-true, not-false}
 use Rattle.lists.specs.Seq.{all}
-use Rattle.arithmetic.specs.Intervals.{valid, sized, fair}
+use Rattle.arithmetic.specs.Intervals.{valid, nyquistInRange, velocityInRange}
 use Rattle.arithmetic.specs.Inside.Asked.{Asked}
 use Rattle.arithmetic.proofs.Plans.{T-of}
 use Rattle.lists.proofs.AllLaws.{and-left, and-right}
@@ -26,13 +26,13 @@ use Rattle.sweep.specs.Checks.{
   gatesIn,
   wordsFor,
   floatsFor,
-  inSize,
-  inLength,
-  inMask,
-  inRoom,
-  inOptions,
-  inSpeed,
-  inLimits,
+  sizeInRange,
+  lengthsFit,
+  maskIsBits,
+  workSuffices,
+  optionsInRange,
+  velocitiesInRange,
+  limitsFew,
   seven,
   room,
   sevenOf,
@@ -61,11 +61,11 @@ pub record Passed (s : Sweep) (l : Lent) : Type 0 where
   pub words : 96 * (s .shape .rays * s .shape .gates) + 64 ≤ l .words
   pub floats : 16 * (s .shape .rays * s .shape .gates) + 16 ≤ l .floats
   pub asked : Asked (s .nyquist) (s .splits)
-  pub skipRays : s .shape .skipRays ≤ 1000
-  pub skipGates : s .shape .skipGates ≤ 1000
+  pub «skip_between_rays» : s .shape .«skip_between_rays» ≤ 1000
+  pub «skip_along_ray» : s .shape .«skip_along_ray» ≤ 1000
   pub centred : s .centred ≤ 1
   pub wrap : s .shape .wrap ≤ 1
-  pub fair : T (all fair (valid (s .vel) (s .mask)))
+  pub velocityInRange : T (all velocityInRange (valid (s .vel) (s .mask)))
 
 -- ---- an answer that the code negates
 
@@ -77,22 +77,22 @@ answer-yes {r} e h = sym e ∙ not-false r h
 
 -- ---- each question's yes
 
-pub size-rays : (a b : ℕ) → inSize a b ≡ true → a ≤ 720
-unfolding inSize
+pub size-rays : (a b : ℕ) → sizeInRange a b ≡ true → a ≤ 720
+unfolding sizeInRange
 size-rays a b h = leb-true a 720 (and-left (leb a 720) (leb b 2000) h)
 
-pub size-gates : (a b : ℕ) → inSize a b ≡ true → b ≤ 2000
-unfolding inSize
+pub size-gates : (a b : ℕ) → sizeInRange a b ≡ true → b ≤ 2000
+unfolding sizeInRange
 size-gates a b h = leb-true b 2000 (and-right (leb a 720) (leb b 2000) h)
 
-pub size-product : (a b n : ℕ) → n ≡ a * b → inSize a b ≡ true → n ≤ 1440000
+pub size-product : (a b n : ℕ) → n ≡ a * b → sizeInRange a b ≡ true → n ≤ 1440000
 size-product a b n e h = most n (a * b) e (mul-le-mul (size-rays a b h) (size-gates a b h))
   where
     most : (n m : ℕ) → n ≡ m → m ≤ 720 * 2000 → n ≤ 1440000
     most n m e h = omega arith
 
-pub mask-bytes : (l : List ℕ) (g : ℕ) → inMask l ≡ true → getD l g 0 ≤ 1
-unfolding inMask all
+pub mask-bytes : (l : List ℕ) (g : ℕ) → maskIsBits l ≡ true → getD l g 0 ≤ 1
+unfolding maskIsBits all
 mask-bytes [] g h = omega arith
 mask-bytes (m ∷ l) zero h = leb-true m 1 (and-left (leb m 1) (all (λ m. leb m 1) l) h)
 mask-bytes (m ∷ l) (suc g) h = mask-bytes l g (and-right (leb m 1) (all (λ m. leb m 1) l) h)
@@ -105,35 +105,35 @@ pub and-four : (a b c d : Bool) → (a && b && c && d) ≡ true → (a ≡ true)
 and-four a b c d h = let p = and-three a b c (and-left (a && b && c) d h) in (p .0, p .1, p .2, and-right (a && b && c) d h)
 
 -- question 2's yes
-pub long-are : (n : ℕ) (vs : List Float) (ms : List ℕ) (own : Bool) → inLength n vs ms own ≡ true → (length vs ≡ n) × (length ms ≡ n) × (own ≡ true)
-unfolding inLength
+pub long-are : (n : ℕ) (vs : List Float) (ms : List ℕ) (own : Bool) → lengthsFit n vs ms own ≡ true → (length vs ≡ n) × (length ms ≡ n) × (own ≡ true)
+unfolding lengthsFit
 long-are n vs ms own h = let p = and-three (eqb (length vs) n) (eqb (length ms) n) own h in (eqb-true (length vs) n (p .0), eqb-true (length ms) n (p .1), p .2)
 
 -- the code's own question 6
-pub options-are : (s : Sweep) {r : Bool} → r ≡ (leb 1 (s .splits) && leb (s .splits) 9999 && leb (s .shape .skipRays) 1000 && leb (s .shape .skipGates) 1000 && leb (s .centred) 1 && leb (s .shape .wrap) 1) → r ≡ inOptions s
-unfolding inOptions
+pub options-are : (s : Sweep) {r : Bool} → r ≡ (leb 1 (s .splits) && leb (s .splits) 9999 && leb (s .shape .«skip_between_rays») 1000 && leb (s .shape .«skip_along_ray») 1000 && leb (s .centred) 1 && leb (s .shape .wrap) 1) → r ≡ optionsInRange s
+unfolding optionsInRange
 options-are s h = h
 
 module _ (s : Sweep) (r : Room) where
-  room-words : inRoom (gatesIn s) r ≡ true → 96 * (s .shape .rays * s .shape .gates) + 64 ≤ r .words
-  unfolding inRoom gatesIn wordsFor floatsFor
+  room-words : workSuffices (gatesIn s) r ≡ true → 96 * (s .shape .rays * s .shape .gates) + 64 ≤ r .words
+  unfolding workSuffices gatesIn wordsFor floatsFor
   room-words h =
       let k = s .shape .rays * s .shape .gates in
       leb-true (96 * k + 64) (r .words) (and-left (leb (96 * k + 64) (r .words)) (leb (16 * k + 16) (r .floats)) h)
 
-  room-floats : inRoom (gatesIn s) r ≡ true → 16 * (s .shape .rays * s .shape .gates) + 16 ≤ r .floats
-  unfolding inRoom gatesIn wordsFor floatsFor
+  room-floats : workSuffices (gatesIn s) r ≡ true → 16 * (s .shape .rays * s .shape .gates) + 16 ≤ r .floats
+  unfolding workSuffices gatesIn wordsFor floatsFor
   room-floats h =
       let k = s .shape .rays * s .shape .gates in
       leb-true (16 * k + 16) (r .floats) (and-right (leb (96 * k + 64) (r .words)) (leb (16 * k + 16) (r .floats)) h)
 
   -- the code's own questions 2 and 4, n being its product
-  pub length-is : (b : Bool) (n : ℕ) → b ≡ inLength n (s .vel) (s .mask) (r .own) → n ≡ s .shape .rays * s .shape .gates → b ≡ inLength (gatesIn s) (s .vel) (s .mask) (r .own)
+  pub length-is : (b : Bool) (n : ℕ) → b ≡ lengthsFit n (s .vel) (s .mask) (r .own) → n ≡ s .shape .rays * s .shape .gates → b ≡ lengthsFit (gatesIn s) (s .vel) (s .mask) (r .own)
   unfolding gatesIn
-  length-is b n h e = h ∙ ap (λ (k : ℕ). inLength k (s .vel) (s .mask) (r .own)) e
+  length-is b n h e = h ∙ ap (λ (k : ℕ). lengthsFit k (s .vel) (s .mask) (r .own)) e
 
-  pub room-is : (b : Bool) (n : ℕ) → b ≡ (leb (wordsFor n) (r .words) && leb (floatsFor n) (r .floats)) → n ≡ s .shape .rays * s .shape .gates → b ≡ inRoom (gatesIn s) r
-  unfolding inRoom gatesIn
+  pub room-is : (b : Bool) (n : ℕ) → b ≡ (leb (wordsFor n) (r .words) && leb (floatsFor n) (r .floats)) → n ≡ s .shape .rays * s .shape .gates → b ≡ workSuffices (gatesIn s) r
+  unfolding workSuffices gatesIn
   room-is b n h e = h ∙ rw e refl
 
 -- ---- a yes to all seven
@@ -142,18 +142,18 @@ module _ (s : Sweep) (r : Room) where
 pub record Options (s : Sweep) : Type 0 where
   pub some : 1 ≤ s .splits
   pub few : s .splits ≤ 9999
-  pub skipRays : s .shape .skipRays ≤ 1000
-  pub skipGates : s .shape .skipGates ≤ 1000
+  pub «skip_between_rays» : s .shape .«skip_between_rays» ≤ 1000
+  pub «skip_along_ray» : s .shape .«skip_along_ray» ≤ 1000
   pub centred : s .centred ≤ 1
   pub wrap : s .shape .wrap ≤ 1
 
-options : (s : Sweep) → inOptions s ≡ true → Options s
-unfolding inOptions
+options : (s : Sweep) → optionsInRange s ≡ true → Options s
+unfolding optionsInRange
 options s h =
     let a = leb 1 (s .splits) in
     let b = leb (s .splits) 9999 in
-    let c = leb (s .shape .skipRays) 1000 in
-    let d = leb (s .shape .skipGates) 1000 in
+    let c = leb (s .shape .«skip_between_rays») 1000 in
+    let d = leb (s .shape .«skip_along_ray») 1000 in
     let e = leb (s .centred) 1 in
     let f = leb (s .shape .wrap) 1 in
     let q = and-four (a && b && c) d e f h in
@@ -161,22 +161,22 @@ options s h =
     record {
       some = leb-true 1 (s .splits) (p .0);
       few = leb-true (s .splits) 9999 (p .1);
-      skipRays = leb-true (s .shape .skipRays) 1000 (p .2);
-      skipGates = leb-true (s .shape .skipGates) 1000 (p .3);
+      «skip_between_rays» = leb-true (s .shape .«skip_between_rays») 1000 (p .2);
+      «skip_along_ray» = leb-true (s .shape .«skip_along_ray») 1000 (p .3);
       centred = leb-true (s .centred) 1 (q .2);
       wrap = leb-true (s .shape .wrap) 1 (q .3);
     }
 
 -- question 5's yes, with question 6's
-nyquist-asked : (s : Sweep) → sized (s .nyquist) ≡ true → Options s → Asked (s .nyquist) (s .splits)
-unfolding sized
+nyquist-asked : (s : Sweep) → nyquistInRange (s .nyquist) ≡ true → Options s → Asked (s .nyquist) (s .splits)
+unfolding nyquistInRange
 nyquist-asked s h o =
     let low = le (fin false 1 (negsuc 2)) (s .nyquist) in
     let high = le (s .nyquist) (fin false 1 (pos 10)) in
     record { low = T-of (and-left low high h); high = T-of (and-right low high h); some = o .some; few = o .few }
 
-speeds : (vs : List Float) (ms : List ℕ) → inSpeed vs ms ≡ true → T (all fair (valid vs ms))
-unfolding inSpeed
+speeds : (vs : List Float) (ms : List ℕ) → velocitiesInRange vs ms ≡ true → T (all velocityInRange (valid vs ms))
+unfolding velocitiesInRange
 speeds vs ms h = T-of h
 
 module _ (s : Sweep) (l : Lent) where
@@ -204,11 +204,11 @@ module _ (s : Sweep) (l : Lent) where
         words = room-words s (room n l) (q4 .0);
         floats = room-floats s (room n l) (q4 .0);
         asked = nyquist-asked s (q5 .0) o;
-        skipRays = o .skipRays;
-        skipGates = o .skipGates;
+        «skip_between_rays» = o .«skip_between_rays»;
+        «skip_along_ray» = o .«skip_along_ray»;
         centred = o .centred;
         wrap = o .wrap;
-        fair = speeds (s .vel) (s .mask) (q7 .0);
+        velocityInRange = speeds (s .vel) (s .mask) (q7 .0);
       }
 
   -- no question has the number 0
@@ -217,9 +217,9 @@ module _ (s : Sweep) (l : Lent) where
   seven-none r e h = zero-none (sevenOf s l) refl (sym e ∙ h)
 
   -- questions 1 to 8 are questions 1 to 7 and then question 8
-  pub asked-eight : asked s l ≡ orElse (firstNo (sevenOf s l)) (firstNo (ask 8 (inLimits s) ∷ []))
+  pub asked-eight : asked s l ≡ orElse (firstNo (sevenOf s l)) (firstNo (ask 8 (limitsFew s) ∷ []))
   unfolding asked
-  asked-eight = list-after (sevenOf s l) (ask 8 (inLimits s) ∷ [])
+  asked-eight = list-after (sevenOf s l) (ask 8 (limitsFew s) ∷ [])
 
   pub missed-none : answerOf (firstMissed s l) ≡ 0 → firstMissed s l ≡ none
   unfolding firstMissed seven all
@@ -230,7 +230,7 @@ module _ (s : Sweep) (l : Lent) where
   own = unfolded s (ownLimits s)
 
   abbrev nine : List Question
-  nine = ask 9 (own .good) ∷ []
+  nine = ask 9 (own .mergesInRange) ∷ []
 
   -- question 9 after questions 1 to 8
   pub outcome-by : (o : Option ℕ) → asked s l ≡ o → outcome s l ≡ elim o [ none ↦ asked9 (unfolded s (ownLimits s)) | some k ↦ refused k ]

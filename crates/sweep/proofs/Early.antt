@@ -6,7 +6,7 @@ use mathlib.Core.List.{List, [], _∷_}
 use lib.Dec.{ltb}
 use lib.IntN.{pos}
 use borrow.Author.Tests.{ltb-true}
-use Rattle.arithmetic.specs.Intervals.{folded}
+use Rattle.arithmetic.specs.Intervals.{twoNyquist}
 use Rattle.labels.specs.Label.{Found}
 use Rattle.edges.specs.Edges.{Pair, used}
 use Rattle.network.specs.Network.{merges, countOf}
@@ -25,8 +25,8 @@ module _ (s : Sweep) (f : Found) (h : early s f ≡ true) where
 
   pub early-merges : merges (networkOf s f) ≡ []
   unfolding networkOf pairsOf
-  early-merges = no-merges (folded (s .nyquist)) (s .shape) (f .number) (f .labels) (s .vel) used-early
+  early-merges = no-merges (twoNyquist (s .nyquist)) (s .shape) (f .number) (f .labels) (s .vel) used-early
 
   pub early-counts : (a : ℕ) → countOf (final (networkOf s f) .regions) a ≡ pos 0
   unfolding final networkOf pairsOf
-  early-counts = no-counts (folded (s .nyquist)) (s .shape) (f .number) (f .labels) (s .vel) used-early
+  early-counts = no-counts (twoNyquist (s .nyquist)) (s .shape) (f .number) (f .labels) (s .vel) used-early

@@ -17,7 +17,7 @@ use Rattle.lists.specs.Seq.{tabulate, all}
 use Rattle.arithmetic.specs.Evaluating.{evaluating}
 use Rattle.lists.proofs.SeqLaws.{tab-same}
 use Rattle.labels.specs.Label.{Found}
-use Rattle.network.specs.Network.{alone, start, merges, replay, trace, countOf, gatesOf, networkBy, goodBy}
+use Rattle.network.specs.Network.{alone, start, merges, replay, trace, countOf, gatesOf, networkBy, mergesInRange}
 use Rattle.sweep.specs.Sweep.{Sweep, orZero, sizes, networkOf, final, early, weighed, meanOf, offsetOf, gateCount, ended, finished, unfoldedBy}
 use Rattle.sweep.specs.Checks.{firstNo, answered, asked9}
 use Rattle.sweep.proofs.Early.{early-merges, early-counts}
@@ -105,8 +105,8 @@ module _ (s : Sweep) (f : Found) (h : early s f ≡ true) where
       (λ g l. ap (λ (z : ℤ). gateCount z (getD (s .mask) g 0) (countOf (final (networkOf s f) .regions) (getD (f .labels) g 0))) early-offset
       ∙ ap (gateCount (pos 0) (getD (s .mask) g 0)) (early-counts s f h (getD (f .labels) g 0)) ∙ no-count (getD (s .mask) g 0))
 
-  early-good : goodBy (networkOf s f) ≡ true
-  unfolding goodBy
+  early-good : mergesInRange (networkOf s f) ≡ true
+  unfolding mergesInRange
   early-good = rw (early-merges s f h) (unfold trace all in refl)
 
   early-same : asked9 (finished s f (networkOf s f)) ≡ asked9 (ended s f)

@@ -152,9 +152,9 @@ unfolding alone
 alone-sizes [] j = refl
 alone-sizes (n ∷ ns) j = ap (λ (t : List ℕ). n ∷ t) (alone-sizes ns (suc j))
 
-module _ (wide : Float) (es : List EdgeRecord) (k : ℕ) (S : ℕ → ℕ) (l : List ℕ) where
-  pub last-labels : map (λ (r : Region). r .label) (replay (start wide es (map S (upto k 1))) l .regions) ≡ upto k 1
-  last-labels = replay-kept (λ (r : Region). r .label) (λ p r. unfold move in refl) l (start wide es (map S (upto k 1))) ∙ (unfold start in alone-labels k 1 S 1)
+module _ (twoNyquist : Float) (es : List EdgeRecord) (k : ℕ) (S : ℕ → ℕ) (l : List ℕ) where
+  pub last-labels : map (λ (r : Region). r .label) (replay (start twoNyquist es (map S (upto k 1))) l .regions) ≡ upto k 1
+  last-labels = replay-kept (λ (r : Region). r .label) (λ p r. unfold move in refl) l (start twoNyquist es (map S (upto k 1))) ∙ (unfold start in alone-labels k 1 S 1)
 
-  pub last-sizes : map (λ (r : Region). r .size) (replay (start wide es (map S (upto k 1))) l .regions) ≡ map S (upto k 1)
-  last-sizes = replay-kept (λ (r : Region). r .size) (λ p r. unfold move in refl) l (start wide es (map S (upto k 1))) ∙ (unfold start in alone-sizes (map S (upto k 1)) 1)
+  pub last-sizes : map (λ (r : Region). r .size) (replay (start twoNyquist es (map S (upto k 1))) l .regions) ≡ map S (upto k 1)
+  last-sizes = replay-kept (λ (r : Region). r .size) (λ p r. unfold move in refl) l (start twoNyquist es (map S (upto k 1))) ∙ (unfold start in alone-sizes (map S (upto k 1)) 1)

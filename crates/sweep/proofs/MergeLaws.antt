@@ -11,16 +11,15 @@ use lib.Ieee.{Float, binary64, div}
 use borrow.Author.Tests.{eq-eqb, eqb-true, ne-eqb}
 use Rattle.arithmetic.specs.Rounding.{roundEven, real}
 use Rattle.lists.specs.Seq.{tabulate, keep}
-use Rattle.arithmetic.specs.Intervals.{folded}
+use Rattle.arithmetic.specs.Intervals.{twoNyquist}
 use Rattle.lists.proofs.SeqLaws.{tab-at, tab-same, keep-same}
 use Rattle.lists.proofs.SegLaws.{getD-seg}
 use Rattle.labels.specs.Label.{Found}
-use Rattle.network.specs.Network.{State, sizeIn, replay, merges, countOf, gatesOf, networkBy, goodBy}
+use Rattle.network.specs.Network.{State, sizeIn, replay, merges, countOf, gatesOf, networkBy, mergesInRange}
 use Rattle.edges.specs.Edges.{pairs, used}
-use Rattle.edges.specs.Inside.Sees.{shape}
 use Rattle.merge.specs.Inside.Steps.{unbias}
 use Rattle.memory.specs.Inside.Layout.{sizesAt, countsAt}
-use Rattle.network.specs.Inside.Find.{frameOf, networkFor, Leaves}
+use Rattle.network.specs.Inside.Find.{shapeOf, networkFor, Leaves}
 use Rattle.network.specs.declared.options.Options.{Options}
 use Rattle.network.specs.declared.find.Run.{Run}
 use Rattle.network.specs.declared.find.Finding.{Finding}
@@ -30,7 +29,7 @@ use Rattle.sweep.specs.Checks.{Outcome, firstNo, answered, asked9}
 use Rattle.sweep.specs.Call.{ending}
 use Rattle.sweep.specs.Entry.{sweepBy}
 use Rattle.sweep.specs.Inside.Mean.{sumFrom, sizeAt, heldAt}
-use Rattle.sweep.specs.Inside.Finish.{offsetBy, countsBy, Finishes, Ready, lent, written}
+use Rattle.sweep.specs.Inside.Finish.{offsetBy, countsBy, Finishes, WritesFound, lent, written}
 use Rattle.sweep.proofs.MergeNumber.{merges-most, parts-few}
 use Rattle.sweep.proofs.MeanLaws.{weighed-is, gates-is, last-labels, last-sizes}
 use Rattle.sweep.proofs.EarlyEnd.{ends-same}
@@ -96,17 +95,17 @@ module _ (o : Options) (vel : List Float) (mask : List ℕ) (F : Found) (n : ℕ
 
   -- ---- what writing asks
 
-  good-if : (r : Run) → x ≡ Regions r → goodBy t ≡ true
-  good-if r e = go (goodBy t) refl
+  good-if : (r : Run) → x ≡ Regions r → mergesInRange t ≡ true
+  good-if r e = go (mergesInRange t) refl
     where
-      go : (b : Bool) → goodBy t ≡ b → goodBy t ≡ true
+      go : (b : Bool) → mergesInRange t ≡ b → mergesInRange t ≡ true
       go true g = g
       go false g = absurd (true≢false (ap accepts (sym e ∙ R .refused g)))
 
   run-is : (r : Run) → x ≡ Regions r → r ≡ record { regions = k; merges = length (merges t) }
   run-is r e = ap runOf (sym e ∙ R .settled (good-if r e))
 
-  finishes : goodBy t ≡ true → (m : ℕ) → m ≡ n → (c : ℕ) → c ≡ n → Finishes v m k mask c
+  finishes : mergesInRange t ≡ true → (m : ℕ) → m ≡ n → (c : ℕ) → c ≡ n → Finishes v m k mask c
   finishes g m em c ec = subst (λ (z : ℕ). Finishes v z k mask c) (sym em) (record {
     tabled = record {
       room = omega (arith, few, room);
@@ -118,12 +117,12 @@ module _ (o : Options) (vel : List Float) (mask : List ℕ) (F : Found) (n : ℕ
     label = label-most;
   })
 
-  pub ready : (c two : ℕ) → c ≡ n → two ≡ 2 → Ready x v mask c two
+  pub ready : (c two : ℕ) → c ≡ n → two ≡ 2 → WritesFound x v mask c two
   ready c two ec et = record {
     tables = λ r e. subst (λ (z : ℕ). Finishes v (length mask) z mask c) (sym (ap (λ (y : Run). y .regions) (run-is r e))) (finishes (good-if r e) (length mask) masks c ec);
     few = λ r e. (
       omega (arith, ap (λ (y : Run). y .regions) (run-is r e), few, small),
-      omega (arith, ap (λ (y : Run). y .merges) (run-is r e), merges-most (folded (o .nyquist)) (shape (frameOf o)) k L vel, long, small),
+      omega (arith, ap (λ (y : Run). y .merges) (run-is r e), merges-most (twoNyquist (o .nyquist)) (shapeOf o) k L vel, long, small),
     );
     pair = et;
   }
@@ -133,21 +132,21 @@ module _ (o : Options) (vel : List Float) (mask : List ℕ) (F : Found) (n : ℕ
   abbrev s : Sweep
   s = sweepBy o vel mask
 
-  module _ (good : goodBy t ≡ true) where
+  module _ (good : mergesInRange t ≡ true) where
     last-weighed : weighed (replay t (merges t) .regions) ≡ subℕ (sumFrom (heldAt v n k) 1 k) (1000 * sumFrom (sizeAt v n) 1 k)
     last-weighed =
         let S : ℕ → ℕ = sizeIn L in
         let C : ℕ → ℕ = λ l. getD v (countsAt n k + l) 0 in
-        let es = used k (pairs (shape (frameOf o)) L vel) in
-        weighed-is (replay t (merges t) .regions) k 1 S C (unfold networkBy in last-labels (folded (o .nyquist)) es k S (merges t)) (unfold networkBy in last-sizes (folded (o .nyquist)) es k S (merges t))
+        let es = used k (pairs (shapeOf o) L vel) in
+        weighed-is (replay t (merges t) .regions) k 1 S C (unfold networkBy in last-labels (twoNyquist (o .nyquist)) es k S (merges t)) (unfold networkBy in last-sizes (twoNyquist (o .nyquist)) es k S (merges t))
         (λ l a b. sym (R .tables .counts good l (omega arith)))
         ∙ ap (λ (x : ℕ). subℕ x (1000 * sumFrom S 1 k)) (sym held-sum) ∙ ap (λ (x : ℕ). subℕ (sumFrom (heldAt v n k) 1 k) (1000 * x)) (sym sizes-sum)
 
     last-gates : gatesOf (replay t (merges t) .regions) ≡ sumFrom (sizeAt v n) 1 k
     last-gates =
         let S : ℕ → ℕ = sizeIn L in
-        let es = used k (pairs (shape (frameOf o)) L vel) in
-        gates-is (replay t (merges t) .regions) k 1 S (unfold networkBy in last-sizes (folded (o .nyquist)) es k S (merges t)) ∙ sym sizes-sum
+        let es = used k (pairs (shapeOf o) L vel) in
+        gates-is (replay t (merges t) .regions) k 1 S (unfold networkBy in last-sizes (twoNyquist (o .nyquist)) es k S (merges t)) ∙ sym sizes-sum
 
     offset-is : offsetBy v n k (o .centred) ≡ offsetOf s (final t)
     unfolding offsetOf meanOf final
@@ -171,20 +170,20 @@ module _ (o : Options) (vel : List Float) (mask : List ℕ) (F : Found) (n : ℕ
         ap (λ (y : Finding). written y v mask (o .centred) cs p) (R .settled good)
         ∙ ap (λ (y : List ℤ). record { number = 0; memory = lent y (k ∷ length (merges t) ∷ []) }) counts-are ∙ sym (accepted-end good)
       where
-        accepted-end : goodBy t ≡ true
+        accepted-end : mergesInRange t ≡ true
             → ending (asked9 (finished s F t)) (lent cs p) ≡ record { number = 0; memory = lent (tabulate (length mask) (λ g. gateCount (offsetOf s (final t)) (getD mask g 0) (countOf (final t .regions) (getD L g 0)))) (k ∷ length (merges t) ∷ []) }
         accepted-end e = unfold ending asked9 answered firstNo finished in rw e refl
 
-  written-bad : goodBy t ≡ false → (cs : List ℤ) (p : List ℕ) → written x v mask (o .centred) cs p ≡ ending (asked9 (finished s F t)) (lent cs p)
+  written-bad : mergesInRange t ≡ false → (cs : List ℤ) (p : List ℕ) → written x v mask (o .centred) cs p ≡ ending (asked9 (finished s F t)) (lent cs p)
   written-bad e cs p = ap (λ (y : Finding). written y v mask (o .centred) cs p) (R .refused e) ∙ sym (refused-end e)
     where
-      refused-end : goodBy t ≡ false → ending (asked9 (finished s F t)) (lent cs p) ≡ record { number = 9; memory = lent cs p }
+      refused-end : mergesInRange t ≡ false → ending (asked9 (finished s F t)) (lent cs p) ≡ record { number = 9; memory = lent cs p }
       refused-end e = unfold ending asked9 answered firstNo finished in rw e refl
 
   pub written-is : (cs : List ℤ) (p : List ℕ) → written x v mask (o .centred) cs p ≡ ending (asked9 (unfoldedBy s F)) (lent cs p)
   written-is cs p =
-      go (goodBy t) refl ∙ (unfold networkOf in ap (λ (y : Outcome). ending y (lent cs p)) (ends-same s F))
+      go (mergesInRange t) refl ∙ (unfold networkOf in ap (λ (y : Outcome). ending y (lent cs p)) (ends-same s F))
     where
-      go : (b : Bool) → goodBy t ≡ b → written x v mask (o .centred) cs p ≡ ending (asked9 (finished s F t)) (lent cs p)
+      go : (b : Bool) → mergesInRange t ≡ b → written x v mask (o .centred) cs p ≡ ending (asked9 (finished s F t)) (lent cs p)
       go true e = written-good e cs p
       go false e = written-bad e cs p

@@ -12,7 +12,10 @@ use lib.Ieee.{Float, nan}
 use borrow.Author.Tests.{eqb-true, ne-eqb}
 use Rattle.lists.specs.Seq.{upto, each, keep}
 use Rattle.lists.proofs.SeqLaws.{keep-most}
-use Rattle.edges.specs.Edges.{Shape, Direction, left, right, top, bottom, sees, Pair, pairTo, pairsAt, pairs, gathered, firstIs, secondIs, recordsOf, records, greaterFirst, used}
+use Rattle.edges.specs.Edges.{sees, Pair, pairTo, pairsAt, pairs, gathered, firstIs, secondIs, recordsOf, records, greaterFirst, used}
+use Rattle.edges.specs.declared.edges.Shape.{Shape}
+use Rattle.edges.specs.declared.edges.Direction.{Direction}
+use Rattle.edges.specs.declared.edges.Direction.the-variants.{Left, Right, Top, Bottom}
 use Rattle.network.specs.Network.{State, Edge, choose, follow, step, run, merges, start, numbered, networkBy}
 use Rattle.edges.specs.declared.edges.EdgeRecord.{EdgeRecord}
 use Rattle.sweep.specs.Inside.Mean.{sumFrom}
@@ -131,7 +134,7 @@ gate-most : (s : Shape) (labels : List ℕ) (vel : List Float) (g : ℕ) → len
 unfolding pairsAt
 gate-most s labels vel g =
     let looks : Direction → List Pair = λ d. pairTo labels vel g (sees s labels d g) in
-    let ds : List Direction = left ∷ right ∷ top ∷ bottom ∷ [] in
+    let ds : List Direction = Left ∷ Right ∷ Top ∷ Bottom ∷ [] in
     go (eqb (getD labels g 0) 0) (each looks ds) (each-most looks 1 ds (λ d. pair-most labels vel g (sees s labels d g)))
   where
     go : (b : Bool) (l : List Pair) → length l ≤ 4 * 1 → length (cond b [] l) ≤ 4
@@ -172,8 +175,8 @@ unfolding numbered
 numbered-length w k [] = refl
 numbered-length w k (r ∷ rs) = ap suc (numbered-length w (suc k) rs)
 
-pub merges-most : (wide : Float) (s : Shape) (k : ℕ) (labels : List ℕ) (vel : List Float) → length (merges (networkBy wide s k labels vel)) ≤ 4 * length labels
+pub merges-most : (twoNyquist : Float) (s : Shape) (k : ℕ) (labels : List ℕ) (vel : List Float) → length (merges (networkBy twoNyquist s k labels vel)) ≤ 4 * length labels
 unfolding networkBy merges start
-merges-most wide s k labels vel =
+merges-most twoNyquist s k labels vel =
     let es = used k (pairs s labels vel) in
-    omega (arith, run-most (length (numbered wide 0 es)) (networkBy wide s k labels vel), numbered-length wide 0 es, used-most k (pairs s labels vel), pairs-most s labels vel)
+    omega (arith, run-most (length (numbered twoNyquist 0 es)) (networkBy twoNyquist s k labels vel), numbered-length twoNyquist 0 es, used-most k (pairs s labels vel), pairs-most s labels vel)

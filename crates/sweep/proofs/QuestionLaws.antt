@@ -16,9 +16,9 @@ use lib.Seq.{drop-cons}
 use lib.Ieee.{Float, nan}
 use borrow.Author.Tests.{le-leb, lt-leb, ltb-true, eq-eqb, ne-eqb}
 use Rattle.lists.specs.Seq.{all}
-use Rattle.arithmetic.specs.Intervals.{valid, fair}
+use Rattle.arithmetic.specs.Intervals.{valid, velocityInRange}
 use Rattle.lists.proofs.AllLaws.{and-left, and-right}
-use Rattle.sweep.specs.Checks.{Question, firstNo, inMask, inSpeed}
+use Rattle.sweep.specs.Checks.{Question, firstNo, maskIsBits, velocitiesInRange}
 use Rattle.sweep.specs.Entry.{answerOf}
 
 -- ---- every list of questions
@@ -85,40 +85,40 @@ product-fits a b h k = record { fits = under (a * b) (mul-le-mul (below a h) (be
 -- ---- mask bytes, from byte i on
 
 module _ (l : List ℕ) (i : ℕ) where
-  mask-turn : i < length l → inMask (drop i l) ≡ (leb (getD l i 0) 1 && inMask (drop (i + 1) l))
-  unfolding inMask all
+  mask-turn : i < length l → maskIsBits (drop i l) ≡ (leb (getD l i 0) 1 && maskIsBits (drop (i + 1) l))
+  unfolding maskIsBits all
   mask-turn h = rw (add-one, drop-cons l i 0) refl
 
-  pub mask-yes : i < length l → getD l i 0 ≤ 1 → inMask (drop i l) ≡ inMask (drop (i + 1) l)
-  mask-yes h t = mask-turn h ∙ ap (λ (b : Bool). b && inMask (drop (i + 1) l)) (le-leb (getD l i 0) 1 t)
+  pub mask-yes : i < length l → getD l i 0 ≤ 1 → maskIsBits (drop i l) ≡ maskIsBits (drop (i + 1) l)
+  mask-yes h t = mask-turn h ∙ ap (λ (b : Bool). b && maskIsBits (drop (i + 1) l)) (le-leb (getD l i 0) 1 t)
 
-  pub mask-no : i < length l → 1 < getD l i 0 → inMask (drop i l) ≡ false
-  mask-no h t = mask-turn h ∙ ap (λ (b : Bool). b && inMask (drop (i + 1) l)) (lt-leb (getD l i 0) 1 t)
+  pub mask-no : i < length l → 1 < getD l i 0 → maskIsBits (drop i l) ≡ false
+  mask-no h t = mask-turn h ∙ ap (λ (b : Bool). b && maskIsBits (drop (i + 1) l)) (lt-leb (getD l i 0) 1 t)
 
-  pub mask-end : length l ≤ i → inMask (drop i l) ≡ true
-  unfolding inMask all
+  pub mask-end : length l ≤ i → maskIsBits (drop i l) ≡ true
+  unfolding maskIsBits all
   mask-end h = rw (drop-of-length-le l h) refl
 
 -- ---- velocities at valid gates, from gate i on
 
 module _ (vs : List Float) (ms : List ℕ) (i : ℕ) (same : length ms ≡ length vs) where
-  speed-turn : i < length vs → inSpeed (drop i vs) (drop i ms) ≡ cond (eqb (getD ms i 0) 1) (fair (getD vs i nan) && inSpeed (drop (i + 1) vs) (drop (i + 1) ms)) (inSpeed (drop (i + 1) vs) (drop (i + 1) ms))
-  unfolding inSpeed all valid
+  speed-turn : i < length vs → velocitiesInRange (drop i vs) (drop i ms) ≡ cond (eqb (getD ms i 0) 1) (velocityInRange (getD vs i nan) && velocitiesInRange (drop (i + 1) vs) (drop (i + 1) ms)) (velocitiesInRange (drop (i + 1) vs) (drop (i + 1) ms))
+  unfolding velocitiesInRange all valid
   speed-turn h =
       let k : i < length ms = omega arith in
       rw (add-one, drop-cons vs i nan, drop-cons ms i 0) (go (eqb (getD ms i 0) 1))
     where
-      go : (b : Bool) → all fair (cond b (getD vs i nan ∷ valid (drop (suc i) vs) (drop (suc i) ms)) (valid (drop (suc i) vs) (drop (suc i) ms)))
-          ≡ cond b (fair (getD vs i nan) && all fair (valid (drop (suc i) vs) (drop (suc i) ms))) (all fair (valid (drop (suc i) vs) (drop (suc i) ms)))
+      go : (b : Bool) → all velocityInRange (cond b (getD vs i nan ∷ valid (drop (suc i) vs) (drop (suc i) ms)) (valid (drop (suc i) vs) (drop (suc i) ms)))
+          ≡ cond b (velocityInRange (getD vs i nan) && all velocityInRange (valid (drop (suc i) vs) (drop (suc i) ms))) (all velocityInRange (valid (drop (suc i) vs) (drop (suc i) ms)))
       go true = refl
       go false = refl
 
-  pub speed-masked : i < length vs → (getD ms i 0 ≡ 1 → ⊥) → inSpeed (drop i vs) (drop i ms) ≡ inSpeed (drop (i + 1) vs) (drop (i + 1) ms)
+  pub speed-masked : i < length vs → (getD ms i 0 ≡ 1 → ⊥) → velocitiesInRange (drop i vs) (drop i ms) ≡ velocitiesInRange (drop (i + 1) vs) (drop (i + 1) ms)
   speed-masked h t = speed-turn h ∙ rw (ne-eqb (getD ms i 0) 1 t) refl
 
-  pub speed-valid : {b : Bool} → i < length vs → getD ms i 0 ≡ 1 → fair (getD vs i nan) ≡ b → inSpeed (drop i vs) (drop i ms) ≡ (b && inSpeed (drop (i + 1) vs) (drop (i + 1) ms))
+  pub speed-valid : {b : Bool} → i < length vs → getD ms i 0 ≡ 1 → velocityInRange (getD vs i nan) ≡ b → velocitiesInRange (drop i vs) (drop i ms) ≡ (b && velocitiesInRange (drop (i + 1) vs) (drop (i + 1) ms))
   speed-valid h t f = speed-turn h ∙ rw (eq-eqb (getD ms i 0) 1 t, f) refl
 
-  pub speed-end : length vs ≤ i → inSpeed (drop i vs) (drop i ms) ≡ true
-  unfolding inSpeed all valid
+  pub speed-end : length vs ≤ i → velocitiesInRange (drop i vs) (drop i ms) ≡ true
+  unfolding velocitiesInRange all valid
   speed-end h = rw (drop-of-length-le vs h) refl

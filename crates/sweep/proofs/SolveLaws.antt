@@ -16,7 +16,7 @@ use Rattle.sweep.specs.Sweep.{unfoldedBy, unfolded, regionsOf}
 use Rattle.sweep.specs.Checks.{Outcome, refused, accepted, asked9}
 use Rattle.sweep.specs.Call.{Answer, ending, memoryOf, answerBy}
 use Rattle.sweep.specs.Entry.{sweepBy}
-use Rattle.sweep.specs.Inside.Finish.{Ready, lent, written, allZero}
+use Rattle.sweep.specs.Inside.Finish.{WritesFound, lent, written, allZero}
 use Rattle.sweep.proofs.MergeLaws as M
 
 -- counts and pair of an answer, with these work memories
@@ -39,7 +39,7 @@ module _ (o : Options) (p : Plan) (vel : List Float) (mask w : List ℕ) (d : Li
   long : length (regionsBy o p vel mask .labels) ≡ length vel
   long = labels-long (o .gates) vel mask (limitsBy o p) ∙ q .limited .masks
 
-  pub write-asks : (c two : ℕ) → c ≡ length vel → two ≡ 2 → Ready x v mask c two
+  pub write-asks : (c two : ℕ) → c ≡ length vel → two ≡ 2 → WritesFound x v mask c two
   write-asks = M.ready o vel mask (regionsBy o p vel mask) (length vel) v x R (q .limited .masks) (q .limited .small) room few long (label-at-most (o .gates) vel mask (limitsBy o p) (q .limited .rising))
 
   pub solved-is : (r : ℕ) (cs cs' : List ℤ) (ps ps' W : List ℕ) (D : List Float) → _≡_ {A = Answer} (record { number = r; memory = lent cs' ps' }) (written x v mask (o .centred) cs ps)

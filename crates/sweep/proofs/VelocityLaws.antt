@@ -21,9 +21,9 @@ use Rattle.lists.proofs.SeqLaws.{tab-length, tab-snoc}
 use Rattle.arithmetic.proofs.IntervalLaws.{front-more, front-none}
 use Rattle.network.specs.Network.{bounded}
 use Rattle.lists.proofs.AllLaws.{and-left, and-right}
-use Rattle.sweep.specs.Checks.{inLength}
+use Rattle.sweep.specs.Checks.{lengthsFit}
 use Rattle.sweep.specs.Entry.{answerOf}
-use Rattle.sweep.specs.Velocity.{Counted, Written, unfoldedAt, velocities, ownLong, inCounts, askedVelocity, callVelocity}
+use Rattle.sweep.specs.Velocity.{Counted, VelocityAnswer, unfoldedAt, velocities, ownLong, countsInRange, askedVelocity, callVelocity}
 use Rattle.sweep.proofs.QuestionLaws.{zero-none, all-yes}
 use Rattle.sweep.proofs.CheckLaws.{long-are}
 
@@ -110,9 +110,9 @@ module _ (z : ℤ) (f : SFits w32 z) where
 
 module _ (u : Counted) (k : ℕ) where
   -- the code's own questions 2 and 10, n being its product
-  pub length-is : (r own : Bool) (n : ℕ) → r ≡ inLength n (u .vel) (u .mask) own → own ≡ (eqb (length (u .counts)) n && eqb k n) → n ≡ u .rays * u .gates → r ≡ inLength (u .rays * u .gates) (u .vel) (u .mask) (ownLong u k)
+  pub length-is : (r own : Bool) (n : ℕ) → r ≡ lengthsFit n (u .vel) (u .mask) own → own ≡ (eqb (length (u .counts)) n && eqb k n) → n ≡ u .rays * u .gates → r ≡ lengthsFit (u .rays * u .gates) (u .vel) (u .mask) (ownLong u k)
   unfolding ownLong
-  length-is r own n h g e = h ∙ ap (inLength n (u .vel) (u .mask)) g ∙ ap (λ (j : ℕ). inLength j (u .vel) (u .mask) (eqb (length (u .counts)) j && eqb k j)) e
+  length-is r own n h g e = h ∙ ap (lengthsFit n (u .vel) (u .mask)) g ∙ ap (λ (j : ℕ). lengthsFit j (u .vel) (u .mask) (eqb (length (u .counts)) j && eqb k j)) e
 
   pub record Long : Type 0 where
     pub vel : length (u .vel) ≡ u .rays * u .gates
@@ -120,7 +120,7 @@ module _ (u : Counted) (k : ℕ) where
     pub counts : length (u .counts) ≡ u .rays * u .gates
     pub written : k ≡ u .rays * u .gates
 
-  pub lengths : inLength (u .rays * u .gates) (u .vel) (u .mask) (ownLong u k) ≡ true → Long
+  pub lengths : lengthsFit (u .rays * u .gates) (u .vel) (u .mask) (ownLong u k) ≡ true → Long
   unfolding ownLong
   lengths h =
       let n = u .rays * u .gates in
@@ -128,8 +128,8 @@ module _ (u : Counted) (k : ℕ) where
       let q = long-are n (u .vel) (u .mask) (a && eqb k n) h in
       record { vel = q .0; mask = q .1; counts = eqb-true (length (u .counts)) n (and-left a (eqb k n) (q .2)); written = eqb-true k n (and-right a (eqb k n) (q .2)) }
 
-  pub counts-are : {r : Bool} → length (u .mask) ≡ u .rays * u .gates → r ≡ all (countTest (u .mask) (u .counts)) (upto (length (u .mask)) 0) → r ≡ inCounts u
-  unfolding inCounts
+  pub counts-are : {r : Bool} → length (u .mask) ≡ u .rays * u .gates → r ≡ all (countTest (u .mask) (u .counts)) (upto (length (u .mask)) 0) → r ≡ countsInRange u
+  unfolding countsInRange
   counts-are b e = e ∙ ap (λ (j : ℕ). all (countTest (u .mask) (u .counts)) (upto j 0)) b
 
   -- no question has the number 0
@@ -146,7 +146,7 @@ module _ (u : Counted) (out : List Float) where
   unfolding callVelocity
   velocity-refused r e h = go (askedVelocity u (length out)) e
     where
-      go : (o : Option ℕ) → r ≡ answerOf o → _≡_ {A = Written} (record { number = r; unfolded = out }) (elim o [ none ↦ record { number = 0; unfolded = velocities u } | some k ↦ record { number = k; unfolded = out } ])
+      go : (o : Option ℕ) → r ≡ answerOf o → _≡_ {A = VelocityAnswer} (record { number = r; unfolded = out }) (elim o [ none ↦ record { number = 0; unfolded = velocities u } | some k ↦ record { number = k; unfolded = out } ])
       go none e = absurd (h e)
       go (some k) e = ap (λ (j : ℕ). record { number = j; unfolded = out }) e
 

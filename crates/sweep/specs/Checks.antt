@@ -8,7 +8,7 @@ use lib.ListN.{length}
 use lib.IntN.{ℤ, pos, negsuc}
 use lib.Ieee.{Float}
 use Rattle.lists.specs.Seq.{all}
-use Rattle.arithmetic.specs.Intervals.{valid, range, numberFor, limitsFor, sized, fair}
+use Rattle.arithmetic.specs.Intervals.{valid, range, numberFor, limitsFor, nyquistInRange, velocityInRange}
 use Rattle.sweep.specs.Sweep.{Sweep, Unfolded, unfolded}
 use Rattle.sweep.specs.declared.questions.Room.{Room}
 
@@ -46,28 +46,28 @@ unfoldable pub floatsFor : ℕ → ℕ
 floatsFor n = 16 * n + 16
 
 -- question 1: rays and gates per ray
-unfoldable pub inSize : ℕ → ℕ → Bool
-inSize rays gates = leb rays 720 && leb gates 2000
+unfoldable pub sizeInRange : ℕ → ℕ → Bool
+sizeInRange rays gates = leb rays 720 && leb gates 2000
 
 -- question 2: the lengths, own being an entry's own part
-unfoldable pub inLength : ℕ → List Float → List ℕ → Bool → Bool
-inLength n vel mask own = eqb (length vel) n && eqb (length mask) n && own
+unfoldable pub lengthsFit : ℕ → List Float → List ℕ → Bool → Bool
+lengthsFit n vel mask own = eqb (length vel) n && eqb (length mask) n && own
 
 -- question 3: the mask bytes
-unfoldable pub inMask : List ℕ → Bool
-inMask mask = all (λ m. leb m 1) mask
+unfoldable pub maskIsBits : List ℕ → Bool
+maskIsBits mask = all (λ m. leb m 1) mask
 
 -- question 4: the work memory
-unfoldable pub inRoom : ℕ → Room → Bool
-inRoom n r = leb (wordsFor n) (r .words) && leb (floatsFor n) (r .floats)
+unfoldable pub workSuffices : ℕ → Room → Bool
+workSuffices n r = leb (wordsFor n) (r .words) && leb (floatsFor n) (r .floats)
 
 -- question 6: the options
-unfoldable pub inOptions : Sweep → Bool
-inOptions s = leb 1 (s .splits) && leb (s .splits) 9999 && leb (s .shape .skipRays) 1000 && leb (s .shape .skipGates) 1000 && leb (s .centred) 1 && leb (s .shape .wrap) 1
+unfoldable pub optionsInRange : Sweep → Bool
+optionsInRange s = leb 1 (s .splits) && leb (s .splits) 9999 && leb (s .shape .«skip_between_rays») 1000 && leb (s .shape .«skip_along_ray») 1000 && leb (s .centred) 1 && leb (s .shape .wrap) 1
 
 -- question 7: the valid velocities
-unfoldable pub inSpeed : List Float → List ℕ → Bool
-inSpeed vel mask = all fair (valid vel mask)
+unfoldable pub velocitiesInRange : List Float → List ℕ → Bool
+velocitiesInRange vel mask = all velocityInRange (valid vel mask)
 
 -- z ≤ k
 unfoldable pub atMost : ℕ → ℤ → Bool
@@ -75,8 +75,8 @@ atMost k (pos n) = leb n k
 atMost k (negsuc n) = true
 
 -- question 8: the number of limits
-unfoldable pub inLimits : Sweep → Bool
-inLimits s = atMost 10000 (numberFor (s .nyquist) (s .splits) (range (valid (s .vel) (s .mask))))
+unfoldable pub limitsFew : Sweep → Bool
+limitsFew s = atMost 10000 (numberFor (s .nyquist) (s .splits) (range (valid (s .vel) (s .mask))))
 
 -- a sweep's own limits
 unfoldable pub ownLimits : Sweep → List Float
@@ -85,13 +85,13 @@ ownLimits s = limitsFor (s .nyquist) (s .splits) (range (valid (s .vel) (s .mask
 -- questions 1 to 7 of an entry that works on a sweep, in their order
 unfoldable pub seven : Sweep → Room → List Question
 seven s r =
-    ask 1 (inSize (s .shape .rays) (s .shape .gates))
-    ∷ ask 2 (inLength (gatesIn s) (s .vel) (s .mask) (r .own))
-    ∷ ask 3 (inMask (s .mask))
-    ∷ ask 4 (inRoom (gatesIn s) r)
-    ∷ ask 5 (sized (s .nyquist))
-    ∷ ask 6 (inOptions s)
-    ∷ ask 7 (inSpeed (s .vel) (s .mask))
+    ask 1 (sizeInRange (s .shape .rays) (s .shape .gates))
+    ∷ ask 2 (lengthsFit (gatesIn s) (s .vel) (s .mask) (r .own))
+    ∷ ask 3 (maskIsBits (s .mask))
+    ∷ ask 4 (workSuffices (gatesIn s) r)
+    ∷ ask 5 (nyquistInRange (s .nyquist))
+    ∷ ask 6 (optionsInRange s)
+    ∷ ask 7 (velocitiesInRange (s .vel) (s .mask))
     ∷ []
 
 -- the sweep entry's own part of question 2 is the counts and the pair
@@ -104,11 +104,11 @@ sevenOf s l = seven s (room (gatesIn s) l)
 
 -- questions 1 to 8
 abbrev pub eightOf : Sweep → Lent → List Question
-eightOf s l = sevenOf s l ++ (ask 8 (inLimits s) ∷ [])
+eightOf s l = sevenOf s l ++ (ask 8 (limitsFew s) ∷ [])
 
 -- all nine, question 9 being put to the sweep with its own limits
 abbrev pub nineOf : Sweep → Lent → List Question
-nineOf s l = eightOf s l ++ (ask 9 (unfolded s (ownLimits s) .good) ∷ [])
+nineOf s l = eightOf s l ++ (ask 9 (unfolded s (ownLimits s) .mergesInRange) ∷ [])
 
 -- the first of questions 1 to 8 that gets a no
 unfoldable pub asked : Sweep → Lent → Option ℕ
@@ -134,4 +134,4 @@ outcome s l = answered (firstMissed s l) (unfolded s (ownLimits s))
 
 -- the answer where questions 1 to 8 got a yes
 unfoldable pub asked9 : Unfolded → Outcome
-asked9 u = answered (firstNo (ask 9 (u .good) ∷ [])) u
+asked9 u = answered (firstNo (ask 9 (u .mergesInRange) ∷ [])) u

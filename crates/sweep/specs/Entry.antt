@@ -8,8 +8,8 @@ use Rattle.sweep.specs.Sweep.{Sweep}
 
 -- the sweep that a call's parameters are
 abbrev pub sweepOf : ℕ → ℕ → Float → ℕ → ℕ → ℕ → ℕ → ℕ → List Float → List ℕ → Sweep
-sweepOf rays gates nyquist splits skipRays skipGates centred wrap vel mask = record {
-  shape = record { rays = rays; gates = gates; skipRays = skipRays; skipGates = skipGates; wrap = wrap };
+sweepOf rays gates nyquist splits «skip_between_rays» «skip_along_ray» centred wrap vel mask = record {
+  shape = record { rays = rays; gates = gates; «skip_between_rays» = «skip_between_rays»; «skip_along_ray» = «skip_along_ray»; wrap = wrap };
   splits = splits;
   centred = centred;
   nyquist = nyquist;

@@ -10,11 +10,12 @@ use Rattle.lists.specs.Seq.{upto, tabulate}
 use Rattle.arithmetic.specs.Rounding.{roundEven, real}
 use Rattle.arithmetic.specs.declared.rounding.Rounded.{Rounded}
 use Rattle.arithmetic.specs.declared.rounding.Rounded.the-variants.{Whole, Outside}
-use Rattle.arithmetic.specs.Intervals.{folded}
+use Rattle.arithmetic.specs.Intervals.{twoNyquist}
 use Rattle.labels.specs.Label.{Found}
 use Rattle.labels.specs.Regions.{regions}
-use Rattle.edges.specs.Edges.{Shape, Pair, pairs}
-use Rattle.network.specs.Network.{Region, State, gatesOf, sizeIn, merges, goodBy, replay, countOf, networkBy}
+use Rattle.edges.specs.Edges.{Pair, pairs}
+use Rattle.edges.specs.declared.edges.Shape.{Shape}
+use Rattle.network.specs.Network.{Region, State, gatesOf, sizeIn, merges, mergesInRange, replay, countOf, networkBy}
 
 -- the inputs of a call, but for what is lent
 pub record Sweep : Type 0 where
@@ -39,7 +40,7 @@ sizes f = map (sizeIn (f .labels)) (upto (f .number) 1)
 
 -- the network before the first merge
 unfoldable pub networkOf : Sweep → Found → State
-networkOf s f = networkBy (folded (s .nyquist)) (s .shape) (f .number) (f .labels) (s .vel)
+networkOf s f = networkBy (twoNyquist (s .nyquist)) (s .shape) (f .number) (f .labels) (s .vel)
 
 -- the network after the last merge
 unfoldable pub final : State → State
@@ -74,11 +75,11 @@ pub record Unfolded : Type 0 where
   pub merges : List ℕ
   pub offset : ℤ
   pub counts : List ℤ
-  pub good : Bool
+  pub mergesInRange : Bool
 
 -- an early end: all counts 0
 unfoldable pub ended : Sweep → Found → Unfolded
-ended s f = record { regions = f .number; merges = []; offset = pos 0; counts = tabulate (length (s .mask)) (λ g. pos 0); good = true }
+ended s f = record { regions = f .number; merges = []; offset = pos 0; counts = tabulate (length (s .mask)) (λ g. pos 0); mergesInRange = true }
 
 -- the count of a gate with mask byte m and its region's count c; a masked gate gets 0
 unfoldable pub gateCount : ℤ → ℕ → ℤ → ℤ
@@ -95,7 +96,7 @@ finished s f n = record {
   merges = merges n;
   offset = offsetOf s (final n);
   counts = tabulate (length (s .mask)) (λ g. gateCount (offsetOf s (final n)) (getD (s .mask) g 0) (countOf (final n .regions) (getD (f .labels) g 0)));
-  good = goodBy n;
+  mergesInRange = mergesInRange n;
 }
 
 -- the sweep with these regions

@@ -9,9 +9,9 @@ use lib.IntN.{ℤ, pos}
 use lib.Ieee.{Float, nan, binary64, add, mul}
 use Rattle.lists.specs.Seq.{upto, all, tabulate}
 use Rattle.arithmetic.specs.Rounding.{real}
-use Rattle.arithmetic.specs.Intervals.{folded, sized}
+use Rattle.arithmetic.specs.Intervals.{twoNyquist, nyquistInRange}
 use Rattle.network.specs.Network.{bounded}
-use Rattle.sweep.specs.Checks.{ask, firstNo, inSize, inLength, inMask, inSpeed}
+use Rattle.sweep.specs.Checks.{ask, firstNo, sizeInRange, lengthsFit, maskIsBits, velocitiesInRange}
 
 -- the inputs of a call of the second entry
 pub record Counted : Type 0 where
@@ -28,7 +28,7 @@ counted rays gates nyquist vel mask counts = record { rays = rays; gates = gates
 
 -- a valid gate's velocity in f64 + count × (2 × Nyquist); 0 at a masked gate
 unfoldable pub unfoldedAt : Float → Float → ℕ → ℤ → Float
-unfoldedAt nyq v m c = cond (eqb m 1) (add binary64 v (mul binary64 (real c) (folded nyq))) (real (pos 0))
+unfoldedAt nyq v m c = cond (eqb m 1) (add binary64 v (mul binary64 (real c) (twoNyquist nyq))) (real (pos 0))
 
 -- the unfolded velocities
 unfoldable pub velocities : Counted → List Float
@@ -39,30 +39,30 @@ unfoldable pub ownLong : Counted → ℕ → Bool
 ownLong u k = let n = u .rays * u .gates in eqb (length (u .counts)) n && eqb k n
 
 -- question 10: the counts at valid gates
-unfoldable pub inCounts : Counted → Bool
-inCounts u = all (λ g. not (eqb (getD (u .mask) g 0) 1) || bounded 2000 (getD (u .counts) g (pos 0))) (upto (u .rays * u .gates) 0)
+unfoldable pub countsInRange : Counted → Bool
+countsInRange u = all (λ g. not (eqb (getD (u .mask) g 0) 1) || bounded 2000 (getD (u .counts) g (pos 0))) (upto (u .rays * u .gates) 0)
 
 -- questions 1, 2, 3, 5, 7 and 10
 unfoldable pub askedVelocity : Counted → ℕ → Option ℕ
 askedVelocity u k = firstNo (
-    ask 1 (inSize (u .rays) (u .gates))
-    ∷ ask 2 (inLength (u .rays * u .gates) (u .vel) (u .mask) (ownLong u k))
-    ∷ ask 3 (inMask (u .mask))
-    ∷ ask 5 (sized (u .nyquist))
-    ∷ ask 7 (inSpeed (u .vel) (u .mask))
-    ∷ ask 10 (inCounts u)
+    ask 1 (sizeInRange (u .rays) (u .gates))
+    ∷ ask 2 (lengthsFit (u .rays * u .gates) (u .vel) (u .mask) (ownLong u k))
+    ∷ ask 3 (maskIsBits (u .mask))
+    ∷ ask 5 (nyquistInRange (u .nyquist))
+    ∷ ask 7 (velocitiesInRange (u .vel) (u .mask))
+    ∷ ask 10 (countsInRange u)
     ∷ []
     )
 
 -- an answer number and the velocities written
-pub record Written : Type 0 where
+pub record VelocityAnswer : Type 0 where
   pub number : ℕ
   pub unfolded : List Float
 
 -- the same, of what the slice holds
-abbrev pub writtenBy : ℕ → List Float → Written
-writtenBy r out = record { number = r; unfolded = out }
+abbrev pub velocityAnswerBy : ℕ → List Float → VelocityAnswer
+velocityAnswerBy r out = record { number = r; unfolded = out }
 
 -- the call: a refusal leaves what was lent
-unfoldable pub callVelocity : Counted → List Float → Written
+unfoldable pub callVelocity : Counted → List Float → VelocityAnswer
 callVelocity u out = elim (askedVelocity u (length out)) [ none ↦ record { number = 0; unfolded = velocities u } | some k ↦ record { number = k; unfolded = out } ]

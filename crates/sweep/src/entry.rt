@@ -6,7 +6,7 @@ ghost use lib.Dec.{T};
 ghost use lib.ListN.{length};
 ghost use Rattle.lists.specs.Seq.{all};
 ghost use Rattle.arithmetic.specs.Inside.Asked.{Asked, Rising};
-ghost use Rattle.arithmetic.specs.Intervals.{range, adds, planOf, fair, atLeast0};
+ghost use Rattle.arithmetic.specs.Intervals.{range, adds, planOf, velocityInRange, atLeast0};
 ghost use Rattle.arithmetic.specs.Intervals as I;
 ghost use Rattle.network.specs.Inside.Find.{limitsBy};
 ghost use Rattle.sweep.specs.Sweep.{unfolded};
@@ -20,7 +20,7 @@ fn plan_of(
     velocity: &[f32],
     valid: &[u8],
 ) -> arithmetic::intervals::Plan
-    requires { ⌜ Asked (o .nyquist) (o .splits) × T (all fair (I.valid (now velocity) (now valid))) ⌝ }
+    requires { ⌜ Asked (o .nyquist) (o .splits) × T (all velocityInRange (I.valid (now velocity) (now valid))) ⌝ }
     requires { ⌜ length (now valid) ≡ length (now velocity) ⌝ }
     ensures { λ r. ⌜ r ≡ planOf (o .splits) (adds (o .nyquist) (o .splits) (range (I.valid (now (velocity .entry)) (now (valid .entry))))) ⌝ }
 {

@@ -6,15 +6,15 @@ ghost use lib.Dec.{eqb, leb};
 ghost use lib.ListN.{length, getD};
 ghost use lib.IntN.{pos};
 ghost use Rattle.lists.specs.Seq.{upto, all};
-ghost use Rattle.arithmetic.specs.Intervals.{sized, fair};
+ghost use Rattle.arithmetic.specs.Intervals.{nyquistInRange, velocityInRange};
 ghost use Rattle.network.specs.Network.{bounded};
-ghost use Rattle.sweep.specs.Checks.{firstNo, seven, room, atMost, wordsFor, floatsFor, inSize, inLength, inMask, inSpeed};
+ghost use Rattle.sweep.specs.Checks.{firstNo, seven, room, atMost, wordsFor, floatsFor, sizeInRange, lengthsFit, maskIsBits, velocitiesInRange};
 ghost use Rattle.sweep.specs.Entry.{sweepBy, answerOf};
 ghost use Rattle.sweep.specs.Velocity.{counted, askedVelocity};
 
 // Question 1.
-fn in_size(rays: u32, gates: u32) -> bool
-    ensures { λ r. ⌜ r ≡ inSize rays gates ⌝ }
+fn size_in_range(rays: u32, gates: u32) -> bool
+    ensures { λ r. ⌜ r ≡ sizeInRange rays gates ⌝ }
 {
     rays <= 720 && gates <= 2000
 }
@@ -34,15 +34,15 @@ fn two_long(one: usize, n: usize, two: usize, m: usize) -> bool
 }
 
 // Question 2, n being the gates that the sweep should have, and `own` the entry's own part.
-fn in_length(n: usize, velocity: &[f32], valid: &[u8], own: bool) -> bool
-    ensures { λ r. ⌜ r ≡ inLength n (now (velocity .entry)) (now (valid .entry)) own ⌝ }
+fn lengths_fit(n: usize, velocity: &[f32], valid: &[u8], own: bool) -> bool
+    ensures { λ r. ⌜ r ≡ lengthsFit n (now (velocity .entry)) (now (valid .entry)) own ⌝ }
 {
     velocity.len() == n && (valid.len() == n && own)
 }
 
 // Question 3.
-fn all_masks(valid: &[u8]) -> bool
-    ensures { λ r. ⌜ r ≡ inMask (now (valid .entry)) ⌝ }
+fn mask_is_bits(valid: &[u8]) -> bool
+    ensures { λ r. ⌜ r ≡ maskIsBits (now (valid .entry)) ⌝ }
 {
     let mut i = 0;
     while i < valid.len() {
@@ -55,7 +55,7 @@ fn all_masks(valid: &[u8]) -> bool
 }
 
 // Question 4.
-fn in_room(n: usize, words: usize, floats: usize) -> bool
+fn work_suffices(n: usize, words: usize, floats: usize) -> bool
     requires { ⌜ n ≤ 1440000 ⌝ }
     ensures { λ r. ⌜ r ≡ (leb (wordsFor n) words && leb (floatsFor n) floats) ⌝ }
 {
@@ -63,14 +63,14 @@ fn in_room(n: usize, words: usize, floats: usize) -> bool
 }
 
 // Question 5.
-fn nyquist_sized(nyquist: f32) -> bool
-    ensures { λ r. ⌜ r ≡ sized nyquist ⌝ }
+fn nyquist_in_range(nyquist: f32) -> bool
+    ensures { λ r. ⌜ r ≡ nyquistInRange nyquist ⌝ }
 {
     0.125 <= nyquist && nyquist <= 1024.0
 }
 
 // Question 6.
-fn in_options(splits: u32, skip_rays: u32, skip_gates: u32, centred: u32, wrap: u32) -> bool
+fn options_in_range(splits: u32, skip_rays: u32, skip_gates: u32, centred: u32, wrap: u32) -> bool
     ensures { λ r. ⌜ r ≡ (leb 1 splits && leb splits 9999 && leb «skip_rays» 1000 && leb «skip_gates» 1000 && leb centred 1 && leb wrap 1) ⌝ }
 {
     1 <= splits
@@ -79,21 +79,21 @@ fn in_options(splits: u32, skip_rays: u32, skip_gates: u32, centred: u32, wrap: 
 }
 
 // Whether a velocity is a number from -16,384 to 16,384.
-fn is_fair(v: f32) -> bool
-    ensures { λ r. ⌜ r ≡ fair v ⌝ }
+fn velocity_in_range(v: f32) -> bool
+    ensures { λ r. ⌜ r ≡ velocityInRange v ⌝ }
 {
     -16384.0 <= v && v <= 16384.0
 }
 
 // Question 7. What stands at a masked gate does not matter.
-fn all_speeds(velocity: &[f32], valid: &[u8]) -> bool
+fn velocities_in_range(velocity: &[f32], valid: &[u8]) -> bool
     requires { ⌜ length (now valid) ≡ length (now velocity) ⌝ }
-    ensures { λ r. ⌜ r ≡ inSpeed (now (velocity .entry)) (now (valid .entry)) ⌝ }
+    ensures { λ r. ⌜ r ≡ velocitiesInRange (now (velocity .entry)) (now (valid .entry)) ⌝ }
 {
     let mut i = 0;
     while i < velocity.len() {
         if valid[i] == 1 {
-            if !is_fair(velocity[i]) {
+            if !velocity_in_range(velocity[i]) {
                 return false;
             }
         }
@@ -110,21 +110,21 @@ pub fn limits_few(p: arithmetic::intervals::Plan) -> bool
 }
 
 // Whether a count is -2,000 to 2,000.
-fn is_bounded(count: i32) -> bool
+fn count_in_range(count: i32) -> bool
     ensures { λ r. ⌜ r ≡ bounded 2000 count ⌝ }
 {
     -2000 <= count && count <= 2000
 }
 
 // Question 10. What stands at a masked gate does not matter.
-fn all_counts(valid: &[u8], folds: &[i32]) -> bool
+fn counts_in_range(valid: &[u8], folds: &[i32]) -> bool
     requires { ⌜ length (now folds) ≡ length (now valid) ⌝ }
     ensures { λ r. ⌜ r ≡ all (λ g. not (eqb (getD (now (valid .entry)) g 0) 1) || bounded 2000 (getD (now (folds .entry)) g (pos 0))) (upto (length (now (valid .entry))) 0) ⌝ }
 {
     let mut i = 0;
     while i < valid.len() {
         if valid[i] == 1 {
-            if !is_bounded(folds[i]) {
+            if !count_in_range(folds[i]) {
                 return false;
             }
         }
@@ -155,23 +155,23 @@ pub fn room_of(n: usize, counts: usize, pair: usize, words: usize, floats: usize
 pub fn first_missed(o: network::options::Options, velocity: &[f32], valid: &[u8], lent: Room) -> u32
     ensures { λ r. ⌜ r ≡ answerOf (firstNo (seven (sweepBy o (now (velocity .entry)) (now (valid .entry))) lent)) ⌝ }
 {
-    if !in_size(o.rays, o.gates) {
+    if !size_in_range(o.rays, o.gates) {
         return 1;
     }
     let n = gates_in(o.rays, o.gates);
-    if !in_length(n, velocity, valid, lent.own) {
+    if !lengths_fit(n, velocity, valid, lent.own) {
         return 2;
     }
-    if !all_masks(valid) {
+    if !mask_is_bits(valid) {
         return 3;
     }
-    if !in_room(n, lent.words, lent.floats) {
+    if !work_suffices(n, lent.words, lent.floats) {
         return 4;
     }
-    if !nyquist_sized(o.nyquist) {
+    if !nyquist_in_range(o.nyquist) {
         return 5;
     }
-    if !in_options(
+    if !options_in_range(
         o.splits,
         o.skip_between_rays,
         o.skip_along_ray,
@@ -180,7 +180,7 @@ pub fn first_missed(o: network::options::Options, velocity: &[f32], valid: &[u8]
     ) {
         return 6;
     }
-    if !all_speeds(velocity, valid) {
+    if !velocities_in_range(velocity, valid) {
         return 7;
     }
     0
@@ -201,24 +201,24 @@ pub fn first_missed_velocity(
         r ≡ answerOf (askedVelocity u unfolded)
         ) ⌝ }
 {
-    if !in_size(rays, gates) {
+    if !size_in_range(rays, gates) {
         return 1;
     }
     let n = gates_in(rays, gates);
     let own = two_long(folds.len(), n, unfolded, n);
-    if !in_length(n, velocity, valid, own) {
+    if !lengths_fit(n, velocity, valid, own) {
         return 2;
     }
-    if !all_masks(valid) {
+    if !mask_is_bits(valid) {
         return 3;
     }
-    if !nyquist_sized(nyquist) {
+    if !nyquist_in_range(nyquist) {
         return 5;
     }
-    if !all_speeds(velocity, valid) {
+    if !velocities_in_range(velocity, valid) {
         return 7;
     }
-    if !all_counts(valid, folds) {
+    if !counts_in_range(valid, folds) {
         return 10;
     }
     0

@@ -15,7 +15,7 @@ ghost use Rattle.sweep.specs.Inside.Mean.{sumFrom, sizeAt, heldAt, Table
 ghost use Rattle.sweep.specs.Checks.{asked9};
 ghost use Rattle.sweep.specs.Call.{ending, memoryOf, answerBy};
 ghost use Rattle.sweep.specs.Entry.{sweepBy};
-ghost use Rattle.sweep.specs.Inside.Finish.{offsetBy, countsBy, Finishes, Ready, lent, written, allZero};
+ghost use Rattle.sweep.specs.Inside.Finish.{offsetBy, countsBy, Finishes, WritesFound, lent, written, allZero};
 
 // The gates of all regions, and their counts, with 1,000 added to each, summed over them.
 pub struct Totals {
@@ -120,7 +120,7 @@ pub fn write(
     folds: &mut [i32],
     pair: &mut [u32],
 ) -> u32
-    requires { ⌜ Ready f (now w) (now valid) (length (now folds)) (length (now pair)) ⌝ }
+    requires { ⌜ WritesFound f (now w) (now valid) (length (now folds)) (length (now pair)) ⌝ }
     ensures { λ r. ⌜
         record { number = r; memory = lent (now (folds .exit)) (now (pair .exit)) }
         ≡ written f (now (w .entry)) (now (valid .entry)) centred (now (folds .entry)) (now (pair .entry))

@@ -4,7 +4,7 @@ ghost use lib.ListN.{length, getD};
 ghost use lib.IntN.{pos};
 ghost use lib.Ieee.{nan};
 ghost use Rattle.lists.specs.Seq.{tabulate};
-ghost use Rattle.sweep.specs.Velocity.{unfoldedAt, callVelocity, counted, writtenBy};
+ghost use Rattle.sweep.specs.Velocity.{unfoldedAt, callVelocity, counted, velocityAnswerBy};
 
 // A gate's unfolded velocity: 0 where it is masked.
 fn unfolded_at(nyquist: f32, v: f32, valid: u8, count: i32) -> f64
@@ -47,7 +47,7 @@ pub fn unfold_velocity(
 ) -> u32
     ensures { λ r. ⌜ (
         let u = counted rays gates nyquist (now (velocity .entry)) (now (valid .entry)) (now (folds .entry)) in
-        writtenBy r (now (unfolded .exit)) ≡ callVelocity u (now (unfolded .entry))
+        velocityAnswerBy r (now (unfolded .exit)) ≡ callVelocity u (now (unfolded .entry))
         ) ⌝ }
 {
     let n = unfolded.len();

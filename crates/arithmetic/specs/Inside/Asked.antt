@@ -8,7 +8,7 @@ use lib.ListN.{length, drop, getD}
 use lib.Ieee.{Float, nan, fin, binary64, le, fits}
 use Rattle.arithmetic.specs.declared.intervals.Extremes.{Extremes}
 use Rattle.arithmetic.specs.declared.intervals.Extremes.the-variants.{Both, NoneValid}
-use Rattle.arithmetic.specs.Intervals.{fair}
+use Rattle.arithmetic.specs.Intervals.{velocityInRange}
 
 -- questions 5 and 6, of Nyquist and splits
 pub record Asked (nyq : Float) (splits : ℕ) : Type 0 where
@@ -18,9 +18,9 @@ pub record Asked (nyq : Float) (splits : ℕ) : Type 0 where
   pub few : splits ≤ 9999
 
 -- question 7, of the least and the greatest
-abbrev pub Fair : Extremes → Type 0
-Fair NoneValid = Unit {0}
-Fair (Both lo hi) = T (fair lo) × T (fair hi)
+abbrev pub ExtremesInRange : Extremes → Type 0
+ExtremesInRange NoneValid = Unit {0}
+ExtremesInRange (Both lo hi) = T (velocityInRange lo) × T (velocityInRange hi)
 
 -- what an f64 can hold
 abbrev pub Held : Extremes → Type 0

@@ -8,10 +8,10 @@ use lib.Dec.{ltb, eqb}
 use lib.ListN.{length, getD}
 use lib.Ieee.{Float, nan}
 use Rattle.lists.specs.Seq.{upto, each}
-use Rattle.edges.specs.Edges.{Shape, left, right, top, bottom, sees, Pair}
+use Rattle.edges.specs.Edges.{Shape, Left, Right, Top, Bottom, sees, Pair}
 use Rattle.lists.specs.Inside.Seg.{put}
 use Rattle.memory.specs.Inside.Layout.{gateAt, farAt, orderAt}
-use Rattle.edges.specs.declared.edges.Frame.{Frame}
+use Rattle.edges.specs.declared.edges.Shape.{Shape}
 
 -- a gate and the gate that it sees
 pub record GatePair : Type 0 where
@@ -28,7 +28,7 @@ gatePairTo labels g (some h) = cond (ltb (getD labels h 0) (getD labels g 0)) (b
 unfoldable pub gatePairsAt : Shape → List ℕ → ℕ → List GatePair
 gatePairsAt s labels g =
     cond (eqb (getD labels g 0) 0) []
-    (each (λ d. gatePairTo labels g (sees s labels d g)) (left ∷ right ∷ top ∷ bottom ∷ []))
+    (each (λ d. gatePairTo labels g (sees s labels d g)) (Left ∷ Right ∷ Top ∷ Bottom ∷ []))
 
 unfoldable pub gatePairs : Shape → List ℕ → List GatePair
 gatePairs s labels = each (gatePairsAt s labels) (upto (length labels) 0)
@@ -46,18 +46,18 @@ unfoldable pub stored : List ℕ → ℕ → ℕ → List GatePair → List ℕ
 stored w n c ts = put (put w (gateAt n + c) (map (λ (t : GatePair). t .gate) ts)) (farAt n + c) (map (λ (t : GatePair). t .far) ts)
 
 -- from c pairs to e: these were added
-pub record Adds (n : ℕ) (w v : List ℕ) (c e : ℕ) (ts : List GatePair) : Type 0 where
+pub record AddsPairs (n : ℕ) (w v : List ℕ) (c e : ℕ) (ts : List GatePair) : Type 0 where
   pub mem : v ≡ stored w n c ts
   pub count : e ≡ c + length ts
 
 -- the words hold labels and pairs
-pub record Sheet (f : Frame) (n : ℕ) (w : List ℕ) : Type 0 where
+pub record Sheet (f : Shape) (n : ℕ) (w : List ℕ) : Type 0 where
   pub whole : n ≡ f .rays * f .gates
   pub room : orderAt n ≤ length w
   pub small : n < 2 ^ 32
 
 -- the same, with a gate and room for k more pairs
-pub record Place (f : Frame) (n : ℕ) (w : List ℕ) (g c k : ℕ) : Type 0 where
+pub record Place (f : Shape) (n : ℕ) (w : List ℕ) (g c k : ℕ) : Type 0 where
   pub whole : n ≡ f .rays * f .gates
   pub room : orderAt n ≤ length w
   pub small : n < 2 ^ 32

@@ -28,7 +28,7 @@ unfoldable pub later : List ℕ → List Float → ℕ → ℕ → ℕ → List 
 later w vel n m i = map (pairAt w vel n) (upto (m - i) i)
 
 -- what reading them asks
-pub record Ready (w : List ℕ) (vel : List Float) (n m : ℕ) : Type 0 where
+pub record ReadsPairs (w : List ℕ) (vel : List Float) (n m : ℕ) : Type 0 where
   pub room : orderAt n + m ≤ length w
   pub few : m ≤ 4 * n
   pub small : m < 2 ^ 32
@@ -40,7 +40,7 @@ pub record Ready (w : List ℕ) (vel : List Float) (n m : ℕ) : Type 0 where
 
 -- the same of their labels, whatever the velocities are
 abbrev pub Legible : List ℕ → ℕ → ℕ → Type 0
-Legible w n m = (vel : List Float) × Ready w vel n m
+Legible w n m = (vel : List Float) × ReadsPairs w vel n m
 
 -- the labels of the i-th of them
 abbrev pub LabelsAt : List ℕ → ℕ → ℕ → Labels → Type 0
@@ -62,20 +62,20 @@ pub record Slot (w : List ℕ) (d : List Float) (n m t c e : ℕ) : Type 0 where
   pub place : e < c
 
 -- one turn, at pair p: the record goes on, or is written and another begun
-pub record Turned (wide : Float) (t c : ℕ) (p : Pair) (s r : Gathering) (w v : List ℕ) (d b : List Float) : Type 0 where
+pub record GathersPair (twoNyquist : Float) (t c : ℕ) (p : Pair) (s r : Gathering) (w v : List ℕ) (d b : List Float) : Type 0 where
   pub on : alike (s .«record») p ≡ true → (v ≡ w) × (b ≡ d) × (r .«record» ≡ plus (s .«record») p) × (r .edges ≡ s .edges)
-  pub off : alike (s .«record») p ≡ false → (v ≡ written w t c (s .edges) (s .«record»)) × (b ≡ set d (s .edges) (difference wide (s .«record»))) × (r .«record» ≡ begun p) × (r .edges ≡ s .edges + 1)
+  pub off : alike (s .«record») p ≡ false → (v ≡ written w t c (s .edges) (s .«record»)) × (b ≡ set d (s .edges) (difference twoNyquist (s .«record»))) × (r .«record» ≡ begun p) × (r .edges ≡ s .edges + 1)
 
 -- what gathering asks: room for all runs
 pub record Gathers (w : List ℕ) (d vel : List Float) (n m t c : ℕ) : Type 0 where
-  pub ready : Ready w vel n m
+  pub ready : ReadsPairs w vel n m
   pub above : orderAt n + m ≤ t
   pub words : t + enextAt c ≤ length w
   pub diffs : c ≤ length d
   pub fits : length (runs (later w vel n m 0)) ≤ c
 
 -- and gives
-pub record Gathered (wide : Float) (w v : List ℕ) (d b : List Float) (t c e : ℕ) (rs : List EdgeRecord) : Type 0 where
+pub record Gathered (twoNyquist : Float) (w v : List ℕ) (d b : List Float) (t c e : ℕ) (rs : List EdgeRecord) : Type 0 where
   pub words : v ≡ tables w t c rs
-  pub diffs : b ≡ put d 0 (map (difference wide) rs)
+  pub diffs : b ≡ put d 0 (map (difference twoNyquist) rs)
   pub count : e ≡ length rs

@@ -7,7 +7,7 @@ use lib.Dec.{leb, eqb}
 use lib.Ieee.{Float, nan}
 use lib.ListN.{length, getD}
 use Rattle.lists.specs.Seq.{upto, tabulate, each}
-use Rattle.labels.specs.Label.{Link, own, join}
+use Rattle.labels.specs.Label.{Neighbours, own, join}
 use Rattle.labels.specs.Regions.{Interval, within}
 use Rattle.labels.specs.Inside.Forest.{Forest}
 
@@ -30,19 +30,19 @@ unfoldable pub marks : List ℕ → List Bool
 marks iv = map (λ b. not (eqb b 0)) iv
 
 -- the link of gate g to the gate of the ray before, if both are of one band
-unfoldable pub aboveIn : ℕ → List ℕ → ℕ → List Link
+unfoldable pub aboveIn : ℕ → List ℕ → ℕ → List Neighbours
 aboveIn gates iv g = cond (not (eqb (getD iv g 0) 0) && leb gates g && eqb (getD iv (g - gates) 0) (getD iv g 0)) (record { a = g - gates; b = g } ∷ []) []
 
 -- and to the gate before on its ray
-unfoldable pub beforeIn : ℕ → List ℕ → ℕ → List Link
+unfoldable pub beforeIn : ℕ → List ℕ → ℕ → List Neighbours
 beforeIn gates iv g = cond (not (eqb (getD iv g 0) 0) && not (eqb (g % gates) 0) && eqb (getD iv (g - 1) 0) (getD iv g 0)) (record { a = g - 1; b = g } ∷ []) []
 
 -- the links of gate g
-unfoldable pub linksIn : ℕ → List ℕ → ℕ → List Link
+unfoldable pub linksIn : ℕ → List ℕ → ℕ → List Neighbours
 linksIn gates iv g = aboveIn gates iv g ++ beforeIn gates iv g
 
 -- the links of the gates from g on
-unfoldable pub laterIn : ℕ → List ℕ → ℕ → List Link
+unfoldable pub laterIn : ℕ → List ℕ → ℕ → List Neighbours
 laterIn gates iv g = each (linksIn gates iv) (upto (length iv - g) g)
 
 -- all gates joined within their bands

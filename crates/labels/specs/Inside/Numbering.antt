@@ -19,8 +19,8 @@ unfoldable pub final : List ℕ → List ℕ → List ℕ → ℕ → ℕ
 final iv rs c i = cond (eqb (getD iv i 0) 0) 0 (getD c (getD iv i 0 - 1) 0 + rank (firsts (part iv rs (getD iv i 0 - 1))) (getD rs i 0))
 
 -- the counters after the gates before g
-abbrev pub Counted : List ℕ → List ℕ → List ℕ → ℕ → Type 0
-Counted iv rs c g = (j : ℕ) → j < length c → getD c j 0 ≡ rank (firsts (part iv rs j)) g
+abbrev pub CountedBefore : List ℕ → List ℕ → List ℕ → ℕ → Type 0
+CountedBefore iv rs c g = (j : ℕ) → j < length c → getD c j 0 ≡ rank (firsts (part iv rs j)) g
 
 -- the numbering before gate g: labels of the gates before, bands of the others, and counters over their starts c₀
 pub record Numbering (iv rs c₀ labels c : List ℕ) (g : ℕ) : Type 0 where
@@ -45,7 +45,7 @@ pub record Ahead (w labels c : List ℕ) (g : ℕ) : Type 0 where
   pub fits : (j : ℕ) → j < length c → getD c j 0 + 1 < 2 ^ 32
 
 -- bands, words and counters before the numbering
-pub record Ready (w labels c : List ℕ) : Type 0 where
+pub record NumbersGates (w labels c : List ℕ) : Type 0 where
   pub rs : List ℕ
   pub forest : Forest (marks labels) w rs
   pub small : length w + 1 < 2 ^ 32

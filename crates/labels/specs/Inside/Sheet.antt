@@ -20,12 +20,12 @@ abbrev pub countsOf : List ℕ → ℕ → List ℕ
 countsOf u n = drop (n + n) u
 
 -- only words of the union-find differ
-pub record Joins (u v : List ℕ) (n : ℕ) : Type 0 where
+pub record WordsDiffer (u v : List ℕ) (n : ℕ) : Type 0 where
   pub bands : bandsOf v n ≡ bandsOf u n
   pub counts : countsOf v n ≡ countsOf u n
 
 -- only counters differ
-pub record Counts (u v : List ℕ) (n : ℕ) : Type 0 where
+pub record CountersDiffer (u v : List ℕ) (n : ℕ) : Type 0 where
   pub bands : bandsOf v n ≡ bandsOf u n
   pub words : wordsOf v n ≡ wordsOf u n
 
@@ -58,7 +58,7 @@ pub record Ample (gates : ℕ) (limits : List Float) (u : List ℕ) (n : ℕ) : 
   pub long : length u ≡ n + n + n + 64
 
 -- what a sweep's gates and limits are to be, and the words lent for them
-pub record Sweep (gates : ℕ) (velocity : List Float) (valid : List ℕ) (limits : List Float) (u : List ℕ) : Type 0 where
+pub record FindsRegions (gates : ℕ) (velocity : List Float) (valid : List ℕ) (limits : List Float) (u : List ℕ) : Type 0 where
   pub masks : length valid ≡ length velocity
   pub small : length velocity + 1 < 2 ^ 32
   pub some-gates : 0 < length velocity → 0 < gates

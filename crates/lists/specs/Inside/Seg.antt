@@ -13,5 +13,5 @@ put w b [] = w
 put w b (v ∷ vs) = put (set w b v) (suc b) vs
 
 -- no index lies in both the m elements from a and the n from b
-abbrev pub Apart : ℕ → ℕ → ℕ → ℕ → Type 0
-Apart a m b n = (j : ℕ) → a ≤ j → j < a + m → b ≤ j → j < b + n → ⊥
+abbrev pub Disjoint : ℕ → ℕ → ℕ → ℕ → Type 0
+Disjoint a m b n = (j : ℕ) → a ≤ j → j < a + m → b ≤ j → j < b + n → ⊥

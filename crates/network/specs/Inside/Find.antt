@@ -7,23 +7,22 @@ use lib.Dec.{T}
 use lib.ListN.{length, getD}
 use lib.Ieee.{Float, isNan}
 use Rattle.arithmetic.specs.Inside.Asked.{Rising}
-use Rattle.arithmetic.specs.Intervals.{atLeast0, folded, limitsOf}
+use Rattle.arithmetic.specs.Intervals.{atLeast0, twoNyquist, limitsOf}
 use Rattle.lists.specs.Inside.Seg.{seg}
 use Rattle.arithmetic.specs.declared.intervals.Plan.{Plan}
 use Rattle.labels.specs.Label.{Found}
 use Rattle.labels.specs.Regions.{regions}
-use Rattle.edges.specs.Inside.Sees.{shape}
-use Rattle.edges.specs.declared.edges.Frame.{Frame}
-use Rattle.network.specs.Network.{State, merges, networkBy, goodBy}
-use Rattle.network.specs.Inside.Reduce.{Tables}
+use Rattle.edges.specs.declared.edges.Shape.{Shape}
+use Rattle.network.specs.Network.{State, merges, networkBy, mergesInRange}
+use Rattle.network.specs.Inside.Reduce.{TablesLeft}
 use Rattle.network.specs.declared.options.Options.{Options}
 use Rattle.network.specs.declared.find.Run.{Run}
 use Rattle.network.specs.declared.find.Finding.{Finding}
 use Rattle.network.specs.declared.find.Finding.the-variants.{Regions, Refused}
 
 -- what looks go by
-abbrev pub frameOf : Options → Frame
-frameOf o = record { rays = o .rays; gates = o .gates; across = o .«skip_between_rays»; along = o .«skip_along_ray»; wrap = o .wrap }
+abbrev pub shapeOf : Options → Shape
+shapeOf o = record { rays = o .rays; gates = o .gates; «skip_between_rays» = o .«skip_between_rays»; «skip_along_ray» = o .«skip_along_ray»; wrap = o .wrap }
 
 -- the limits of a plan
 abbrev pub limitsBy : Options → Plan → List Float
@@ -35,7 +34,7 @@ regionsBy o p vel mask = regions (o .gates) vel mask (limitsBy o p)
 
 -- the network of these regions
 abbrev pub networkFor : Options → Found → List Float → State
-networkFor o f vel = networkBy (folded (o .nyquist)) (shape (frameOf o)) (f .number) (f .labels) vel
+networkFor o f vel = networkBy (twoNyquist (o .nyquist)) (shapeOf o) (f .number) (f .labels) vel
 
 -- a plan of at most 10,000 limits
 pub record Planned (o : Options) (p : Plan) : Type 0 where
@@ -72,6 +71,6 @@ pub record Finds (o : Options) (p : Plan) (vel : List Float) (mask w : List ℕ)
 
 -- what is left of the regions f of n gates, t being their network: a refusal by question 9, or the numbers of regions and merges, and the tables
 pub record Leaves (f : Found) (t : State) (n : ℕ) (v : List ℕ) (r : Finding) : Type 0 where
-  pub refused : goodBy t ≡ false → r ≡ Refused
-  pub settled : goodBy t ≡ true → r ≡ Regions (record { regions = f .number; merges = length (merges t) })
-  pub tables : Tables t n (f .number) (f .labels) v
+  pub refused : mergesInRange t ≡ false → r ≡ Refused
+  pub settled : mergesInRange t ≡ true → r ≡ Regions (record { regions = f .number; merges = length (merges t) })
+  pub tables : TablesLeft t n (f .number) (f .labels) v

@@ -8,12 +8,12 @@ use lib.Ieee.{nan}
 use lib.ListN.{getD}
 use Rattle.lists.specs.Seq.{upto}
 use Rattle.network.specs.Network.{Edge, Region, State, turnIf}
-use Rattle.merge.specs.Inside.Mem.{Mem}
+use Rattle.merge.specs.Inside.Tables.{Tables}
 use Rattle.merge.specs.Inside.Table.{weight, first, second, count}
 use Rattle.merge.specs.Inside.Steps.{unbias, turned}
 
 -- edge j as it is stored: live where its weight is not 0
-unfoldable pub edgeOf : Mem → ℕ → Edge
+unfoldable pub edgeOf : Tables → ℕ → Edge
 edgeOf s j = record {
   num = j;
   live = not (eqb (getD (s .at weight) j 0) 0);
@@ -23,14 +23,14 @@ edgeOf s j = record {
 }
 
 -- edge j as it stands: turned where its second end was a base later than its first
-unfoldable pub edgeNow : Mem → ℕ → Edge
+unfoldable pub edgeNow : Tables → ℕ → Edge
 edgeNow s j = turnIf (turned s j) (edgeOf s j)
 
 -- region r, of a size and a node that no table holds
-unfoldable pub regionOf : (ℕ → ℕ) → (ℕ → ℕ) → Mem → ℕ → Region
+unfoldable pub regionOf : (ℕ → ℕ) → (ℕ → ℕ) → Tables → ℕ → Region
 regionOf gates node s r = record { label = r; size = gates r; node = node r; count = unbias (getD (s .at count) r 0) }
 
-unfoldable pub stateOf : ℕ → ℕ → (ℕ → ℕ) → (ℕ → ℕ) → Mem → State
+unfoldable pub stateOf : ℕ → ℕ → (ℕ → ℕ) → (ℕ → ℕ) → Tables → State
 stateOf m n gates node s = record { edges = map (edgeOf s) (upto m 0); regions = map (regionOf gates node s) (upto n 0) }
 
 -- x stands for y: both dead, or equal

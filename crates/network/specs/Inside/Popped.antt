@@ -9,7 +9,7 @@ use lib.Ieee.{Float, binary64, div}
 use Rattle.arithmetic.specs.Rounding.{real}
 use Rattle.memory.specs.Inside.Tree.{Best}
 use Rattle.network.specs.Network.{Edge, State, choose}
-use Rattle.merge.specs.Inside.Mem.{Mem, view}
+use Rattle.merge.specs.Inside.Tables.{Tables, view}
 use Rattle.network.specs.Inside.Net.{edgeNow}
 use Rattle.network.specs.Inside.Rep.{Rep}
 use Rattle.network.specs.declared.network.Popped.{Popped}
@@ -22,7 +22,7 @@ popped none = Nothing
 popped (some e) = Taken (record { node1 = e .first; node2 = e .second; diff = div binary64 (e .link .diff) (real (pos (e .link .weight))); «edge_number» = e .num })
 
 -- the answer is the choice of whatever network the tables stand for
-abbrev pub AnyPop : ℕ → ℕ → Mem → Popped → Type 0
+abbrev pub AnyPop : ℕ → ℕ → Tables → Popped → Type 0
 AnyPop m n s r = (gates : ℕ → ℕ) (k : ℕ) (t : State) → Rep m n gates k s t → r ≡ popped (choose (t .edges))
 
 -- what the words say of it: the winner of the tree as it stands, of weight 0 or not

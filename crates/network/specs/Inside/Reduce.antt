@@ -7,15 +7,15 @@ use lib.ListN.{length, getD}
 use lib.Ieee.{Float}
 use Rattle.lists.specs.Seq.{tabulate}
 use Rattle.lists.specs.Inside.Seg.{seg}
-use Rattle.network.specs.Network.{State, sizeIn, merges, goodBy, replay, countOf}
+use Rattle.network.specs.Network.{State, sizeIn, merges, mergesInRange, replay, countOf}
 use Rattle.merge.specs.Inside.Steps.{unbias}
 use Rattle.memory.specs.Inside.Layout.{sizesAt, countsAt}
-use Rattle.edges.specs.declared.edges.Frame.{Frame}
+use Rattle.edges.specs.declared.edges.Shape.{Shape}
 use Rattle.network.specs.declared.network.Ran.{Ran}
 use Rattle.network.specs.declared.network.Ran.the-variants.{Settled, Denied}
 
 -- what is asked of the sweep and of the memory
-pub record Reduces (f : Frame) (w : List ℕ) (d vel : List Float) (n k : ℕ) : Type 0 where
+pub record Reduces (f : Shape) (w : List ℕ) (d vel : List Float) (n k : ℕ) : Type 0 where
   pub whole : n ≡ f .rays * f .gates
   pub some : 1 ≤ n
   pub few : k ≤ n
@@ -26,14 +26,14 @@ pub record Reduces (f : Frame) (w : List ℕ) (d vel : List Float) (n k : ℕ) :
   pub floats : 16 * n + 16 ≤ length d
 
 -- labels, sizes and, where question 9 gets a yes, counts in their tables, t being the network of k regions with labels L
-pub record Tables (t : State) (n k : ℕ) (L v : List ℕ) : Type 0 where
-  pub counts : goodBy t ≡ true → (l : ℕ) → l ≤ k → unbias (getD v (countsAt n k + l) 0) ≡ countOf (replay t (merges t) .regions) l
-  pub most : goodBy t ≡ true → (l : ℕ) → l ≤ k → getD v (countsAt n k + l) 0 ≤ 2000
+pub record TablesLeft (t : State) (n k : ℕ) (L v : List ℕ) : Type 0 where
+  pub counts : mergesInRange t ≡ true → (l : ℕ) → l ≤ k → unbias (getD v (countsAt n k + l) 0) ≡ countOf (replay t (merges t) .regions) l
+  pub most : mergesInRange t ≡ true → (l : ℕ) → l ≤ k → getD v (countsAt n k + l) 0 ≤ 2000
   pub sizes : seg v (sizesAt n) (k + 1) ≡ tabulate (k + 1) (sizeIn L)
   pub labels : seg v 0 n ≡ L
 
 -- what is left, t being the network: a refusal by question 9, or the number of merges, and the tables
 pub record Reduced (t : State) (n k : ℕ) (w v : List ℕ) (r : Ran) : Type 0 where
-  pub refused : goodBy t ≡ false → r ≡ Denied
-  pub settled : goodBy t ≡ true → r ≡ Settled (length (merges t))
-  pub tables : Tables t n k (seg w 0 n) v
+  pub refused : mergesInRange t ≡ false → r ≡ Denied
+  pub settled : mergesInRange t ≡ true → r ≡ Settled (length (merges t))
+  pub tables : TablesLeft t n k (seg w 0 n) v

@@ -7,7 +7,7 @@ use lib.ListN.{getD}
 use mathlib.Core.List.{map}
 use Rattle.lists.specs.Seq.{upto}
 use Rattle.network.specs.Network.{Edge, State, sizeOf, gatesOf}
-use Rattle.merge.specs.Inside.Mem.{Mem, Sound}
+use Rattle.merge.specs.Inside.Tables.{Tables, Sound}
 use Rattle.merge.specs.Inside.Table.{enext, rnext, stamp, size, elen, rlen}
 use Rattle.network.specs.Inside.Net.{edgeNow, regionOf, Like}
 use Rattle.merge.specs.Inside.Chain.{Chains}
@@ -21,14 +21,14 @@ Ends m eown j e =
 
 -- the chains of slots: each node's are led by its header, and a live edge has a slot in the chain of each end;
 -- a slot that was dropped is a circle of its own
-pub record Circled (m n : ℕ) (node : ℕ → ℕ) (E : ℕ → Edge) (s : Mem) (eown epos elens : ℕ → ℕ) : Type 0 where
+pub record Circled (m n : ℕ) (node : ℕ → ℕ) (E : ℕ → Edge) (s : Tables) (eown epos elens : ℕ → ℕ) : Type 0 where
   pub echains : Chains (s .at enext) (2 * m + n) eown epos elens
   pub header : (x : ℕ) → x < n → node x ≡ x → eown (2 * m + x) ≡ 2 * m + x
   pub lengths : (x : ℕ) → x < n → node x ≡ x → elens (2 * m + x) ≡ getD (s .at elen) x 0
   pub ends : (j : ℕ) → j < m → E j .live ≡ true → Ends m eown j (E j)
 
 -- m edges, n regions, k merges done
-pub record Rep (m n : ℕ) (gates : ℕ → ℕ) (k : ℕ) (s : Mem) (t : State) : Type 0 where
+pub record Rep (m n : ℕ) (gates : ℕ → ℕ) (k : ℕ) (s : Tables) (t : State) : Type 0 where
   -- edges, each region's node, the places of regions and of slots in their chains, the lengths of the chains of slots
   pub E : ℕ → Edge
   pub node : ℕ → ℕ

@@ -3,7 +3,7 @@ use mathlib.Core.Path.{_≡_}
 use mathlib.Core.Logic.{_⊎_}
 use mathlib.Core.Bool.{true}
 use mathlib.Core.List.{List}
-use Rattle.lists.specs.Seq.{Mem}
+use Rattle.lists.specs.Seq.{Member}
 use Rattle.network.specs.Network.{Edge}
 
 -- two edges join the same two nodes
@@ -12,5 +12,5 @@ Joined e f = ((e .first ≡ f .first) × (e .second ≡ f .second)) ⊎ ((e .fir
 
 -- the network is simple
 pub record Simple (es : List Edge) : Type 0 where
-  pub proper : (e : Edge) → Mem e es → e .live ≡ true → e .first ≡ e .second → ⊥
-  pub single : (e f : Edge) → Mem e es → Mem f es → e .live ≡ true → f .live ≡ true → Joined e f → e .num ≡ f .num
+  pub proper : (e : Edge) → Member e es → e .live ≡ true → e .first ≡ e .second → ⊥
+  pub single : (e f : Edge) → Member e es → Member f es → e .live ≡ true → f .live ≡ true → Joined e f → e .num ≡ f .num

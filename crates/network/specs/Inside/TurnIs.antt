@@ -13,7 +13,7 @@ use Rattle.network.specs.declared.network.Turned.{Turned}
 use Rattle.network.specs.declared.network.Turned.the-variants.{Merged, Ended, Refused}
 use Rattle.network.specs.declared.network.Ran.{Ran}
 use Rattle.network.specs.declared.network.Ran.the-variants.{Settled, Denied}
-use Rattle.merge.specs.Inside.Mem.{Mem, view}
+use Rattle.merge.specs.Inside.Tables.{Tables, view}
 use Rattle.merge.specs.Inside.Table.{weight, size, count}
 use Rattle.merge.specs.Inside.Steps.{numberOf}
 use Rattle.network.specs.Inside.Net.{edgeNow, regionOf, stateOf}
@@ -21,7 +21,7 @@ use Rattle.network.specs.Inside.Settle.{Done}
 use Rattle.network.specs.Inside.Rep.{Rep}
 
 -- what the code may start from, k merges done
-abbrev pub Standing : ℕ → ℕ → ℕ → Mem → Type 0
+abbrev pub Standing : ℕ → ℕ → ℕ → Tables → Type 0
 Standing m n k s = (gates : ℕ → ℕ) × (t : State) × Rep m n gates k s t
 
 -- one turn from the network t
@@ -31,7 +31,7 @@ TurnIs m n gates k t w d Ended = (choose (t .edges) ≡ none) × Rep m n gates k
 TurnIs m n gates k t w d Refused = (e : Edge) × (choose (t .edges) ≡ some e) × (inRange (event t (e .num)) ≡ false)
 
 -- edge e is live and stands from p to q, and g is its number as a word
-pub record Chosen (m : ℕ) (s : Mem) (e p q g : ℕ) : Type 0 where
+pub record Chosen (m : ℕ) (s : Tables) (e p q g : ℕ) : Type 0 where
   pub e-in : e < m
   pub live : getD (s .at weight) e 0 ≡ 0 → ⊥
   pub first : p ≡ edgeNow s e .first
@@ -46,17 +46,17 @@ PickIs m n gates k t e w d Ended = ⊥
 PickIs m n gates k t e w d Refused = inRange (event t e) ≡ false
 
 -- the same from whatever network the tables stand for
-abbrev pub AnyPick : ℕ → ℕ → ℕ → Mem → ℕ → List ℕ → List Float → Turned → Type 0
+abbrev pub AnyPick : ℕ → ℕ → ℕ → Tables → ℕ → List ℕ → List Float → Turned → Type 0
 AnyPick m n k s e w d r = (gates : ℕ → ℕ) (t : State) → Rep m n gates k s t → PickIs m n gates k t e w d r
 
-abbrev pub AnyTurn : ℕ → ℕ → ℕ → Mem → List ℕ → List Float → Turned → Type 0
+abbrev pub AnyTurn : ℕ → ℕ → ℕ → Tables → List ℕ → List Float → Turned → Type 0
 AnyTurn m n k s w d r = (gates : ℕ → ℕ) (t : State) → Rep m n gates k s t → TurnIs m n gates k t w d r
 
 -- the tables of a network before its first merge: each region a node of its own, its gates in the table of sizes
-unfoldable pub gatesIn : Mem → ℕ → ℕ
+unfoldable pub gatesIn : Tables → ℕ → ℕ
 gatesIn s r = getD (s .at size) r 0
 
-unfoldable pub firstOf : ℕ → ℕ → Mem → State
+unfoldable pub firstOf : ℕ → ℕ → Tables → State
 firstOf m n s = stateOf m n (gatesIn s) (λ r. r) s
 
 -- the whole run: the number of merges, and the counts in their table; or a refusal

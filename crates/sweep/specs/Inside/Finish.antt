@@ -50,7 +50,7 @@ written (Regions r) w mask centred cs p = record {
 written Refused w mask centred cs p = record { number = 9; memory = lent cs p }
 
 -- what writing asks
-pub record Ready (f : Finding) (w mask : List ℕ) (long two : ℕ) : Type 0 where
+pub record WritesFound (f : Finding) (w mask : List ℕ) (long two : ℕ) : Type 0 where
   pub tables : (r : Run) → f ≡ Regions r → Finishes w (length mask) (r .regions) mask long
   pub few : (r : Run) → f ≡ Regions r → (r .regions < 2 ^ 32) × (r .merges < 2 ^ 32)
   pub pair : two ≡ 2

@@ -1,6 +1,6 @@
 -- `arithmetic::intervals::width` meets its contract. Assumes nothing.
 use lib.Ieee.{ofBits, ofInt}
-use Rattle.arithmetic.specs.Intervals.{width, folded}
+use Rattle.arithmetic.specs.Intervals.{width, twoNyquist}
 use mathlib.Core.Path.{refl}
 use Prim.Native.Nat.{_-_}
 use borrow.Author.Needs.{needs}
@@ -12,7 +12,7 @@ int-to-float-result : tie.Need-int-to-float-result
 int-to-float-result c = search needs
 
 returns : tie.Need-returns
-unfolding width folded real ofBits ofInt
+unfolding width twoNyquist real ofBits ofInt
 returns c = refl
 
 pub width-spec : {M : Type 1} → statement M

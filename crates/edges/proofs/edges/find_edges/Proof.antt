@@ -48,7 +48,7 @@ returns c =
     let s = c .before .before .before .before .before .before .before .before .before .before .before .sort-pairs in
     let e = c .before .before .before .before .before .before .before .count-runs in
     let g = c .before .before .before .before .gather in
-    edged (a .f) (a .w .now) (a .d .now) (a .vel .now) (a .n) (a .k) (a .t) (z .pre) (p .last .0) (p .result) (p .ensures .0) (p .ensures .1) (s .last .0) (s .kept .0) (s .ensures) (e .result) (e .ensures (a .vel .now)) (a .wide) (g .last .0) (g .last .1 .0) (g .result) (g .ensures)
+    edged (a .f) (a .w .now) (a .d .now) (a .vel .now) (a .n) (a .k) (a .t) (z .pre) (p .last .0) (p .result) (p .ensures .0) (p .ensures .1) (s .last .0) (s .kept .0) (s .ensures) (e .result) (e .ensures (a .vel .now)) (a .two-nyquist) (g .last .0) (g .last .1 .0) (g .result) (g .ensures)
 
 pub find-edges-spec : {M : Type 1} → statement M
 find-edges-spec =

@@ -24,7 +24,7 @@ returns : tie.Need-returns
 returns c =
     let p = c .before .before .before .pair-at in
     let s′ = c .before .before .same-labels in
-    let a = c .before .before .before .before .before .before .before .before .args in turned-on (a .wide) (a .t) (a .c) (pairAt (a .w .now) (a .vel .now) (a .n) (a .i)) (a .s) (record { «record» = c .go-on .result; edges = a .s .edges }) (p .result) (s′ .result) (p .ensures) (s′ .ensures) (c .before .if1 .taken) (c .go-on .ensures) refl (a .w .now) (a .d .now)
+    let a = c .before .before .before .before .before .before .before .before .args in turned-on (a .two-nyquist) (a .t) (a .c) (pairAt (a .w .now) (a .vel .now) (a .n) (a .i)) (a .s) (record { «record» = c .go-on .result; edges = a .s .edges }) (p .result) (s′ .result) (p .ensures) (s′ .ensures) (c .before .if1 .taken) (c .go-on .ensures) refl (a .w .now) (a .d .now)
 
 put-edge-requires : tie.Need-put-edge-requires
 put-edge-requires c κs = search needs
@@ -46,7 +46,7 @@ returns-2 c =
     let p = c .before .before .before .before .before .before .put-edge in
     let p′ = c .before .before .before .before .before .before .before .before .before .before .before .pair-at in
     let s′ = c .before .before .before .before .before .before .before .before .before .before .same-labels in
-    let a = c .before .before .before .before .before .before .before .before .before .before .before .before .before .before .before .before .args in turned-off (a .wide) (a .t) (a .c) (pairAt (a .w .now) (a .vel .now) (a .n) (a .i)) (a .s) (record { «record» = c .before .begin .result; edges = a .s .edges + 1 }) (p′ .result) (s′ .result) (p′ .ensures) (s′ .ensures) (c .before .before .before .before .before .before .before .before .before .if1 .left) (c .before .begin .ensures) refl (a .w .now) (p .last .0) (a .d .now) (p .last .1 .0) (p .ensures .0) (p .ensures .1)
+    let a = c .before .before .before .before .before .before .before .before .before .before .before .before .before .before .before .before .args in turned-off (a .two-nyquist) (a .t) (a .c) (pairAt (a .w .now) (a .vel .now) (a .n) (a .i)) (a .s) (record { «record» = c .before .begin .result; edges = a .s .edges + 1 }) (p′ .result) (s′ .result) (p′ .ensures) (s′ .ensures) (c .before .before .before .before .before .before .before .before .before .if1 .left) (c .before .begin .ensures) refl (a .w .now) (p .last .0) (a .d .now) (p .last .1 .0) (p .ensures .0) (p .ensures .1)
 
 pub gather-one-spec : {M : Type 1} → statement M
 gather-one-spec =

@@ -3,7 +3,7 @@ use native.Mathlib.Omega.{arith}
 use Prim.Native.Nat.{_-_}
 use borrow.Author.Needs.{needs}
 use Rattle.edges.proofs.PairTurn.{place-less, place-on, four, unlabelled}
-use Rattle.edges.specs.Edges.{left, right, top}
+use Rattle.edges.specs.Edges.{Left, Right, Top}
 use Rattle.edges.proofs.edges.pair_gate.Statement.{statement}
 use Rattle.edges.proofs.edges.pair_gate.Tie as tie
 
@@ -22,20 +22,20 @@ pair-one-requires c κs = search needs
 pair-one-requires-2 : tie.Need-pair-one-requires-2
 pair-one-requires-2 c κs =
     let p = c .before .before .before .pair-one in
-    let a = c .before .before .before .before .before .before .before .before .args in place-less (a .f) (a .n) (p .last .0) (a .g) (p .result) 3 1 (place-on (a .f) (a .n) (a .w .now) (p .last .0) (a .g) (a .c) (p .result) 3 left (c .before .before .before .before .before .before .before .before .pre) (p .ensures)) (omega arith)
+    let a = c .before .before .before .before .before .before .before .before .args in place-less (a .f) (a .n) (p .last .0) (a .g) (p .result) 3 1 (place-on (a .f) (a .n) (a .w .now) (p .last .0) (a .g) (a .c) (p .result) 3 Left (c .before .before .before .before .before .before .before .before .pre) (p .ensures)) (omega arith)
 
 pair-one-requires-3 : tie.Need-pair-one-requires-3
 pair-one-requires-3 c κs =
     let p = c .before .before .before .pair-one2 in
     let p′ = c .before .before .before .before .before .before .before .pair-one in
-    let a = c .before .before .before .before .before .before .before .before .before .before .before .before .args in place-less (a .f) (a .n) (p .last .0) (a .g) (p .result) 2 1 (place-on (a .f) (a .n) (p′ .last .0) (p .last .0) (a .g) (p′ .result) (p .result) 2 right (place-on (a .f) (a .n) (a .w .now) (p′ .last .0) (a .g) (a .c) (p′ .result) 3 left (c .before .before .before .before .before .before .before .before .before .before .before .before .pre) (p′ .ensures)) (p .ensures)) (omega arith)
+    let a = c .before .before .before .before .before .before .before .before .before .before .before .before .args in place-less (a .f) (a .n) (p .last .0) (a .g) (p .result) 2 1 (place-on (a .f) (a .n) (p′ .last .0) (p .last .0) (a .g) (p′ .result) (p .result) 2 Right (place-on (a .f) (a .n) (a .w .now) (p′ .last .0) (a .g) (a .c) (p′ .result) 3 Left (c .before .before .before .before .before .before .before .before .before .before .before .before .pre) (p′ .ensures)) (p .ensures)) (omega arith)
 
 pair-one-requires-4 : tie.Need-pair-one-requires-4
 pair-one-requires-4 c κs =
     let p = c .before .before .before .before .before .before .before .pair-one2 in
     let p′ = c .before .before .before .before .before .before .before .before .before .before .before .pair-one in
     let p″ = c .before .before .before .pair-one3 in
-    let a = c .before .before .before .before .before .before .before .before .before .before .before .before .before .before .before .before .args in place-on (a .f) (a .n) (p .last .0) (p″ .last .0) (a .g) (p .result) (p″ .result) 1 top (place-on (a .f) (a .n) (p′ .last .0) (p .last .0) (a .g) (p′ .result) (p .result) 2 right (place-on (a .f) (a .n) (a .w .now) (p′ .last .0) (a .g) (a .c) (p′ .result) 3 left (c .before .before .before .before .before .before .before .before .before .before .before .before .before .before .before .before .pre) (p′ .ensures)) (p .ensures)) (p″ .ensures)
+    let a = c .before .before .before .before .before .before .before .before .before .before .before .before .before .before .before .before .args in place-on (a .f) (a .n) (p .last .0) (p″ .last .0) (a .g) (p .result) (p″ .result) 1 Top (place-on (a .f) (a .n) (p′ .last .0) (p .last .0) (a .g) (p′ .result) (p .result) 2 Right (place-on (a .f) (a .n) (a .w .now) (p′ .last .0) (a .g) (a .c) (p′ .result) 3 Left (c .before .before .before .before .before .before .before .before .before .before .before .before .before .before .before .before .pre) (p′ .ensures)) (p .ensures)) (p″ .ensures)
 
 same-length : tie.Need-same-length
 same-length c = search needs

@@ -6,23 +6,23 @@ use lib.ListN.{length-set}
 use borrow.Author.Needs.{needs}
 use mathlib.Core.Option.{some}
 use Rattle.edges.proofs.PairTurn.{saw-none, saw-other, saw-less, seen-in}
-use Rattle.edges.specs.Inside.Sees.{shape, way, answer}
+use Rattle.edges.specs.Inside.Sees.{answer}
 use Rattle.edges.specs.Edges.{sees}
 use Rattle.lists.specs.Inside.Seg.{seg}
 use Rattle.edges.proofs.edges.pair_one.Statement.{statement}
 use Rattle.edges.proofs.edges.pair_one.Tie as tie
 
-sub-look : tie.Need-sub-look
-sub-look c = search needs
+sub-sees : tie.Need-sub-sees
+sub-sees c = search needs
 
-part-look-start : tie.Need-part-look-start
-part-look-start c = search needs
+part-sees-start : tie.Need-part-sees-start
+part-sees-start c = search needs
 
-part-look-end : tie.Need-part-look-end
-part-look-end c = search needs
+part-sees-end : tie.Need-part-sees-end
+part-sees-end c = search needs
 
-look-requires : tie.Need-look-requires
-look-requires c κs = search needs
+sees-requires : tie.Need-sees-requires
+sees-requires c κs = search needs
 
 enum-known-s : tie.Need-enum-known-s
 enum-known-s c = search needs
@@ -33,21 +33,21 @@ enum-told c = search needs
 same-length : tie.Need-same-length
 same-length c = search needs
 
--- what the look said
-known : (c : tie.After-look) → sees (shape (c .before .before .before .before .args .f)) (seg (c .before .before .before .before .args .w .now) 0 (c .before .before .before .before .args .n)) (way (c .before .before .before .before .args .d)) (c .before .before .before .before .args .g) ≡ answer (c .look .result)
+-- what the sees said
+known : (c : tie.After-sees) → sees (c .before .before .before .before .args .f) (seg (c .before .before .before .before .args .w .now) 0 (c .before .before .before .before .args .n)) (c .before .before .before .before .args .d) (c .before .before .before .before .args .g) ≡ answer (c .sees .result)
 unfolding seg
 known c =
     let a = c .before .before .before .before .args in
-    ap (λ (x : ℕ). sees (shape (a .f)) (seg (a .w .now) 0 x) (way (a .d)) (a .g)) {x = a .n} {y = a .n - 0} (omega arith) ∙ sym (c .look .ensures)
+    ap (λ (x : ℕ). sees (a .f) (seg (a .w .now) 0 x) (a .d) (a .g)) {x = a .n} {y = a .n - 0} (omega arith) ∙ sym (c .sees .ensures)
 
-saw : (c : tie.After-s) → sees (shape (c .before .before .before .before .before .before .args .f)) (seg (c .before .before .before .before .before .before .args .w .now) 0 (c .before .before .before .before .before .before .args .n)) (way (c .before .before .before .before .before .before .args .d)) (c .before .before .before .before .before .before .args .g) ≡ some (c .s .given .0 .0)
+saw : (c : tie.After-s) → sees (c .before .before .before .before .before .before .args .f) (seg (c .before .before .before .before .before .before .args .w .now) 0 (c .before .before .before .before .before .before .args .n)) (c .before .before .before .before .before .before .args .d) (c .before .before .before .before .before .before .args .g) ≡ some (c .s .given .0 .0)
 saw c = known (c .before .before) ∙ ap answer (c .s .given .1)
 
 inside : (c : tie.After-s) → c .s .given .0 .0 < c .before .before .before .before .before .before .args .n
-inside c = let a = c .before .before .before .before .before .before .args in seen-in (a .f) (a .n) (a .w .now) (way (a .d)) (a .g) (a .c) 1 (c .s .given .0 .0) (c .before .before .before .before .before .before .pre) (saw c)
+inside c = let a = c .before .before .before .before .before .before .args in seen-in (a .f) (a .n) (a .w .now) (a .d) (a .g) (a .c) 1 (c .s .given .0 .0) (c .before .before .before .before .before .before .pre) (saw c)
 
 returns : tie.Need-returns
-returns c = let a = c .before .before .before .before .before .before .args in saw-none (a .n) (a .w .now) (a .g) (a .c) (sees (shape (a .f)) (seg (a .w .now) 0 (a .n)) (way (a .d)) (a .g)) (known (c .before .before) ∙ ap answer (c .enum-told .given .1))
+returns c = let a = c .before .before .before .before .before .before .args in saw-none (a .n) (a .w .now) (a .g) (a .c) (sees (a .f) (seg (a .w .now) 0 (a .n)) (a .d) (a .g)) (known (c .before .before) ∙ ap answer (c .enum-told .given .1))
 
 mul-if1 : tie.Need-mul-if1
 mul-if1 c = search needs
@@ -67,7 +67,7 @@ same-length-2 c = search needs
 returns-2 : tie.Need-returns-2
 returns-2 c =
     let b = c .before .before .before .before in
-    let a = b .before .before .before .before .before .before .args in saw-other (a .n) (a .w .now) (a .g) (a .c) (sees (shape (a .f)) (seg (a .w .now) 0 (a .n)) (way (a .d)) (a .g)) (b .s .given .0 .0) (saw (b)) (b .before .before .before .before .before .before .pre .inside) (inside (b)) (c .if1 .taken)
+    let a = b .before .before .before .before .before .before .args in saw-other (a .n) (a .w .now) (a .g) (a .c) (sees (a .f) (seg (a .w .now) 0 (a .n)) (a .d) (a .g)) (b .s .given .0 .0) (saw (b)) (b .before .before .before .before .before .before .pre .inside) (inside (b)) (c .if1 .taken)
 
 cast-w : tie.Need-cast-w
 cast-w c = search needs
@@ -105,16 +105,16 @@ same-length-3 c = search needs
 returns-3 : tie.Need-returns-3
 returns-3 c =
     let b = c .before .before .before .before in
-    let a = b .before .before .before .before .before .before .args in saw-less (a .n) (a .w .now) (a .g) (a .c) (sees (shape (a .f)) (seg (a .w .now) 0 (a .n)) (way (a .d)) (a .g)) (b .s .given .0 .0) (saw (b)) (b .before .before .before .before .before .before .pre .inside) (inside (b)) (c .if1 .left)
+    let a = b .before .before .before .before .before .before .args in saw-less (a .n) (a .w .now) (a .g) (a .c) (sees (a .f) (seg (a .w .now) 0 (a .n)) (a .d) (a .g)) (b .s .given .0 .0) (saw (b)) (b .before .before .before .before .before .before .pre .inside) (inside (b)) (c .if1 .left)
 
 pub pair-one-spec : {M : Type 1} → statement M
 pair-one-spec =
     tie.close
     (tie.spec
-    sub-look
-    part-look-start
-    part-look-end
-    look-requires
+    sub-sees
+    part-sees-start
+    part-sees-end
+    sees-requires
     enum-known-s
     enum-told
     same-length

@@ -5,7 +5,6 @@ use Prim.Native.Nat.{_-_}
 use borrow.Author.Needs.{needs}
 use mathlib.Core.Option.{some}
 use native.Mathlib.Numerals.{add-one}
-use Rattle.edges.specs.Inside.Sees.{shape}
 use Rattle.edges.proofs.Next.{holds, bottom-none, bottom-on}
 use Rattle.edges.proofs.edges.to_bottom.Statement.{statement}
 use Rattle.edges.proofs.edges.to_bottom.Tie as tie
@@ -17,13 +16,13 @@ rem-if1 : tie.Need-rem-if1
 rem-if1 c = omega (arith, holds (c .before .args .f .rays) (c .before .args .f .gates) (c .before .args .g) (c .before .pre .inside))
 
 returns : tie.Need-returns
-returns c = sym (bottom-none (shape (c .before .before .args .f)) (c .before .before .args .g) (rw add-one at (c .if1 .taken)))
+returns c = sym (bottom-none (c .before .before .args .f) (c .before .before .args .g) (rw add-one at (c .if1 .taken)))
 
 add-t3 : tie.Need-add-t3
 add-t3 c = search needs
 
 returns-2 : tie.Need-returns-2
-returns-2 c = ap some (omega arith) ∙ sym (bottom-on (shape (c .before .before .args .f)) (c .before .before .args .g) (rw add-one at (c .if1 .left)))
+returns-2 c = ap some (omega arith) ∙ sym (bottom-on (c .before .before .args .f) (c .before .before .args .g) (rw add-one at (c .if1 .left)))
 
 pub to-bottom-spec : {M : Type 1} → statement M
 to-bottom-spec = tie.close (tie.spec add-if1 rem-if1 returns add-t3 returns-2)

@@ -1,8 +1,8 @@
 -- `labels::label::count` meets its contract. The invariant: each counter holds how many areas of its band have their first gate before g. Assumes nothing.
 use Rattle.labels.proofs.GateLaws.{counts-none, counts-both, counts-asks, counted-after}
 use Rattle.labels.proofs.CountLaws.{count-begin}
-use Rattle.labels.specs.Inside.Sheet.{Counts}
-use Rattle.labels.specs.Inside.Numbering.{Counted}
+use Rattle.labels.specs.Inside.Sheet.{CountersDiffer}
+use Rattle.labels.specs.Inside.Numbering.{CountedBefore}
 use Rattle.labels.specs.Inside.Bands.{marks}
 use Rattle.labels.specs.Inside.Forest.{Forest}
 use Rattle.lists.specs.Inside.Seg.{seg}
@@ -15,7 +15,7 @@ use Rattle.labels.proofs.label.count.Statement.{statement}
 use Rattle.labels.proofs.label.count.Tie as tie
 
 abbrev Inv-loop : tie.InvT-loop
-Inv-loop u₀ n g₀ u g = (g ≤ n) × (length u ≡ length u₀) × Counts u₀ u n × ((rs : List ℕ) → Forest (marks (seg u₀ 0 n)) (seg u₀ n n) rs → Counted (seg u₀ 0 n) rs (drop (n + n) u) g)
+Inv-loop u₀ n g₀ u g = (g ≤ n) × (length u ≡ length u₀) × CountersDiffer u₀ u n × ((rs : List ℕ) → Forest (marks (seg u₀ 0 n)) (seg u₀ n n) rs → CountedBefore (seg u₀ 0 n) rs (drop (n + n) u) g)
 
 abbrev μ-loop : tie.MeasureT-loop
 μ-loop u₀ n g₀ u g = n - g
@@ -52,7 +52,7 @@ returns c = let s = c .before .before .before in
     let a = s .args in
     let l = c .before .loop in
     let e : l .g ≡ a .n = omega arith in
-    (λ rs F. subst (Counted (seg (a .u .now) 0 (a .n)) rs (drop (a .n + a .n) (l .u))) e (l .inv .3 rs F), l .inv .2)
+    (λ rs F. subst (CountedBefore (seg (a .u .now) 0 (a .n)) rs (drop (a .n + a .n) (l .u))) e (l .inv .3 rs F), l .inv .2)
 
 pub count-spec : {M : Type 1} → statement M
 count-spec =

@@ -3,7 +3,7 @@ use Rattle.labels.proofs.SheetLaws.{bands-long, words-long, joins-none,
 use Rattle.labels.proofs.JointLaws.{Joining, step, end}
 use Rattle.lists.specs.Inside.Seg.{seg}
 use Rattle.labels.specs.Inside.Bands.{marks, linksIn}
-use Rattle.labels.specs.Inside.Sheet.{Joins}
+use Rattle.labels.specs.Inside.Sheet.{WordsDiffer}
 use Rattle.labels.specs.Inside.Forest.{Forest}
 use native.Mathlib.Omega.{arith}
 use mathlib.Core.Path.{_≡_, refl, _∙_}
@@ -14,7 +14,7 @@ use Rattle.labels.proofs.label.link_all.Statement.{statement}
 use Rattle.labels.proofs.label.link_all.Tie as tie
 
 abbrev Inv-loop : tie.InvT-loop
-Inv-loop u₀ n gates m g₀ u g = (g ≤ n) × (length u ≡ length u₀) × Joins u₀ u n × ((rs : List ℕ) → Forest (marks (seg u₀ 0 n)) (seg u₀ n n) rs → Joining gates (seg u₀ 0 n) rs (seg u n n) g)
+Inv-loop u₀ n gates m g₀ u g = (g ≤ n) × (length u ≡ length u₀) × WordsDiffer u₀ u n × ((rs : List ℕ) → Forest (marks (seg u₀ 0 n)) (seg u₀ n n) rs → Joining gates (seg u₀ 0 n) rs (seg u n n) g)
 
 abbrev μ-loop : tie.MeasureT-loop
 μ-loop u₀ n gates m g₀ u g = n - g

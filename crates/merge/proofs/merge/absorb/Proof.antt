@@ -1,9 +1,9 @@
 -- `merge::merge::absorb` meets its contract. Assumes nothing.
 use mathlib.Core.Path.{subst}
-use Rattle.merge.specs.Inside.Does.{Does}
+use Rattle.merge.specs.Inside.Leaves.{LeavesTables}
 use Rattle.merge.specs.Inside.Steps.{absorbAt}
 use Rattle.merge.proofs.View.{weight-at}
-use Rattle.merge.specs.Inside.Mem.{view}
+use Rattle.merge.specs.Inside.Tables.{view}
 use Rattle.merge.specs.Inside.Table.{weight}
 use Rattle.merge.proofs.Leaf.{absorb-does, sum-two}
 use native.Mathlib.Omega.{arith}
@@ -70,7 +70,7 @@ returns c =
     let s = c .before .before .before .before .before .before .before .before .before .before .before .before .before .before in
     let a = s .args in
     let p = s .pre .1 .1 .0 in
-    subst (λ (z : Float). Does (a .m) (a .n) (c .before .before .weigh2 .last .0) (set (a .d .now) (a .q) z) (absorbAt (view (a .m) (a .n) (a .w .now) (a .d .now)) (a .q) (a .f) (a .x))) (sym (c .before .before .before .before .before .before .before .before .before .before .plus .ensures))
+    subst (λ (z : Float). LeavesTables (a .m) (a .n) (c .before .before .weigh2 .last .0) (set (a .d .now) (a .q) z) (absorbAt (view (a .m) (a .n) (a .w .now) (a .d .now)) (a .q) (a .f) (a .x))) (sym (c .before .before .before .before .before .before .before .before .before .before .plus .ensures))
     (absorb-does (a .m) (a .n) (a .w .now) (c .before .before .before .before .before .before .weigh .last .0) (c .before .before .weigh2 .last .0) (a .d .now) (a .q) (a .f) (a .x) (s .pre .0) (p .q-in) (p .f-in) (c .before .before .before .before .before .before .weigh .ensures) (c .before .before .weigh2 .ensures))
 
 pub absorb-spec : {M : Type 1} → statement M

@@ -1,5 +1,5 @@
 -- `merge::merge::join_edge` meets its contract. Assumes nothing.
-use Rattle.merge.specs.Inside.Mem.{view}
+use Rattle.merge.specs.Inside.Tables.{view}
 use Rattle.merge.proofs.JoinDoes.{join-apart, join-attaches, face-room, join-faced}
 use Prim.Native.Nat.{_-_}
 use borrow.Author.Needs.{needs}

@@ -1,6 +1,6 @@
 -- `merge::merge::pass_slot` meets its contract. Assumes nothing.
 use Rattle.merge.proofs.Passing.{pass-drops, pass-keeps}
-use Rattle.merge.specs.Inside.Mem.{view}
+use Rattle.merge.specs.Inside.Tables.{view}
 use mathlib.Core.Path.{refl}
 use Prim.Native.Nat.{_-_}
 use borrow.Author.Needs.{needs}

@@ -1,7 +1,7 @@
 -- `merge::merge::prune` meets its contract. Assumes nothing.
 use Rattle.merge.proofs.Passing.{Pass, prune-start, prune-slots, prune-turned, prune-end}
 use Rattle.merge.specs.Inside.Steps.{pruned}
-use Rattle.merge.specs.Inside.Mem.{view}
+use Rattle.merge.specs.Inside.Tables.{view}
 use native.Mathlib.Omega.{arith}
 use Prim.Native.Nat.{_+_, _-_, _*_}
 use Rattle.merge.proofs.merge.prune.Statement.{statement}

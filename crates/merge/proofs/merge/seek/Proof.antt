@@ -1,7 +1,7 @@
 -- `merge::merge::seek` meets its contract. Assumes nothing.
 use Rattle.merge.proofs.Walks.{Seeking, seek-start, seek-found, seek-turn, seek-end}
 use Rattle.merge.specs.Inside.Steps.{seekAll}
-use Rattle.merge.specs.Inside.Mem.{view}
+use Rattle.merge.specs.Inside.Tables.{view}
 use native.Mathlib.Omega.{arith}
 use Prim.Native.Nat.{_+_, _-_, _*_}
 use borrow.Author.Needs.{needs}

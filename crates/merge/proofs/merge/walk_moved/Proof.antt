@@ -1,7 +1,7 @@
 -- `merge::merge::walk_moved` meets its contract. Assumes nothing.
 use Rattle.merge.proofs.Walks.{Walk, alongMoved, moved-start, moved-turned, moved-end}
 use Rattle.merge.specs.Inside.Steps.{movedAll}
-use Rattle.merge.specs.Inside.Mem.{view}
+use Rattle.merge.specs.Inside.Tables.{view}
 use native.Mathlib.Omega.{arith}
 use Prim.Native.Nat.{_+_, _-_, _*_}
 use Rattle.merge.proofs.merge.walk_moved.Statement.{statement}

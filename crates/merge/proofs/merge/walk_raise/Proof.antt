@@ -1,7 +1,7 @@
 -- `merge::merge::walk_raise` meets its contract. Assumes nothing.
 use Rattle.merge.proofs.Walks.{Raise, raise-start, raise-bounds, raise-low, raise-high, raise-turn, raise-end}
 use Rattle.merge.specs.Inside.Steps.{walkRaise}
-use Rattle.merge.specs.Inside.Mem.{view}
+use Rattle.merge.specs.Inside.Tables.{view}
 use Rattle.merge.specs.Inside.Table.{rlen}
 use native.Mathlib.Omega.{arith}
 use Prim.Native.Nat.{_+_, _-_, _*_, _≤_, _<_}

@@ -29,8 +29,8 @@ returns c =
     let v = c .before .before .leave-alone in
     few-left (a .o) (a .p) (a .velocity .now) (a .valid .now) (a .words .now) (a .floats .now) (s .pre) (l .result) (l .last .1 .1 .1 .1 .0) (l .kept .1 .1 .1 .1 .0) (l .ensures) (c .before .before .before .before .if1 .taken) (v .last .0) (v .ensures)
 
-frame-requires : tie.Need-frame-requires
-frame-requires c κs = search needs
+shape-requires : tie.Need-shape-requires
+shape-requires c κs = search needs
 
 float-to-float-reduce : tie.Need-float-to-float-reduce
 float-to-float-reduce c = search needs
@@ -40,7 +40,7 @@ reduce-requires c κs =
     let s = c .before .before .before .before .before .before .before .before .before .before .before .before .before in
     let a = s .args in
     let l = c .before .before .before .before .before .before .before .label in
-    let f = c .before .before .before .frame in
+    let f = c .before .before .before .shape in
     reduce-asks (a .o) (a .p) (a .velocity .now) (a .valid .now) (a .words .now) (a .floats .now) (s .pre) (l .result) (l .last .1 .1 .1 .1 .0) (l .kept .1 .1 .1 .1 .0) (l .ensures) (c .before .before .before .before .if1 .left) (f .result) (f .ensures)
 
 enum-known-j : tie.Need-enum-known-j
@@ -60,7 +60,7 @@ returns-2 c =
     let s = c .before .before .before .before .before .before .before .before .before .before .before .before .before .before .before .before .before .before .before .before .before in
     let a = s .args in
     let l = c .before .before .before .before .before .before .before .before .before .before .before .before .before .before .before .label in
-    let f = c .before .before .before .before .before .before .before .before .before .before .before .frame in
+    let f = c .before .before .before .before .before .before .before .before .before .before .before .shape in
     let r = c .before .before .before .before .before .before .before .reduce in
     reduced-left (a .o) (a .p) (a .velocity .now) (a .valid .now) (a .words .now) (a .floats .now) (s .pre) (l .result) (l .last .1 .1 .1 .1 .0) (l .kept .1 .1 .1 .1 .0) (l .ensures) (r .last .0) (r .result) (f .result) _ (f .ensures) (width-is (a .o .nyquist)) (r .ensures) _ (ap (answered (l .result)) (sym (c .before .j .given .1)))
 
@@ -75,7 +75,7 @@ returns-3 c =
     let s = c .before .before .before .before .before .before .before .before .before .before .before .before .before .before .before .before .before .before .before .before in
     let a = s .args in
     let l = c .before .before .before .before .before .before .before .before .before .before .before .before .before .before .label in
-    let f = c .before .before .before .before .before .before .before .before .before .before .frame in
+    let f = c .before .before .before .before .before .before .before .before .before .before .shape in
     let r = c .before .before .before .before .before .before .reduce in
     reduced-left (a .o) (a .p) (a .velocity .now) (a .valid .now) (a .words .now) (a .floats .now) (s .pre) (l .result) (l .last .1 .1 .1 .1 .0) (l .kept .1 .1 .1 .1 .0) (l .ensures) (r .last .0) (r .result) (f .result) _ (f .ensures) (width-is (a .o .nyquist)) (r .ensures) _ (ap (answered (l .result)) (sym (c .enum-told .given .1)))
 
@@ -88,7 +88,7 @@ find-spec =
     leave-alone-requires
     same-length
     returns
-    frame-requires
+    shape-requires
     float-to-float-reduce
     reduce-requires
     enum-known-j

@@ -1,7 +1,7 @@
 -- `network::network::fill_regions` meets its contract. Assumes nothing.
 use Rattle.network.proofs.BeginDoes.{Going, going-start, regions-turn, regions-end}
 use Rattle.network.specs.Inside.Begin.{regionsFrom}
-use Rattle.merge.specs.Inside.Mem.{view}
+use Rattle.merge.specs.Inside.Tables.{view}
 use native.Mathlib.Omega.{arith}
 use Prim.Native.Nat.{_-_}
 use lib.ListN.{length-set}

@@ -1,7 +1,7 @@
 -- `network::network::link_all` meets its contract. Assumes nothing.
 use Rattle.network.proofs.BeginDoes.{Linking, linking-start, link-one, link-two, link-turn, linking-end}
 use Rattle.network.specs.Inside.Begin.{linkFrom}
-use Rattle.merge.specs.Inside.Mem.{view}
+use Rattle.merge.specs.Inside.Tables.{view}
 use native.Mathlib.Omega.{arith}
 use Prim.Native.Nat.{_-_}
 use Rattle.network.proofs.network.link_all.Statement.{statement}

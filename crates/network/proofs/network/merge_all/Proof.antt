@@ -1,6 +1,6 @@
 -- `network::network::merge_all` meets its contract. Assumes nothing.
 use Rattle.network.proofs.StartRep.{all-is}
-use Rattle.merge.specs.Inside.Mem.{view}
+use Rattle.merge.specs.Inside.Tables.{view}
 use Prim.Native.Nat.{_-_}
 use borrow.Author.Needs.{needs}
 use Rattle.network.proofs.network.merge_all.Statement.{statement}

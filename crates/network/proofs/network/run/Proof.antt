@@ -1,7 +1,7 @@
 -- `network::network::run` meets its contract. Assumes nothing.
 use Rattle.network.proofs.Turns.{Running, run-start, run-out, run-merged, run-denied, run-ended}
 use Rattle.network.specs.Inside.TurnIs.{gatesIn}
-use Rattle.merge.specs.Inside.Mem.{view}
+use Rattle.merge.specs.Inside.Tables.{view}
 use borrow.Author.Needs.{needs}
 use native.Mathlib.Omega.{arith}
 use mathlib.Core.Path.{_∙_}

@@ -54,7 +54,7 @@ returns c = call-missed (sweepAt (c .before .before .before .before .before .bef
 plan-of-requires : tie.Need-plan-of-requires
 plan-of-requires c κs =
     let p = passed (sweepAt (c .before .before .before .before .before .before .before .before .before)) (lengths (memoryAt (c .before .before .before .before .before .before .before .before .before))) (seven-yes c) in
-    ((p .asked, p .fair), p .mask ∙ sym (p .vel))
+    ((p .asked, p .velocityInRange), p .mask ∙ sym (p .vel))
 
 limits-few-requires : tie.Need-limits-few-requires
 limits-few-requires c κs = search needs

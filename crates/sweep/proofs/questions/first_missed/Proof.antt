@@ -7,7 +7,7 @@ use borrow.Author.Needs.{needs}
 use Rattle.sweep.proofs.CheckLaws.{answer-no, answer-yes, size-product, long-are, length-is, room-is, options-are}
 use Rattle.sweep.proofs.QuestionLaws.{on, no}
 use Rattle.sweep.specs.Entry.{sweepBy, answerOf}
-use Rattle.sweep.specs.Checks.{Question, firstNo, seven, gatesIn, inSize, inLength}
+use Rattle.sweep.specs.Checks.{Question, firstNo, seven, gatesIn, sizeInRange, lengthsFit}
 use Rattle.sweep.specs.Sweep.{Sweep}
 use Rattle.sweep.proofs.questions.first_missed.Statement.{statement}
 use Rattle.sweep.proofs.questions.first_missed.Tie as tie
@@ -39,11 +39,11 @@ abbrev at-6 : tie.Else6 → tie.Start
 at-6 c = at-5 (c .before .before)
 
 -- what each yes says, and the questions that are left after it
-size-yes : (c : tie.Else1) → inSize (at-1 c .args .o .rays) (at-1 c .args .o .gates) ≡ true
-size-yes c = answer-yes (c .before .in-size .ensures) (c .if1 .left)
+size-yes : (c : tie.Else1) → sizeInRange (at-1 c .args .o .rays) (at-1 c .args .o .gates) ≡ true
+size-yes c = answer-yes (c .before .size-in-range .ensures) (c .if1 .left)
 
-long-yes : (c : tie.Else2) → inLength (gatesIn (sweepAt (at-2 c))) (at-2 c .args .velocity .now) (at-2 c .args .valid .now) (at-2 c .args .lent .own) ≡ true
-long-yes c = let s = at-2 c in answer-yes (length-is (sweepAt s) (s .args .lent) _ _ (c .before .in-length .ensures) (c .before .before .gates-in .ensures)) (c .if2 .left)
+long-yes : (c : tie.Else2) → lengthsFit (gatesIn (sweepAt (at-2 c))) (at-2 c .args .velocity .now) (at-2 c .args .valid .now) (at-2 c .args .lent .own) ≡ true
+long-yes c = let s = at-2 c in answer-yes (length-is (sweepAt s) (s .args .lent) _ _ (c .before .lengths-fit .ensures) (c .before .before .gates-in .ensures)) (c .if2 .left)
 
 left-1 : (c : tie.Else1) → firstNo (asks (at-1 c)) ≡ firstNo (drop 1 (asks (at-1 c)))
 unfolding seven
@@ -55,93 +55,93 @@ left-2 c = left-1 (c .before .before .before) ∙ on _ _ (long-yes c)
 
 left-3 : (c : tie.Else3) → firstNo (asks (at-3 c)) ≡ firstNo (drop 3 (asks (at-3 c)))
 unfolding seven
-left-3 c = left-2 (c .before .before) ∙ on _ _ (answer-yes (c .before .all-masks .ensures) (c .if3 .left))
+left-3 c = left-2 (c .before .before) ∙ on _ _ (answer-yes (c .before .mask-is-bits .ensures) (c .if3 .left))
 
 left-4 : (c : tie.Else4) → firstNo (asks (at-4 c)) ≡ firstNo (drop 4 (asks (at-4 c)))
 unfolding seven
-left-4 c = let s = at-4 c in left-3 (c .before .before) ∙ on _ _ (answer-yes (room-is (sweepAt s) (s .args .lent) _ _ (c .before .in-room .ensures) (c .before .before .before .before .before .before .gates-in .ensures)) (c .if4 .left))
+left-4 c = let s = at-4 c in left-3 (c .before .before) ∙ on _ _ (answer-yes (room-is (sweepAt s) (s .args .lent) _ _ (c .before .work-suffices .ensures) (c .before .before .before .before .before .before .gates-in .ensures)) (c .if4 .left))
 
 left-5 : (c : tie.Else5) → firstNo (asks (at-5 c)) ≡ firstNo (drop 5 (asks (at-5 c)))
 unfolding seven
-left-5 c = left-4 (c .before .before) ∙ on _ _ (answer-yes (c .before .nyquist-sized .ensures) (c .if5 .left))
+left-5 c = left-4 (c .before .before) ∙ on _ _ (answer-yes (c .before .nyquist-in-range .ensures) (c .if5 .left))
 
 left-6 : (c : tie.Else6) → firstNo (asks (at-6 c)) ≡ firstNo (drop 6 (asks (at-6 c)))
 unfolding seven
-left-6 c = left-5 (c .before .before) ∙ on _ _ (answer-yes (options-are (sweepAt (at-6 c)) (c .before .in-options .ensures)) (c .if6 .left))
+left-6 c = left-5 (c .before .before) ∙ on _ _ (answer-yes (options-are (sweepAt (at-6 c)) (c .before .options-in-range .ensures)) (c .if6 .left))
 
-in-size-requires : tie.Need-in-size-requires
-in-size-requires c κs = search needs
+size-in-range-requires : tie.Need-size-in-range-requires
+size-in-range-requires c κs = search needs
 
 returns : tie.Need-returns
 unfolding seven
-returns c = sym (ap answerOf (no _ _ (answer-no (c .before .in-size .ensures) (c .if1 .taken))))
+returns c = sym (ap answerOf (no _ _ (answer-no (c .before .size-in-range .ensures) (c .if1 .taken))))
 
 gates-in-requires : tie.Need-gates-in-requires
 gates-in-requires c κs = search needs
 
-in-length-requires : tie.Need-in-length-requires
-in-length-requires c κs = search needs
+lengths-fit-requires : tie.Need-lengths-fit-requires
+lengths-fit-requires c κs = search needs
 
 returns-2 : tie.Need-returns-2
 unfolding seven
-returns-2 c = let s = c .before .before .before .before .before .before .before in sym (ap answerOf (left-1 (c .before .before .before) ∙ no _ _ (answer-no (length-is (sweepAt s) (s .args .lent) _ _ (c .before .in-length .ensures) (c .before .before .gates-in .ensures)) (c .if2 .taken))))
+returns-2 c = let s = c .before .before .before .before .before .before .before in sym (ap answerOf (left-1 (c .before .before .before) ∙ no _ _ (answer-no (length-is (sweepAt s) (s .args .lent) _ _ (c .before .lengths-fit .ensures) (c .before .before .gates-in .ensures)) (c .if2 .taken))))
 
-all-masks-requires : tie.Need-all-masks-requires
-all-masks-requires c κs = search needs
+mask-is-bits-requires : tie.Need-mask-is-bits-requires
+mask-is-bits-requires c κs = search needs
 
 returns-3 : tie.Need-returns-3
 unfolding seven
-returns-3 c = sym (ap answerOf (left-2 (c .before .before) ∙ no _ _ (answer-no (c .before .all-masks .ensures) (c .if3 .taken))))
+returns-3 c = sym (ap answerOf (left-2 (c .before .before) ∙ no _ _ (answer-no (c .before .mask-is-bits .ensures) (c .if3 .taken))))
 
-in-room-requires : tie.Need-in-room-requires
-in-room-requires c κs = size-product _ _ _ (c .before .before .before .before .gates-in .ensures) (size-yes (c .before .before .before .before .before))
+work-suffices-requires : tie.Need-work-suffices-requires
+work-suffices-requires c κs = size-product _ _ _ (c .before .before .before .before .gates-in .ensures) (size-yes (c .before .before .before .before .before))
 
 returns-4 : tie.Need-returns-4
 unfolding seven
-returns-4 c = let s = c .before .before .before .before .before .before .before .before .before .before .before in sym (ap answerOf (left-3 (c .before .before) ∙ no _ _ (answer-no (room-is (sweepAt s) (s .args .lent) _ _ (c .before .in-room .ensures) (c .before .before .before .before .before .before .gates-in .ensures)) (c .if4 .taken))))
+returns-4 c = let s = c .before .before .before .before .before .before .before .before .before .before .before in sym (ap answerOf (left-3 (c .before .before) ∙ no _ _ (answer-no (room-is (sweepAt s) (s .args .lent) _ _ (c .before .work-suffices .ensures) (c .before .before .before .before .before .before .gates-in .ensures)) (c .if4 .taken))))
 
-nyquist-sized-requires : tie.Need-nyquist-sized-requires
-nyquist-sized-requires c κs = search needs
+nyquist-in-range-requires : tie.Need-nyquist-in-range-requires
+nyquist-in-range-requires c κs = search needs
 
 returns-5 : tie.Need-returns-5
 unfolding seven
-returns-5 c = sym (ap answerOf (left-4 (c .before .before) ∙ no _ _ (answer-no (c .before .nyquist-sized .ensures) (c .if5 .taken))))
+returns-5 c = sym (ap answerOf (left-4 (c .before .before) ∙ no _ _ (answer-no (c .before .nyquist-in-range .ensures) (c .if5 .taken))))
 
-in-options-requires : tie.Need-in-options-requires
-in-options-requires c κs = search needs
+options-in-range-requires : tie.Need-options-in-range-requires
+options-in-range-requires c κs = search needs
 
 returns-6 : tie.Need-returns-6
 unfolding seven
-returns-6 c = sym (ap answerOf (left-5 (c .before .before) ∙ no _ _ (answer-no (options-are (sweepAt (c .before .before .before .before .before .before .before .before .before .before .before .before .before .before .before)) (c .before .in-options .ensures)) (c .if6 .taken))))
+returns-6 c = sym (ap answerOf (left-5 (c .before .before) ∙ no _ _ (answer-no (options-are (sweepAt (c .before .before .before .before .before .before .before .before .before .before .before .before .before .before .before)) (c .before .options-in-range .ensures)) (c .if6 .taken))))
 
-all-speeds-requires : tie.Need-all-speeds-requires
-all-speeds-requires c κs = let q = long-are _ _ _ _ (long-yes (c .before .before .before .before .before .before .before .before)) in q .1 ∙ sym (q .0)
+velocities-in-range-requires : tie.Need-velocities-in-range-requires
+velocities-in-range-requires c κs = let q = long-are _ _ _ _ (long-yes (c .before .before .before .before .before .before .before .before)) in q .1 ∙ sym (q .0)
 
 returns-7 : tie.Need-returns-7
 unfolding seven
-returns-7 c = sym (ap answerOf (left-6 (c .before .before) ∙ no _ _ (answer-no (c .before .all-speeds .ensures) (c .if7 .taken))))
+returns-7 c = sym (ap answerOf (left-6 (c .before .before) ∙ no _ _ (answer-no (c .before .velocities-in-range .ensures) (c .if7 .taken))))
 
 returns-8 : tie.Need-returns-8
 unfolding seven firstNo
-returns-8 c = sym (ap answerOf (left-6 (c .before .before) ∙ on _ [] (answer-yes (c .before .all-speeds .ensures) (c .if7 .left))))
+returns-8 c = sym (ap answerOf (left-6 (c .before .before) ∙ on _ [] (answer-yes (c .before .velocities-in-range .ensures) (c .if7 .left))))
 
 pub first-missed-spec : {M : Type 1} → statement M
 first-missed-spec =
     tie.close
     (tie.spec
-    in-size-requires
+    size-in-range-requires
     returns
     gates-in-requires
-    in-length-requires
+    lengths-fit-requires
     returns-2
-    all-masks-requires
+    mask-is-bits-requires
     returns-3
-    in-room-requires
+    work-suffices-requires
     returns-4
-    nyquist-sized-requires
+    nyquist-in-range-requires
     returns-5
-    in-options-requires
+    options-in-range-requires
     returns-6
-    all-speeds-requires
+    velocities-in-range-requires
     returns-7
     returns-8)

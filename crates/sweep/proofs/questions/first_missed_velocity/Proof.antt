@@ -8,9 +8,9 @@ use borrow.Author.Needs.{needs}
 use Rattle.sweep.proofs.VelocityLaws.{length-is, lengths, counts-are}
 use Rattle.sweep.proofs.CheckLaws.{answer-no, answer-yes}
 use Rattle.sweep.proofs.QuestionLaws.{on, no}
-use Rattle.arithmetic.specs.Intervals.{sized}
-use Rattle.sweep.specs.Velocity.{inCounts, Counted, ownLong, askedVelocity}
-use Rattle.sweep.specs.Checks.{Question, ask, inSize, inMask, inSpeed, firstNo, inLength}
+use Rattle.arithmetic.specs.Intervals.{nyquistInRange}
+use Rattle.sweep.specs.Velocity.{countsInRange, Counted, ownLong, askedVelocity}
+use Rattle.sweep.specs.Checks.{Question, ask, sizeInRange, maskIsBits, velocitiesInRange, firstNo, lengthsFit}
 use Rattle.sweep.specs.Entry.{answerOf}
 use Rattle.sweep.proofs.questions.first_missed_velocity.Statement.{statement}
 use Rattle.sweep.proofs.questions.first_missed_velocity.Tie as tie
@@ -20,7 +20,7 @@ abbrev countedAt : tie.Start → Counted
 countedAt s = record { rays = s .args .rays; gates = s .args .gates; nyquist = s .args .nyquist; vel = s .args .velocity .now; mask = s .args .valid .now; counts = s .args .folds .now }
 
 abbrev asks : tie.Start → List Question
-asks s = let u = countedAt s in ask 1 (inSize (u .rays) (u .gates)) ∷ ask 2 (inLength (u .rays * u .gates) (u .vel) (u .mask) (ownLong u (s .args .unfolded))) ∷ ask 3 (inMask (u .mask)) ∷ ask 5 (sized (u .nyquist)) ∷ ask 7 (inSpeed (u .vel) (u .mask)) ∷ ask 10 (inCounts u) ∷ []
+asks s = let u = countedAt s in ask 1 (sizeInRange (u .rays) (u .gates)) ∷ ask 2 (lengthsFit (u .rays * u .gates) (u .vel) (u .mask) (ownLong u (s .args .unfolded))) ∷ ask 3 (maskIsBits (u .mask)) ∷ ask 5 (nyquistInRange (u .nyquist)) ∷ ask 7 (velocitiesInRange (u .vel) (u .mask)) ∷ ask 10 (countsInRange u) ∷ []
 
 -- where the call began, from each place after a yes
 abbrev at-1 : tie.Else1 → tie.Start
@@ -39,30 +39,30 @@ abbrev at-5 : tie.Else5 → tie.Start
 at-5 c = at-4 (c .before .before)
 
 -- what each yes says, and the questions that are left after it
-long-yes : (c : tie.Else2) → inLength (at-2 c .args .rays * at-2 c .args .gates) (at-2 c .args .velocity .now) (at-2 c .args .valid .now) (ownLong (countedAt (at-2 c)) (at-2 c .args .unfolded)) ≡ true
-long-yes c = let s = at-2 c in answer-yes (length-is (countedAt s) (s .args .unfolded) _ _ _ (c .before .in-length .ensures) (c .before .before .two-long .ensures) (c .before .before .before .gates-in .ensures)) (c .if2 .left)
+long-yes : (c : tie.Else2) → lengthsFit (at-2 c .args .rays * at-2 c .args .gates) (at-2 c .args .velocity .now) (at-2 c .args .valid .now) (ownLong (countedAt (at-2 c)) (at-2 c .args .unfolded)) ≡ true
+long-yes c = let s = at-2 c in answer-yes (length-is (countedAt s) (s .args .unfolded) _ _ _ (c .before .lengths-fit .ensures) (c .before .before .two-long .ensures) (c .before .before .before .gates-in .ensures)) (c .if2 .left)
 
 left-1 : (c : tie.Else1) → firstNo (asks (at-1 c)) ≡ firstNo (drop 1 (asks (at-1 c)))
-left-1 c = on _ _ (answer-yes (c .before .in-size .ensures) (c .if1 .left))
+left-1 c = on _ _ (answer-yes (c .before .size-in-range .ensures) (c .if1 .left))
 
 left-2 : (c : tie.Else2) → firstNo (asks (at-2 c)) ≡ firstNo (drop 2 (asks (at-2 c)))
 left-2 c = left-1 (c .before .before .before .before) ∙ on _ _ (long-yes c)
 
 left-3 : (c : tie.Else3) → firstNo (asks (at-3 c)) ≡ firstNo (drop 3 (asks (at-3 c)))
-left-3 c = left-2 (c .before .before) ∙ on _ _ (answer-yes (c .before .all-masks .ensures) (c .if3 .left))
+left-3 c = left-2 (c .before .before) ∙ on _ _ (answer-yes (c .before .mask-is-bits .ensures) (c .if3 .left))
 
 left-4 : (c : tie.Else4) → firstNo (asks (at-4 c)) ≡ firstNo (drop 4 (asks (at-4 c)))
-left-4 c = left-3 (c .before .before) ∙ on _ _ (answer-yes (c .before .nyquist-sized .ensures) (c .if4 .left))
+left-4 c = left-3 (c .before .before) ∙ on _ _ (answer-yes (c .before .nyquist-in-range .ensures) (c .if4 .left))
 
 left-5 : (c : tie.Else5) → firstNo (asks (at-5 c)) ≡ firstNo (drop 5 (asks (at-5 c)))
-left-5 c = left-4 (c .before .before) ∙ on _ _ (answer-yes (c .before .all-speeds .ensures) (c .if5 .left))
+left-5 c = left-4 (c .before .before) ∙ on _ _ (answer-yes (c .before .velocities-in-range .ensures) (c .if5 .left))
 
-in-size-requires : tie.Need-in-size-requires
-in-size-requires c κs = search needs
+size-in-range-requires : tie.Need-size-in-range-requires
+size-in-range-requires c κs = search needs
 
 returns : tie.Need-returns
 unfolding askedVelocity
-returns c = sym (ap answerOf (no _ _ (answer-no (c .before .in-size .ensures) (c .if1 .taken))))
+returns c = sym (ap answerOf (no _ _ (answer-no (c .before .size-in-range .ensures) (c .if1 .taken))))
 
 gates-in-requires : tie.Need-gates-in-requires
 gates-in-requires c κs = search needs
@@ -70,61 +70,61 @@ gates-in-requires c κs = search needs
 two-long-requires : tie.Need-two-long-requires
 two-long-requires c κs = search needs
 
-in-length-requires : tie.Need-in-length-requires
-in-length-requires c κs = search needs
+lengths-fit-requires : tie.Need-lengths-fit-requires
+lengths-fit-requires c κs = search needs
 
 returns-2 : tie.Need-returns-2
 unfolding askedVelocity
-returns-2 c = let s = c .before .before .before .before .before .before .before .before in sym (ap answerOf (left-1 (c .before .before .before .before) ∙ no _ _ (answer-no (length-is (countedAt s) (s .args .unfolded) _ _ _ (c .before .in-length .ensures) (c .before .before .two-long .ensures) (c .before .before .before .gates-in .ensures)) (c .if2 .taken))))
+returns-2 c = let s = c .before .before .before .before .before .before .before .before in sym (ap answerOf (left-1 (c .before .before .before .before) ∙ no _ _ (answer-no (length-is (countedAt s) (s .args .unfolded) _ _ _ (c .before .lengths-fit .ensures) (c .before .before .two-long .ensures) (c .before .before .before .gates-in .ensures)) (c .if2 .taken))))
 
-all-masks-requires : tie.Need-all-masks-requires
-all-masks-requires c κs = search needs
+mask-is-bits-requires : tie.Need-mask-is-bits-requires
+mask-is-bits-requires c κs = search needs
 
 returns-3 : tie.Need-returns-3
 unfolding askedVelocity
-returns-3 c = sym (ap answerOf (left-2 (c .before .before) ∙ no _ _ (answer-no (c .before .all-masks .ensures) (c .if3 .taken))))
+returns-3 c = sym (ap answerOf (left-2 (c .before .before) ∙ no _ _ (answer-no (c .before .mask-is-bits .ensures) (c .if3 .taken))))
 
-nyquist-sized-requires : tie.Need-nyquist-sized-requires
-nyquist-sized-requires c κs = search needs
+nyquist-in-range-requires : tie.Need-nyquist-in-range-requires
+nyquist-in-range-requires c κs = search needs
 
 returns-4 : tie.Need-returns-4
 unfolding askedVelocity
-returns-4 c = sym (ap answerOf (left-3 (c .before .before) ∙ no _ _ (answer-no (c .before .nyquist-sized .ensures) (c .if4 .taken))))
+returns-4 c = sym (ap answerOf (left-3 (c .before .before) ∙ no _ _ (answer-no (c .before .nyquist-in-range .ensures) (c .if4 .taken))))
 
-all-speeds-requires : tie.Need-all-speeds-requires
-all-speeds-requires c κs = let q = lengths _ _ (long-yes (c .before .before .before .before)) in q .mask ∙ sym (q .vel)
+velocities-in-range-requires : tie.Need-velocities-in-range-requires
+velocities-in-range-requires c κs = let q = lengths _ _ (long-yes (c .before .before .before .before)) in q .mask ∙ sym (q .vel)
 
 returns-5 : tie.Need-returns-5
 unfolding askedVelocity
-returns-5 c = sym (ap answerOf (left-4 (c .before .before) ∙ no _ _ (answer-no (c .before .all-speeds .ensures) (c .if5 .taken))))
+returns-5 c = sym (ap answerOf (left-4 (c .before .before) ∙ no _ _ (answer-no (c .before .velocities-in-range .ensures) (c .if5 .taken))))
 
-all-counts-requires : tie.Need-all-counts-requires
-all-counts-requires c κs = let q = lengths _ _ (long-yes (c .before .before .before .before .before .before)) in q .counts ∙ sym (q .mask)
+counts-in-range-requires : tie.Need-counts-in-range-requires
+counts-in-range-requires c κs = let q = lengths _ _ (long-yes (c .before .before .before .before .before .before)) in q .counts ∙ sym (q .mask)
 
 returns-6 : tie.Need-returns-6
 unfolding askedVelocity
-returns-6 c = let s = c .before .before .before .before .before .before .before .before .before .before .before .before .before .before .before .before in sym (ap answerOf (left-5 (c .before .before) ∙ no _ _ (answer-no (counts-are (countedAt s) (s .args .unfolded) (lengths _ _ (long-yes (c .before .before .before .before .before .before .before .before)) .mask) (c .before .all-counts .ensures)) (c .if6 .taken))))
+returns-6 c = let s = c .before .before .before .before .before .before .before .before .before .before .before .before .before .before .before .before in sym (ap answerOf (left-5 (c .before .before) ∙ no _ _ (answer-no (counts-are (countedAt s) (s .args .unfolded) (lengths _ _ (long-yes (c .before .before .before .before .before .before .before .before)) .mask) (c .before .counts-in-range .ensures)) (c .if6 .taken))))
 
 returns-7 : tie.Need-returns-7
 unfolding askedVelocity firstNo
-returns-7 c = let s = c .before .before .before .before .before .before .before .before .before .before .before .before .before .before .before .before in sym (ap answerOf (left-5 (c .before .before) ∙ on _ [] (answer-yes (counts-are (countedAt s) (s .args .unfolded) (lengths _ _ (long-yes (c .before .before .before .before .before .before .before .before)) .mask) (c .before .all-counts .ensures)) (c .if6 .left))))
+returns-7 c = let s = c .before .before .before .before .before .before .before .before .before .before .before .before .before .before .before .before in sym (ap answerOf (left-5 (c .before .before) ∙ on _ [] (answer-yes (counts-are (countedAt s) (s .args .unfolded) (lengths _ _ (long-yes (c .before .before .before .before .before .before .before .before)) .mask) (c .before .counts-in-range .ensures)) (c .if6 .left))))
 
 pub first-missed-velocity-spec : {M : Type 1} → statement M
 first-missed-velocity-spec =
     tie.close
     (tie.spec
-    in-size-requires
+    size-in-range-requires
     returns
     gates-in-requires
     two-long-requires
-    in-length-requires
+    lengths-fit-requires
     returns-2
-    all-masks-requires
+    mask-is-bits-requires
     returns-3
-    nyquist-sized-requires
+    nyquist-in-range-requires
     returns-4
-    all-speeds-requires
+    velocities-in-range-requires
     returns-5
-    all-counts-requires
+    counts-in-range-requires
     returns-6
     returns-7)

@@ -1,7 +1,7 @@
 -- `sweep::velocity::unfolded_at` meets its contract. Assumes nothing.
 use Rattle.sweep.specs.Velocity.{unfoldedAt}
 use Rattle.arithmetic.specs.Rounding.{real}
-use Rattle.arithmetic.specs.Intervals.{folded}
+use Rattle.arithmetic.specs.Intervals.{twoNyquist}
 use lib.Ieee.{ofBits, ofInt}
 use borrow.Author.Tests.{eq-eqb, ne-eqb}
 use mir.ValLaws.{toZ-ofZ}
@@ -21,7 +21,7 @@ int-to-float-result : tie.Need-int-to-float-result
 int-to-float-result c = search needs
 
 returns : tie.Need-returns
-unfolding unfoldedAt folded real ofBits ofInt
+unfolding unfoldedAt twoNyquist real ofBits ofInt
 returns c =
     let s = c .before .before .before .before in rw (eq-eqb _ _ (c .before .before .before .if1 .taken), c .before .before .f32-to-f64-with-nan .ensures, c .before .f32-to-f64-with-nan2 .ensures, toZ-ofZ w32 (s .args .count) (s .fits .count)) refl
 

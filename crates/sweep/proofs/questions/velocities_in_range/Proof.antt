@@ -1,5 +1,5 @@
--- `sweep::questions::all_speeds` meets its contract. The invariant: the gates from i on decide. Assumes nothing.
-use Rattle.sweep.specs.Checks.{inSpeed}
+-- `sweep::questions::velocities_in_range` meets its contract. The invariant: the gates from i on decide. Assumes nothing.
+use Rattle.sweep.specs.Checks.{velocitiesInRange}
 use Rattle.sweep.proofs.QuestionLaws.{speed-masked, speed-valid, speed-end}
 use borrow.Author.Tests.{not-true, not-false}
 use mathlib.Core.Logic.{⊎-elim}
@@ -8,11 +8,11 @@ use native.Mathlib.Omega.{arith}
 use mathlib.Core.Path.{_≡_, refl, sym, _∙_}
 use Prim.Native.Nat.{_-_, _≤_}
 use lib.ListN.{length, drop}
-use Rattle.sweep.proofs.questions.all_speeds.Statement.{statement}
-use Rattle.sweep.proofs.questions.all_speeds.Tie as tie
+use Rattle.sweep.proofs.questions.velocities_in_range.Statement.{statement}
+use Rattle.sweep.proofs.questions.velocities_in_range.Tie as tie
 
 abbrev Inv-loop : tie.InvT-loop
-Inv-loop velocity valid i₀ i = (i ≤ length velocity) × (inSpeed velocity valid ≡ inSpeed (drop i velocity) (drop i valid))
+Inv-loop velocity valid i₀ i = (i ≤ length velocity) × (velocitiesInRange velocity valid ≡ velocitiesInRange (drop i velocity) (drop i valid))
 
 abbrev μ-loop : tie.MeasureT-loop
 μ-loop velocity valid i₀ i = length velocity - i
@@ -23,20 +23,20 @@ loop-holds c = (search needs, refl)
 shared-slice-read-if1 : tie.Need-shared-slice-read-if1 Inv-loop μ-loop
 shared-slice-read-if1 c = omega (arith, c .before .before .before .before .before .pre)
 
-mul-is-fair : tie.Need-mul-is-fair Inv-loop μ-loop
-mul-is-fair c = omega arith
+mul-velocity-in-range : tie.Need-mul-velocity-in-range Inv-loop μ-loop
+mul-velocity-in-range c = omega arith
 
-shared-slice-read-is-fair : tie.Need-shared-slice-read-is-fair Inv-loop μ-loop
-shared-slice-read-is-fair c = omega arith
+shared-slice-read-velocity-in-range : tie.Need-shared-slice-read-velocity-in-range Inv-loop μ-loop
+shared-slice-read-velocity-in-range c = omega arith
 
-is-fair-requires : tie.Need-is-fair-requires Inv-loop μ-loop
-is-fair-requires c κs = tt
+velocity-in-range-requires : tie.Need-velocity-in-range-requires Inv-loop μ-loop
+velocity-in-range-requires c κs = tt
 
 returns : tie.Need-returns Inv-loop μ-loop
 returns c =
     let l = c .before .before .before .before .before .before .loop in
     let s = c .before .before .before .before .before .before .before .before .before in
-    let f = c .before .«is-fair» in
+    let f = c .before .velocity-in-range in
     sym (l .inv .1 ∙ speed-valid (s .args .velocity .now) (s .args .valid .now) (l .i) (s .pre) (omega arith) (c .before .before .before .if1 .taken) (sym (f .ensures) ∙ not-true _ (c .if2 .taken)))
 
 add-i : tie.Need-add-i Inv-loop μ-loop
@@ -57,17 +57,17 @@ returns-2 c =
     let s = c .before .before .before .before in
     sym (l .inv .1 ∙ speed-end (s .args .velocity .now) (s .args .valid .now) (l .i) (s .pre) (c .loop-test .left))
 
-pub all-speeds-spec : {M : Type 1} → statement M
-all-speeds-spec =
+pub velocities-in-range-spec : {M : Type 1} → statement M
+velocities-in-range-spec =
     tie.close
     (tie.spec
     Inv-loop
     μ-loop
     loop-holds
     shared-slice-read-if1
-    mul-is-fair
-    shared-slice-read-is-fair
-    is-fair-requires
+    mul-velocity-in-range
+    shared-slice-read-velocity-in-range
+    velocity-in-range-requires
     returns
     add-i
     loop-less

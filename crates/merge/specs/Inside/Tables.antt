@@ -14,16 +14,16 @@ use Rattle.memory.specs.Inside.Layout.{tableWords}
 use Rattle.merge.specs.Inside.Table.{Table, weight, first, second, enext, rnext, count, from, long, is}
 
 -- the tables of words by name, and the edges' differences
-pub record Mem : Type 0 where
+pub record Tables : Type 0 where
   pub at : Table → List ℕ
   pub diff : List Float
 
 -- m edges, n regions
-unfoldable pub view : ℕ → ℕ → List ℕ → List Float → Mem
+unfoldable pub view : ℕ → ℕ → List ℕ → List Float → Tables
 view m n w d = record { at = λ t. seg w (from t m n) (long t m n); diff = d }
 
 -- the words hold all tables
-pub record Room (m n : ℕ) (w : List ℕ) (d : List Float) : Type 0 where
+pub record HoldsTables (m n : ℕ) (w : List ℕ) (d : List Float) : Type 0 where
   pub words : tableWords m n ≤ length w
   pub diffs : m ≤ length d
   pub small : 2 * m + n < 2 ^ 32
@@ -38,7 +38,7 @@ Below none x = Unit {0}
 Below (some k) x = x < k
 
 -- every index is in its range, and no sum of weights wraps
-pub record Sound (m n : ℕ) (s : Mem) : Type 0 where
+pub record Sound (m n : ℕ) (s : Tables) : Type 0 where
   pub lengths : (t : Table) → length (s .at t) ≡ long t m n
   pub l-diff : m ≤ length (s .diff)
   pub within : (t : Table) (j : ℕ) → j < long t m n → Below (limit t m n) (getD (s .at t) j 0)
@@ -46,9 +46,9 @@ pub record Sound (m n : ℕ) (s : Mem) : Type 0 where
   pub light : sum (s .at weight) < 2 ^ 32
 
 -- table t with x at j
-unfoldable pub store : Table → Mem → ℕ → ℕ → Mem
+unfoldable pub store : Table → Tables → ℕ → ℕ → Tables
 store t s j x = record { at = λ u. cond (is t u) (set (s .at u) j x) (s .at u); diff = s .diff }
 
 -- the differences with x at j
-unfoldable pub diff-set : Mem → ℕ → Float → Mem
+unfoldable pub diff-set : Tables → ℕ → Float → Tables
 diff-set s j x = record { at = s .at; diff = set (s .diff) j x }

@@ -1,4 +1,4 @@
--- `edges::edges::look` meets its contract. Assumes nothing.
+-- `edges::edges::sees` meets its contract. Assumes nothing.
 use borrow.Author.Needs.{needs}
 use native.Mathlib.Omega.{arith}
 use mathlib.Core.Path.{_≡_, sym, ap, _∙_}
@@ -6,36 +6,36 @@ use Prim.Native.Nat.{ℕ, suc, _-_, _*_, _<_}
 use mathlib.Core.Option.{some}
 use Rattle.edges.proofs.Looking.{none-on, seen-on, skip-on, last-on, begins}
 use Rattle.edges.proofs.Next.{next-in}
-use Rattle.edges.specs.Inside.Sees.{shape, way, answer}
+use Rattle.edges.specs.Inside.Sees.{answer}
 use Rattle.edges.specs.Edges.{sees, next}
 use Rattle.edges.specs.Edges as edges
-use Rattle.edges.proofs.edges.look.Statement.{statement}
-use Rattle.edges.proofs.edges.look.Tie as tie
+use Rattle.edges.proofs.edges.sees.Statement.{statement}
+use Rattle.edges.proofs.edges.sees.Tie as tie
 
 abbrev Inv-loop : tie.InvT-loop
-Inv-loop labels f d g left₀ h₀ left h = (h < f .rays * f .gates) × (sees (shape f) labels (way d) g ≡ edges.look (shape f) (way d) labels (suc left) h)
+Inv-loop labels f d g left₀ h₀ left h = (h < f .rays * f .gates) × (sees f labels d g ≡ edges.look f d labels (suc left) h)
 
 abbrev μ-loop : tie.MeasureT-loop
 μ-loop labels f d g left₀ h₀ left h = left
 
-reach-requires : tie.Need-reach-requires Inv-loop μ-loop
-reach-requires c κs = search needs
+skip-requires : tie.Need-skip-requires Inv-loop μ-loop
+skip-requires c κs = search needs
 
--- the step's answer, as the definition has it
-is-next : (c : tie.After-known-told Inv-loop μ-loop) → next (shape (c .before .before .before .before .before .before .before .args .f)) (way (c .before .before .before .before .before .before .before .args .d)) (c .before .before .before .before .loop .h) ≡ some (c .before .s .given .0 .0)
-is-next c = sym (c .before .before .before .step .ensures) ∙ ap answer (c .before .s .given .1)
+-- the next's answer, as the definition has it
+is-next : (c : tie.After-known-told Inv-loop μ-loop) → next (c .before .before .before .before .before .before .before .args .f) (c .before .before .before .before .before .before .before .args .d) (c .before .before .before .before .loop .h) ≡ some (c .before .s .given .0 .0)
+is-next c = sym (c .before .before .before .next .ensures) ∙ ap answer (c .before .s .given .1)
 
 inside : (c : tie.After-known-told Inv-loop μ-loop) → c .before .s .given .0 .0 < c .before .before .before .before .before .before .before .args .f .rays * c .before .before .before .before .before .before .before .args .f .gates
 inside c =
     let a = c .before .before .before .before .before .before .before .args in
     let l = c .before .before .before .before .loop in
-    next-in (shape (a .f)) (l .h) (way (a .d)) (c .before .s .given .0 .0) (l .inv .0) (is-next c)
+    next-in (a .f) (l .h) (a .d) (c .before .s .given .0 .0) (l .inv .0) (is-next c)
 
 loop-holds : tie.Need-loop-holds Inv-loop μ-loop
-loop-holds c = (c .before .before .pre .inside, begins (shape (c .before .before .args .f)) (way (c .before .before .args .d)) (c .before .before .args .labels .now) (c .reach .result) (c .before .before .args .g) (c .reach .ensures))
+loop-holds c = (c .before .before .pre .inside, begins (c .before .before .args .f) (c .before .before .args .d) (c .before .before .args .labels .now) (c .skip .result) (c .before .before .args .g) (c .skip .ensures))
 
-step-requires : tie.Need-step-requires Inv-loop μ-loop
-step-requires c κs = record { inside = c .loop .inv .0; small = c .before .before .before .pre .small }
+next-requires : tie.Need-next-requires Inv-loop μ-loop
+next-requires c κs = record { inside = c .loop .inv .0; small = c .before .before .before .pre .small }
 
 enum-known-s : tie.Need-enum-known-s Inv-loop μ-loop
 enum-known-s c = search needs
@@ -47,7 +47,7 @@ returns : tie.Need-returns Inv-loop μ-loop
 returns c =
     let l = c .before .before .before .loop in
     let a = c .before .before .before .before .before .before .args in
-    sym (l .inv .1 ∙ none-on (shape (a .f)) (way (a .d)) (a .labels .now) (l .left) (l .h) (sym (c .before .before .step .ensures) ∙ ap answer (c .enum-told .given .1)))
+    sym (l .inv .1 ∙ none-on (a .f) (a .d) (a .labels .now) (l .left) (l .h) (sym (c .before .before .next .ensures) ∙ ap answer (c .enum-told .given .1)))
 
 mul-if1 : tie.Need-mul-if1 Inv-loop μ-loop
 mul-if1 c = omega (arith, inside c, c .before .before .before .before .before .before .before .pre .small)
@@ -59,13 +59,13 @@ returns-2 : tie.Need-returns-2 Inv-loop μ-loop
 returns-2 c =
     let l = c .before .before .before .before .before .before .loop in
     let a = c .before .before .before .before .before .before .before .before .before .args in
-    sym (l .inv .1 ∙ seen-on (shape (a .f)) (way (a .d)) (a .labels .now) (l .left) (l .h) (c .before .before .before .s .given .0 .0) (is-next (c .before .before)) (c .if1 .taken))
+    sym (l .inv .1 ∙ seen-on (a .f) (a .d) (a .labels .now) (l .left) (l .h) (c .before .before .before .s .given .0 .0) (is-next (c .before .before)) (c .if1 .taken))
 
 returns-3 : tie.Need-returns-3 Inv-loop μ-loop
 returns-3 c =
     let a = c .before .before .before .before .before .before .before .before .before .before .args in
     let l = c .before .before .before .before .before .before .before .loop in
-    sym (l .inv .1 ∙ ap (λ (x : ℕ). edges.look (shape (a .f)) (way (a .d)) (a .labels .now) (suc x) (l .h)) (c .if2 .taken) ∙ last-on (shape (a .f)) (way (a .d)) (a .labels .now) (l .h) (c .before .before .before .before .s .given .0 .0) (is-next (c .before .before .before)) (c .before .if1 .left))
+    sym (l .inv .1 ∙ ap (λ (x : ℕ). edges.look (a .f) (a .d) (a .labels .now) (suc x) (l .h)) (c .if2 .taken) ∙ last-on (a .f) (a .d) (a .labels .now) (l .h) (c .before .before .before .before .s .given .0 .0) (is-next (c .before .before .before)) (c .before .if1 .left))
 
 sub-left : tie.Need-sub-left Inv-loop μ-loop
 sub-left c = search needs
@@ -78,17 +78,17 @@ loop-again c =
     let a = c .before .before .before .before .before .before .before .before .before .before .args in
     let l = c .before .before .before .before .before .before .before .loop in
     let s′ = c .before .before .before .before .s in
-    (inside (c .before .before .before), l .inv .1 ∙ skip-on (shape (a .f)) (way (a .d)) (a .labels .now) (l .left) (l .h) (s′ .given .0 .0) (is-next (c .before .before .before)) (c .before .if1 .left) ∙ ap (λ (x : ℕ). edges.look (shape (a .f)) (way (a .d)) (a .labels .now) x (s′ .given .0 .0)) (omega (arith, c .if2 .left)))
+    (inside (c .before .before .before), l .inv .1 ∙ skip-on (a .f) (a .d) (a .labels .now) (l .left) (l .h) (s′ .given .0 .0) (is-next (c .before .before .before)) (c .before .if1 .left) ∙ ap (λ (x : ℕ). edges.look (a .f) (a .d) (a .labels .now) x (s′ .given .0 .0)) (omega (arith, c .if2 .left)))
 
-pub look-spec : {M : Type 1} → statement M
-look-spec =
+pub sees-spec : {M : Type 1} → statement M
+sees-spec =
     tie.close
     (tie.spec
     Inv-loop
     μ-loop
-    reach-requires
+    skip-requires
     loop-holds
-    step-requires
+    next-requires
     enum-known-s
     enum-told
     returns

@@ -1,10 +1,10 @@
--- `sweep::questions::in_room` meets its contract. Assumes nothing.
+-- `sweep::questions::work_suffices` meets its contract. Assumes nothing.
 use Rattle.sweep.specs.Checks.{wordsFor, floatsFor}
 use borrow.Author.Tests.{le-leb, lt-leb}
 use mathlib.Core.Path.{refl}
 use borrow.Author.Needs.{needs}
-use Rattle.sweep.proofs.questions.in_room.Statement.{statement}
-use Rattle.sweep.proofs.questions.in_room.Tie as tie
+use Rattle.sweep.proofs.questions.work_suffices.Statement.{statement}
+use Rattle.sweep.proofs.questions.work_suffices.Tie as tie
 
 mul-if1 : tie.Need-mul-if1
 mul-if1 c = search needs
@@ -26,5 +26,5 @@ returns-2 : tie.Need-returns-2
 unfolding wordsFor floatsFor
 returns-2 c = rw (lt-leb _ _ (c .if1 .left)) refl
 
-pub in-room-spec : {M : Type 1} → statement M
-in-room-spec = tie.close (tie.spec mul-if1 add-if1 mul-result add-result returns returns-2)
+pub work-suffices-spec : {M : Type 1} → statement M
+work-suffices-spec = tie.close (tie.spec mul-if1 add-if1 mul-result add-result returns returns-2)

@@ -1,16 +1,16 @@
--- `sweep::questions::all_masks` meets its contract. The invariant: the bytes from i on decide. Assumes nothing.
-use Rattle.sweep.specs.Checks.{inMask}
+-- `sweep::questions::mask_is_bits` meets its contract. The invariant: the bytes from i on decide. Assumes nothing.
+use Rattle.sweep.specs.Checks.{maskIsBits}
 use Rattle.sweep.proofs.QuestionLaws.{mask-yes, mask-no, mask-end}
 use borrow.Author.Needs.{needs}
 use native.Mathlib.Omega.{arith}
 use mathlib.Core.Path.{_≡_, refl, sym, _∙_}
 use Prim.Native.Nat.{_-_, _≤_}
 use lib.ListN.{length, drop}
-use Rattle.sweep.proofs.questions.all_masks.Statement.{statement}
-use Rattle.sweep.proofs.questions.all_masks.Tie as tie
+use Rattle.sweep.proofs.questions.mask_is_bits.Statement.{statement}
+use Rattle.sweep.proofs.questions.mask_is_bits.Tie as tie
 
 abbrev Inv-loop : tie.InvT-loop
-Inv-loop valid i₀ i = (i ≤ length valid) × (inMask valid ≡ inMask (drop i valid))
+Inv-loop valid i₀ i = (i ≤ length valid) × (maskIsBits valid ≡ maskIsBits (drop i valid))
 
 abbrev μ-loop : tie.MeasureT-loop
 μ-loop valid i₀ i = length valid - i
@@ -45,8 +45,8 @@ returns-2 c =
     let m = c .before .before .args .valid .now in
     sym (l .inv .1 ∙ mask-end m (l .i) (c .loop-test .left))
 
-pub all-masks-spec : {M : Type 1} → statement M
-all-masks-spec =
+pub mask-is-bits-spec : {M : Type 1} → statement M
+mask-is-bits-spec =
     tie.close
     (tie.spec
     Inv-loop

@@ -1,9 +1,9 @@
--- `edges::edges::reach` meets its contract. Assumes nothing.
+-- `edges::edges::skip` meets its contract. Assumes nothing.
 use Prim.Native.Nat.{_-_}
 use borrow.Author.Needs.{needs}
 use Rattle.edges.specs.Edges.{skip}
-use Rattle.edges.proofs.edges.reach.Statement.{statement}
-use Rattle.edges.proofs.edges.reach.Tie as tie
+use Rattle.edges.proofs.edges.skip.Statement.{statement}
+use Rattle.edges.proofs.edges.skip.Tie as tie
 
 enum-told : tie.Need-enum-told
 enum-told c = search needs
@@ -33,7 +33,7 @@ returns-4 : tie.Need-returns-4
 unfolding skip
 returns-4 c = search needs
 
-pub reach-spec : {M : Type 1} → statement M
-reach-spec =
+pub skip-spec : {M : Type 1} → statement M
+skip-spec =
     tie.close
     (tie.spec enum-told enum-told-2 enum-told-3 enum-told-4 returns returns-2 returns-3 returns-4)

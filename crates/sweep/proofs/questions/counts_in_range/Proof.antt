@@ -1,4 +1,4 @@
--- `sweep::questions::all_counts` meets its contract. The invariant: the gates from i on decide. Assumes nothing.
+-- `sweep::questions::counts_in_range` meets its contract. The invariant: the gates from i on decide. Assumes nothing.
 use Rattle.sweep.proofs.VelocityLaws.{countTest, count-masked, count-valid, count-end}
 use Rattle.lists.specs.Seq.{upto, all}
 use borrow.Author.Tests.{not-true, not-false}
@@ -7,8 +7,8 @@ use native.Mathlib.Omega.{arith}
 use mathlib.Core.Path.{_≡_, sym, ap, _∙_}
 use Prim.Native.Nat.{ℕ, _-_, _≤_}
 use lib.ListN.{length}
-use Rattle.sweep.proofs.questions.all_counts.Statement.{statement}
-use Rattle.sweep.proofs.questions.all_counts.Tie as tie
+use Rattle.sweep.proofs.questions.counts_in_range.Statement.{statement}
+use Rattle.sweep.proofs.questions.counts_in_range.Tie as tie
 
 abbrev Inv-loop : tie.InvT-loop
 Inv-loop valid folds i₀ i = (i ≤ length valid) × (all (countTest valid folds) (upto (length valid) 0) ≡ all (countTest valid folds) (upto (length valid - i) i))
@@ -22,21 +22,21 @@ loop-holds c = (omega arith, ap (λ (k : ℕ). all (countTest (c .before .args .
 shared-slice-read-if1 : tie.Need-shared-slice-read-if1 Inv-loop μ-loop
 shared-slice-read-if1 c = omega (arith, c .before .before .before .before .pre)
 
-mul-is-bounded : tie.Need-mul-is-bounded Inv-loop μ-loop
-mul-is-bounded c = omega (arith, c .before .before .before .before .before .pre)
+mul-count-in-range : tie.Need-mul-count-in-range Inv-loop μ-loop
+mul-count-in-range c = omega (arith, c .before .before .before .before .before .pre)
 
-shared-slice-copy-out-is-bounded : tie.Need-shared-slice-copy-out-is-bounded Inv-loop μ-loop
-shared-slice-copy-out-is-bounded c = omega (arith, c .before .before .before .before .before .pre)
+shared-slice-copy-out-count-in-range : tie.Need-shared-slice-copy-out-count-in-range Inv-loop μ-loop
+shared-slice-copy-out-count-in-range c = omega (arith, c .before .before .before .before .before .pre)
 
-is-bounded-requires : tie.Need-is-bounded-requires Inv-loop μ-loop
-is-bounded-requires c κs = tt
+count-in-range-requires : tie.Need-count-in-range-requires Inv-loop μ-loop
+count-in-range-requires c κs = tt
 
 returns : tie.Need-returns Inv-loop μ-loop
 returns c =
     let l = c .before .before .before .before .before .before .loop in
     let s = c .before .before .before .before .before .before .before .before .args in
-    let b = c .before .is-bounded in
-    sym (l .inv .1 ∙ count-valid (s .valid .now) (s .folds .now) (length (s .valid .now)) (l .i) (c .before .before .before .before .before .loop-test .taken) (c .before .before .before .if1 .taken) (c .before .before .is-bounded-arg .given) (b .ensures) (not-true _ (c .if2 .taken)))
+    let b = c .before .count-in-range in
+    sym (l .inv .1 ∙ count-valid (s .valid .now) (s .folds .now) (length (s .valid .now)) (l .i) (c .before .before .before .before .before .loop-test .taken) (c .before .before .before .if1 .taken) (c .before .before .count-in-range-arg .given) (b .ensures) (not-true _ (c .if2 .taken)))
 
 add-i : tie.Need-add-i Inv-loop μ-loop
 add-i c = omega (arith, c .before .before .before .before .before .pre)
@@ -56,17 +56,17 @@ returns-2 c =
     let s = c .before .before .before .args in
     sym (l .inv .1 ∙ count-end (s .valid .now) (s .folds .now) (length (s .valid .now)) (l .i) (c .loop-test .left))
 
-pub all-counts-spec : {M : Type 1} → statement M
-all-counts-spec =
+pub counts-in-range-spec : {M : Type 1} → statement M
+counts-in-range-spec =
     tie.close
     (tie.spec
     Inv-loop
     μ-loop
     loop-holds
     shared-slice-read-if1
-    mul-is-bounded
-    shared-slice-copy-out-is-bounded
-    is-bounded-requires
+    mul-count-in-range
+    shared-slice-copy-out-count-in-range
+    count-in-range-requires
     returns
     add-i
     loop-less

@@ -1,8 +1,8 @@
--- `sweep::questions::in_options` meets its contract. Assumes nothing.
+-- `sweep::questions::options_in_range` meets its contract. Assumes nothing.
 use borrow.Author.Tests.{le-leb, lt-leb}
 use mathlib.Core.Path.{refl}
-use Rattle.sweep.proofs.questions.in_options.Statement.{statement}
-use Rattle.sweep.proofs.questions.in_options.Tie as tie
+use Rattle.sweep.proofs.questions.options_in_range.Statement.{statement}
+use Rattle.sweep.proofs.questions.options_in_range.Tie as tie
 
 returns : tie.Need-returns
 returns c = rw (le-leb _ _ (c .before .before .before .before .if1 .taken), le-leb _ _ (c .before .before .before .if2 .taken), le-leb _ _ (c .before .before .if3 .taken), le-leb _ _ (c .before .if4 .taken), le-leb _ _ (c .if5 .taken)) refl
@@ -22,5 +22,5 @@ returns-5 c = rw (le-leb _ _ (c .before .if1 .taken), lt-leb _ _ (c .if2 .left))
 returns-6 : tie.Need-returns-6
 returns-6 c = rw (lt-leb _ _ (c .if1 .left)) refl
 
-pub in-options-spec : {M : Type 1} → statement M
-in-options-spec = tie.close (tie.spec returns returns-2 returns-3 returns-4 returns-5 returns-6)
+pub options-in-range-spec : {M : Type 1} → statement M
+options-in-range-spec = tie.close (tie.spec returns returns-2 returns-3 returns-4 returns-5 returns-6)

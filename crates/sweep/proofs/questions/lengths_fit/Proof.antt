@@ -1,0 +1,21 @@
+-- `sweep::questions::lengths_fit` meets its contract. Assumes nothing.
+use borrow.Author.Tests.{eq-eqb, ne-eqb}
+use mathlib.Core.Path.{refl}
+use Rattle.sweep.specs.Checks.{lengthsFit}
+use Rattle.sweep.proofs.questions.lengths_fit.Statement.{statement}
+use Rattle.sweep.proofs.questions.lengths_fit.Tie as tie
+
+returns : tie.Need-returns
+unfolding lengthsFit
+returns c = rw (eq-eqb _ _ (c .before .if1 .taken), eq-eqb _ _ (c .if2 .taken)) refl
+
+returns-2 : tie.Need-returns-2
+unfolding lengthsFit
+returns-2 c = rw (eq-eqb _ _ (c .before .if1 .taken), ne-eqb _ _ (c .if2 .left)) refl
+
+returns-3 : tie.Need-returns-3
+unfolding lengthsFit
+returns-3 c = rw (ne-eqb _ _ (c .if1 .left)) refl
+
+pub lengths-fit-spec : {M : Type 1} → statement M
+lengths-fit-spec = tie.close (tie.spec returns returns-2 returns-3)
