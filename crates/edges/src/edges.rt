@@ -1,4 +1,5 @@
 // edges.rs: looks, pairs, and the edge records gathered from them.
+use memory::layout;
 ghost use mathlib.Core.Path.{_≡_};
 ghost use mathlib.Core.Bool.{cond, _&&_};
 ghost use Prim.Native.Nat.{_+_, _-_, _*_, _≤_, _<_, _^_};
@@ -158,7 +159,7 @@ pub fn pair_one(w: &mut [u32], n: usize, f: Shape, d: Direction, g: usize, c: us
         return c;
     }
     w[n + c] = g as u32;
-    w[5 * n + c] = h as u32;
+    w[layout::SEEN * n + c] = h as u32;
     c + 1
 }
 
@@ -209,10 +210,10 @@ pub fn sort_pairs(w: &mut [u32], n: usize, m: usize, k: usize)
     requires { ⌜ Sorts (now w) n m k ⌝ }
     ensures { λ _. ⌜ Sorted (now (w .entry)) (now (w .exit)) n m k ⌝ }
 {
-    let base = 9 * n;
+    let base = layout::ORDER * n;
     memory::words::number(w, base, m);
     labels_of(w, n, n, m, base + m + m);
-    labels_of(w, n, 5 * n, m, base + m + m + m);
+    labels_of(w, n, layout::SEEN * n, m, base + m + m + m);
     memory::sort::sort2(w, base, m, m, k);
 }
 
@@ -242,9 +243,9 @@ pub fn pair_at(w: &[u32], vel: &[f32], n: usize, m: usize, i: usize) -> Raw
     requires { ⌜ i < m ⌝ }
     ensures { λ r. ⌜ pairIs r ≡ pairAt (now (w .entry)) (now (vel .entry)) n i ⌝ }
 {
-    let x = w[9 * n + i] as usize;
+    let x = w[layout::ORDER * n + i] as usize;
     let g = w[n + x] as usize;
-    let h = w[5 * n + x] as usize;
+    let h = w[layout::SEEN * n + x] as usize;
     Raw {
         one: w[g],
         two: w[h],
@@ -303,8 +304,8 @@ pub fn put_edge(
     ensures { λ _. ⌜ now (d .exit) ≡ set (now (d .entry)) e (difference «two_nyquist» s) ⌝ }
 {
     w[t + e] = s.count;
-    w[t + 3 * c + e] = s.one;
-    w[t + 4 * c + e] = s.two;
+    w[t + layout::FIRST * c + e] = s.one;
+    w[t + layout::SECOND * c + e] = s.two;
     d[e] = difference(s, two_nyquist);
 }
 
@@ -387,9 +388,9 @@ fn labels_at(w: &[u32], n: usize, m: usize, i: usize) -> Labels
     requires { ⌜ i < m ⌝ }
     ensures { λ r. ⌜ LabelsAt (now (w .entry)) n i r ⌝ }
 {
-    let x = w[9 * n + i] as usize;
+    let x = w[layout::ORDER * n + i] as usize;
     let g = w[n + x] as usize;
-    let h = w[5 * n + x] as usize;
+    let h = w[layout::SEEN * n + x] as usize;
     Labels {
         one: w[g],
         two: w[h],

@@ -1,5 +1,6 @@
 // One merge of the network, over lent words and lent differences. Layout, of the crate memory, says where each table lies, specs/Steps.antt
 // what each function does to the tables.
+use memory::layout;
 ghost use mathlib.Core.Path.{_≡_};
 ghost use mathlib.Core.Bool.{Bool};
 ghost use Prim.Native.Nat.{_+_, _*_, _-_, _/_, _≤_, _<_};
@@ -11,6 +12,9 @@ ghost use Rattle.merge.specs.Inside.Tables.{Tables, view, HoldsTables, S
 ghost use Rattle.merge.specs.Inside.Table.{stamp, rlen};
 ghost use Rattle.merge.specs.Inside.Steps.{unbias, spent, passed, kept, dropAt, pruned, faceAt, joinsAt, seekAll, mate, absorbAt, attachAt, joinEdge, shift, movedEdge, takeEdge, movedAll, walkRaise, splice, grow, handed, merged};
 ghost use Rattle.merge.specs.Inside.Leaves.{LeavesTables, Raised, Passes, Slots, OtherEdge, Joins, Gains, Fit};
+
+// layout::ZERO, for a signed number.
+const ZERO_I64: i64 = 1000;
 
 // The f32 that an f64 is.
 fn single(x: f64) -> f32
@@ -39,7 +43,7 @@ fn scaled(w: u32, g: u32) -> f64
     requires { ⌜ g ≤ 2000 ⌝ }
     ensures { λ r. ⌜ r ≡ scale w (unbias g) ⌝ }
 {
-    let k = (g as i64) - 1000;
+    let k = (g as i64) - ZERO_I64;
     let p = (w as i64) * k;
     let y = arithmetic::whole::nearest_i64_to_f32(p);
     std::num::f32_to_f64_with_nan(y)
@@ -51,7 +55,7 @@ fn shift_up(d: f64, w: u32, g: u32) -> f64
     requires { ⌜ g ≤ 2000 ⌝ }
     ensures { λ r. ⌜ r ≡ shift Bool.false g w d ⌝ }
 {
-    if g == 1000 {
+    if g == layout::ZERO {
         return d;
     }
     let gain = scaled(w, g);
@@ -63,7 +67,7 @@ fn shift_down(d: f64, w: u32, g: u32) -> f64
     requires { ⌜ g ≤ 2000 ⌝ }
     ensures { λ r. ⌜ r ≡ shift Bool.true g w d ⌝ }
 {
-    if g == 1000 {
+    if g == layout::ZERO {
         return d;
     }
     let k = scaled(w, g);
@@ -77,15 +81,15 @@ fn face(w: &mut [u32], d: &mut [f64], m: usize, n: usize, f: usize)
     requires { ⌜ f < m ⌝ }
     ensures { λ _. ⌜ LeavesTables m n (now (w .exit)) (now (d .exit)) (faceAt (view m n (now (w .entry)) (now (d .entry))) f) ⌝ }
 {
-    let x = w[3 * m + f];
-    let y = w[4 * m + f];
-    let p = w[7 * m + 2 * n + x as usize];
-    let q = w[7 * m + 2 * n + y as usize];
+    let x = w[layout::FIRST * m + f];
+    let y = w[layout::SECOND * m + f];
+    let p = w[layout::NODES * m + layout::STAMPS * n + x as usize];
+    let q = w[layout::NODES * m + layout::STAMPS * n + y as usize];
     if q <= p {
         return;
     }
-    w[3 * m + f] = y;
-    w[4 * m + f] = x;
+    w[layout::FIRST * m + f] = y;
+    w[layout::SECOND * m + f] = x;
     let z = d[f];
     d[f] = -z;
 }
@@ -108,11 +112,11 @@ fn drop_slot(w: &mut [u32], d: &mut [f64], m: usize, n: usize, b: u32, p: u32, x
     requires { ⌜ Slots m n b p x (view m n (now w) (now d)) ⌝ }
     ensures { λ _. ⌜ LeavesTables m n (now (w .exit)) (now (d .exit)) (dropAt b (view m n (now (w .entry)) (now (d .entry))) p x) ⌝ }
 {
-    let t = w[5 * m + x as usize];
-    let l = w[7 * m + 4 * n + b as usize];
-    w[5 * m + p as usize] = t;
-    w[5 * m + x as usize] = x;
-    w[7 * m + 4 * n + b as usize] = l - 1;
+    let t = w[layout::SLOTS * m + x as usize];
+    let l = w[layout::NODES * m + layout::SLOT_LENGTHS * n + b as usize];
+    w[layout::SLOTS * m + p as usize] = t;
+    w[layout::SLOTS * m + x as usize] = x;
+    w[layout::NODES * m + layout::SLOT_LENGTHS * n + b as usize] = l - 1;
 }
 
 // Slot x of node b's chain is dropped where it is spent; the last slot kept is returned.
@@ -136,12 +140,12 @@ fn prune(w: &mut [u32], d: &mut [f64], m: usize, n: usize, b: u32)
     requires { ⌜ b < n ⌝ }
     ensures { λ _. ⌜ LeavesTables m n (now (w .exit)) (now (d .exit)) (pruned m b (view m n (now (w .entry)) (now (d .entry)))) ⌝ }
 {
-    let l = w[7 * m + 4 * n + b as usize] as usize;
+    let l = w[layout::NODES * m + layout::SLOT_LENGTHS * n + b as usize] as usize;
     let mut p = (2 * m + b as usize) as u32;
-    let mut x = w[5 * m + (2 * m + b as usize)];
+    let mut x = w[layout::SLOTS * m + (2 * m + b as usize)];
     let mut i = 1;
     while i < l {
-        let t = w[5 * m + x as usize];
+        let t = w[layout::SLOTS * m + x as usize];
         p = pass_slot(w, d, m, n, b, p, x);
         x = t;
         i += 1;
@@ -159,8 +163,8 @@ fn joins(w: &[u32], d: &[f64], m: usize, n: usize, b: u32, c: u32, f: usize) -> 
     if w[f] == 0 {
         return false;
     }
-    let x = w[3 * m + f];
-    let y = w[4 * m + f];
+    let x = w[layout::FIRST * m + f];
+    let y = w[layout::SECOND * m + f];
     if x == b {
         return y == c;
     }
@@ -177,8 +181,8 @@ fn seek(w: &[u32], d: &[f64], m: usize, n: usize, b: u32, c: u32, h: u32) -> usi
     requires { ⌜ h < n ⌝ }
     ensures { λ r. ⌜ r ≡ seekAll m b c (view m n (now (w .entry)) (now (d .entry))) h ⌝ }
 {
-    let l = w[7 * m + 4 * n + h as usize];
-    let mut x = w[5 * m + (2 * m + h as usize)];
+    let l = w[layout::NODES * m + layout::SLOT_LENGTHS * n + h as usize];
+    let mut x = w[layout::SLOTS * m + (2 * m + h as usize)];
     let mut i = 1;
     while i < l {
         let f = (x / 2) as usize;
@@ -186,7 +190,7 @@ fn seek(w: &[u32], d: &[f64], m: usize, n: usize, b: u32, c: u32, h: u32) -> usi
         if hit {
             return f;
         }
-        x = w[5 * m + x as usize];
+        x = w[layout::SLOTS * m + x as usize];
         i += 1;
     }
     m
@@ -199,8 +203,8 @@ fn mate(w: &[u32], d: &[f64], m: usize, n: usize, b: u32, c: u32) -> usize
     requires { ⌜ (b < n) × (c < n) ⌝ }
     ensures { λ r. ⌜ r ≡ mate m b (view m n (now (w .entry)) (now (d .entry))) c ⌝ }
 {
-    let p = w[7 * m + 4 * n + b as usize];
-    let q = w[7 * m + 4 * n + c as usize];
+    let p = w[layout::NODES * m + layout::SLOT_LENGTHS * n + b as usize];
+    let q = w[layout::NODES * m + layout::SLOT_LENGTHS * n + c as usize];
     if p < q {
         return seek(w, d, m, n, b, c, b);
     }
@@ -229,8 +233,8 @@ fn attach(w: &mut [u32], d: &mut [f64], m: usize, n: usize, b: u32, f: usize, c:
     requires { ⌜ f < m ⌝ }
     ensures { λ _. ⌜ LeavesTables m n (now (w .exit)) (now (d .exit)) (attachAt b (view m n (now (w .entry)) (now (d .entry))) f c x) ⌝ }
 {
-    w[3 * m + f] = b;
-    w[4 * m + f] = c;
+    w[layout::FIRST * m + f] = b;
+    w[layout::SECOND * m + f] = c;
     d[f] = x;
 }
 
@@ -263,8 +267,8 @@ fn moved_edge(w: &mut [u32], d: &mut [f64], m: usize, n: usize, b: u32, v: u32, 
     if t == 0 {
         return;
     }
-    let x = w[3 * m + f];
-    let y = w[4 * m + f];
+    let x = w[layout::FIRST * m + f];
+    let y = w[layout::SECOND * m + f];
     let z = d[f];
     if x == v {
         let up = shift_up(z, t, g);
@@ -299,11 +303,11 @@ fn walk_moved(w: &mut [u32], d: &mut [f64], m: usize, n: usize, b: u32, v: u32, 
     requires { ⌜ Gains n b v g ⌝ }
     ensures { λ _. ⌜ LeavesTables m n (now (w .exit)) (now (d .exit)) (movedAll m b v g (view m n (now (w .entry)) (now (d .entry)))) ⌝ }
 {
-    let l = w[7 * m + 4 * n + v as usize] as usize;
-    let mut x = w[5 * m + (2 * m + v as usize)];
+    let l = w[layout::NODES * m + layout::SLOT_LENGTHS * n + v as usize] as usize;
+    let mut x = w[layout::SLOTS * m + (2 * m + v as usize)];
     let mut i = 1;
     while i < l {
-        let t = w[5 * m + x as usize];
+        let t = w[layout::SLOTS * m + x as usize];
         take_edge(w, d, m, n, b, v, g, (x / 2) as usize);
         x = t;
         i += 1;
@@ -317,19 +321,19 @@ fn walk_raise(w: &mut [u32], d: &mut [f64], m: usize, n: usize, v: u32, g: u32) 
     requires { ⌜ (v < n) × (g ≤ 2000) ⌝ }
     ensures { λ r. ⌜ Raised m n (now (w .exit)) (now (d .exit)) (walkRaise (getD (view m n (now (w .entry)) (now (d .entry)) .at rlen) v 0) g (view m n (now (w .entry)) (now (d .entry))) v) r ⌝ }
 {
-    let l = w[7 * m + 5 * n + v as usize];
+    let l = w[layout::NODES * m + layout::REGION_LENGTHS * n + v as usize];
     let mut x = v;
     let mut i = 0;
     while i < l {
-        let t = w[7 * m + 6 * n + x as usize] + g;
-        if t < 1000 {
+        let t = w[layout::NODES * m + layout::COUNTS * n + x as usize] + g;
+        if t < layout::ZERO {
             return false;
         }
         if t > 3000 {
             return false;
         }
-        w[7 * m + 6 * n + x as usize] = t - 1000;
-        x = w[7 * m + n + x as usize];
+        w[layout::NODES * m + layout::COUNTS * n + x as usize] = t - layout::ZERO;
+        x = w[layout::NODES * m + n + x as usize];
         i += 1;
     }
     true
@@ -341,14 +345,14 @@ fn splice(w: &mut [u32], d: &mut [f64], m: usize, n: usize, b: u32, v: u32)
     requires { ⌜ (b < n) × (v < n) ⌝ }
     ensures { λ _. ⌜ LeavesTables m n (now (w .exit)) (now (d .exit)) (splice m b v (view m n (now (w .entry)) (now (d .entry)))) ⌝ }
 {
-    let eb = w[5 * m + (2 * m + b as usize)];
-    let ev = w[5 * m + (2 * m + v as usize)];
-    let rb = w[7 * m + n + b as usize];
-    let rv = w[7 * m + n + v as usize];
-    w[5 * m + (2 * m + b as usize)] = ev;
-    w[5 * m + (2 * m + v as usize)] = eb;
-    w[7 * m + n + b as usize] = rv;
-    w[7 * m + n + v as usize] = rb;
+    let eb = w[layout::SLOTS * m + (2 * m + b as usize)];
+    let ev = w[layout::SLOTS * m + (2 * m + v as usize)];
+    let rb = w[layout::NODES * m + n + b as usize];
+    let rv = w[layout::NODES * m + n + v as usize];
+    w[layout::SLOTS * m + (2 * m + b as usize)] = ev;
+    w[layout::SLOTS * m + (2 * m + v as usize)] = eb;
+    w[layout::NODES * m + n + b as usize] = rv;
+    w[layout::NODES * m + n + v as usize] = rb;
 }
 
 // The base's size and the lengths of its chains grow by v's.
@@ -357,12 +361,15 @@ fn grow(w: &mut [u32], d: &mut [f64], m: usize, n: usize, b: u32, v: u32)
     requires { ⌜ Fit n b v (view m n (now w) (now d)) ⌝ }
     ensures { λ _. ⌜ LeavesTables m n (now (w .exit)) (now (d .exit)) (grow b v (view m n (now (w .entry)) (now (d .entry)))) ⌝ }
 {
-    let s = w[7 * m + 3 * n + b as usize] + w[7 * m + 3 * n + v as usize];
-    let e = w[7 * m + 4 * n + b as usize] + w[7 * m + 4 * n + v as usize];
-    let r = w[7 * m + 5 * n + b as usize] + w[7 * m + 5 * n + v as usize];
-    w[7 * m + 3 * n + b as usize] = s;
-    w[7 * m + 4 * n + b as usize] = e;
-    w[7 * m + 5 * n + b as usize] = r;
+    let s = w[layout::NODES * m + layout::SIZES * n + b as usize]
+        + w[layout::NODES * m + layout::SIZES * n + v as usize];
+    let e = w[layout::NODES * m + layout::SLOT_LENGTHS * n + b as usize]
+        + w[layout::NODES * m + layout::SLOT_LENGTHS * n + v as usize];
+    let r = w[layout::NODES * m + layout::REGION_LENGTHS * n + b as usize]
+        + w[layout::NODES * m + layout::REGION_LENGTHS * n + v as usize];
+    w[layout::NODES * m + layout::SIZES * n + b as usize] = s;
+    w[layout::NODES * m + layout::SLOT_LENGTHS * n + b as usize] = e;
+    w[layout::NODES * m + layout::REGION_LENGTHS * n + b as usize] = r;
 }
 
 // Node b is the base of merge number k.
@@ -371,7 +378,7 @@ fn stamp(w: &mut [u32], d: &mut [f64], m: usize, n: usize, b: u32, k: u32)
     requires { ⌜ b < n ⌝ }
     ensures { λ _. ⌜ LeavesTables m n (now (w .exit)) (now (d .exit)) (store stamp (view m n (now (w .entry)) (now (d .entry))) b k) ⌝ }
 {
-    w[7 * m + 2 * n + b as usize] = k;
+    w[layout::NODES * m + layout::STAMPS * n + b as usize] = k;
 }
 
 // v's edges and regions go to b, the spent slots of its chain dropped before.

@@ -1,4 +1,5 @@
 // Finding: from a sweep's limits to its merged regions. Labels, sizes and counts are left in the work memory; nothing else is written.
+use memory::layout;
 ghost use mathlib.Core.Path.{_≡_};
 ghost use Prim.Native.Nat.{_+_, _≤_};
 ghost use lib.ListN.{length, replicate};
@@ -56,7 +57,7 @@ fn label_in(
     ensures { λ r. ⌜ Labelled (regionsBy o p (now (velocity .entry)) (now (valid .entry))) (length (now (velocity .entry))) r (now (work .exit)) ⌝ }
 {
     let m = limits(o, p, out);
-    let end = 3 * velocity.len() + 64;
+    let end = 3 * velocity.len() + layout::WORDS_MORE;
     labels::regions::find_regions(o.gates, velocity, valid, &out[0..m], &mut work[0..end])
 }
 
@@ -85,7 +86,7 @@ fn leave_alone(w: &mut [u32], n: usize, k: usize)
 {
     let nodes = k + 1;
     crate::sizes::count_sizes(w, n, n, nodes);
-    memory::words::fill(w, n + nodes, nodes, 1000);
+    memory::words::fill(w, n + nodes, nodes, layout::ZERO);
 }
 
 // The regions of a sweep by the limits of a plan, merged: labels, sizes and counts lie in the words afterwards.

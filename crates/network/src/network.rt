@@ -1,4 +1,5 @@
 // network.rs: choosing the heaviest edge and the run of merges to its end, over lent words and lent differences.
+use memory::layout;
 ghost use mathlib.Core.Path.{_≡_};
 ghost use Prim.Native.Nat.{_+_, _*_, _-_, _/_, _<_, _^_};
 ghost use Rattle.arithmetic.specs.Rounding.{roundEven};
@@ -41,11 +42,11 @@ pub fn pop_edge(w: &[u32], d: &[f64], m: usize, n: usize) -> Popped
     if t == 0 {
         return Popped::Nothing;
     }
-    let x = w[3 * m + e as usize];
-    let y = w[4 * m + e as usize];
+    let x = w[layout::FIRST * m + e as usize];
+    let y = w[layout::SECOND * m + e as usize];
     let z = d[e as usize];
-    let i = w[7 * m + 2 * n + x as usize];
-    let j = w[7 * m + 2 * n + y as usize];
+    let i = w[layout::NODES * m + layout::STAMPS * n + x as usize];
+    let j = w[layout::NODES * m + layout::STAMPS * n + y as usize];
     if i < j {
         let back = -z / (t as f64);
         return Popped::Edge(PoppedEdge {
@@ -71,14 +72,14 @@ fn number(q: f64) -> u32
     match arithmetic::rounding::round_even(q) {
         arithmetic::rounding::Rounded::Whole(k) => {
             if k > 1000 {
-                return 2001;
+                return layout::BEYOND;
             }
             if k < -1000 {
-                return 2001;
+                return layout::BEYOND;
             }
             (k + 1000) as u32
         }
-        arithmetic::rounding::Rounded::Outside => 2001,
+        arithmetic::rounding::Rounded::Outside => layout::BEYOND,
     }
 }
 
@@ -109,8 +110,8 @@ fn choose_base(
     ensures { λ r. ⌜ AnyPick m n k (view m n (now (w .entry)) (now (d .entry))) e (now (w .exit)) (now (d .exit)) r ⌝ }
 {
     let i = (k + 1) as u32;
-    let sp = w[7 * m + 3 * n + p as usize];
-    let sq = w[7 * m + 3 * n + q as usize];
+    let sp = w[layout::NODES * m + layout::SIZES * n + p as usize];
+    let sq = w[layout::NODES * m + layout::SIZES * n + q as usize];
     if sp > sq {
         let ok = merge::merge::merge(w, d, m, n, e, p, q, g, i);
         if ok {
@@ -118,7 +119,7 @@ fn choose_base(
         }
         return Turned::Refused;
     }
-    let yes = merge::merge::merge(w, d, m, n, e, q, p, 2000 - g, i);
+    let yes = merge::merge::merge(w, d, m, n, e, q, p, layout::MOST - g, i);
     if yes {
         return Turned::Merged;
     }
@@ -137,7 +138,7 @@ fn turn(w: &mut [u32], d: &mut [f64], m: usize, n: usize, k: usize) -> Turned
         return Turned::Ended;
     };
     let g = number(q.diff);
-    if g > 2000 {
+    if g > layout::MOST {
         return Turned::Refused;
     }
     let e = q.edge_number as usize;
@@ -179,11 +180,11 @@ fn fill_regions(w: &mut [u32], d: &mut [f64], m: usize, n: usize)
 {
     let mut x = 0;
     while x < n {
-        w[7 * m + n + x] = x as u32;
-        w[7 * m + 5 * n + x] = 1;
-        w[7 * m + 4 * n + x] = 1;
-        w[7 * m + 6 * n + x] = 1000;
-        w[7 * m + 2 * n + x] = 0;
+        w[layout::NODES * m + n + x] = x as u32;
+        w[layout::NODES * m + layout::REGION_LENGTHS * n + x] = 1;
+        w[layout::NODES * m + layout::SLOT_LENGTHS * n + x] = 1;
+        w[layout::NODES * m + layout::COUNTS * n + x] = layout::ZERO;
+        w[layout::NODES * m + layout::STAMPS * n + x] = 0;
         x += 1;
     }
 }
@@ -195,12 +196,12 @@ fn link(w: &mut [u32], d: &mut [f64], m: usize, n: usize, a: u32, i: usize)
     requires { ⌜ getD (view m n (now w) (now d) .at elen) a 0 + 1 < 2 ^ 32 ⌝ }
     ensures { λ _. ⌜ LeavesTables m n (now (w .exit)) (now (d .exit)) (linkAt m a i (view m n (now (w .entry)) (now (d .entry)))) ⌝ }
 {
-    let h = w[5 * m + (2 * m + a as usize)];
-    let t = w[5 * m + i];
-    let l = w[7 * m + 4 * n + a as usize];
-    w[5 * m + (2 * m + a as usize)] = t;
-    w[5 * m + i] = h;
-    w[7 * m + 4 * n + a as usize] = l + 1;
+    let h = w[layout::SLOTS * m + (2 * m + a as usize)];
+    let t = w[layout::SLOTS * m + i];
+    let l = w[layout::NODES * m + layout::SLOT_LENGTHS * n + a as usize];
+    w[layout::SLOTS * m + (2 * m + a as usize)] = t;
+    w[layout::SLOTS * m + i] = h;
+    w[layout::NODES * m + layout::SLOT_LENGTHS * n + a as usize] = l + 1;
 }
 
 // Both slots of each edge go into the circles of its ends.
@@ -211,8 +212,8 @@ fn link_all(w: &mut [u32], d: &mut [f64], m: usize, n: usize)
 {
     let mut j = 0;
     while j < m {
-        let a = w[3 * m + j];
-        let b = w[4 * m + j];
+        let a = w[layout::FIRST * m + j];
+        let b = w[layout::SECOND * m + j];
         link(w, d, m, n, a, 2 * j);
         link(w, d, m, n, b, 2 * j + 1);
         j += 1;
@@ -226,7 +227,7 @@ pub fn begin(w: &mut [u32], d: &mut [f64], m: usize, n: usize)
     ensures { λ _. ⌜ Begun m n (view m n (now (w .entry)) (now (d .entry))) (now (w .exit)) (now (d .exit)) ⌝ }
 {
     memory::tree::build(w, m);
-    memory::words::number(w, 5 * m, 2 * m + n);
+    memory::words::number(w, layout::SLOTS * m, 2 * m + n);
     fill_regions(w, d, m, n);
     link_all(w, d, m, n);
 }

@@ -1,4 +1,5 @@
 // From labels to the counts of all regions: edges, sizes and all merges, over the layout of the work memory (Layout, of the crate memory).
+use memory::layout;
 ghost use Rattle.lists.specs.Inside.Seg.{seg};
 ghost use Rattle.network.specs.Network.{networkBy};
 ghost use Rattle.network.specs.Inside.Reduce.{Reduces, Reduced};
@@ -16,14 +17,19 @@ pub fn reduce(
     requires { ⌜ Reduces f (now w) (now d) (now vel) n k ⌝ }
     ensures { λ r. ⌜ Reduced (networkBy «two_nyquist» f k (seg (now (w .entry)) 0 n) (now (vel .entry))) n k (now (w .entry)) (now (w .exit)) r ⌝ }
 {
-    let t = 13 * n;
+    let t = layout::TABLES * n;
     let nodes = k + 1;
     let e = edges::edges::find_edges(w, d, vel, f, n, k, t, two_nyquist);
     crate::sizes::count_sizes(w, n, n, nodes);
-    memory::words::copy(w, n, t + 7 * e + 3 * nodes, nodes);
-    let end = t + 7 * e + 7 * nodes;
+    memory::words::copy(w, n, t + layout::NODES * e + layout::SIZES * nodes, nodes);
+    let end = t + layout::NODES * e + layout::NODE_TABLES * nodes;
     let r = crate::network::merge_all(&mut w[t..end], d, e, nodes);
-    memory::words::copy(w, t + 7 * e + 6 * nodes, n + nodes, nodes);
-    w[n + nodes] = 1000;
+    memory::words::copy(
+        w,
+        t + layout::NODES * e + layout::COUNTS * nodes,
+        n + nodes,
+        nodes,
+    );
+    w[n + nodes] = layout::ZERO;
     r
 }

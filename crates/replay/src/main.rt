@@ -5,6 +5,7 @@ mod gates;
 mod lines;
 mod words;
 
+use memory::layout;
 ghost use Prim.Native.Nat.{_≤_};
 ghost use lib.ListN.{length};
 
@@ -13,8 +14,8 @@ fn answer(s: gates::Setting, velocity: &[f32], valid: &[u8])
     requires { ⌜ length (now velocity) ≤ 128 ⌝ }
 {
     let n = velocity.len();
-    let w = 96 * n + 64;
-    let d = 16 * n + 16;
+    let w = layout::WORDS * n + layout::WORDS_MORE;
+    let d = layout::FLOATS * n + layout::FLOATS_MORE;
     let mut counts = arrays::counts();
     let mut pair = [0u32; 2];
     let mut words = arrays::words();

@@ -130,10 +130,12 @@ yes-by : (s : Sweep) (c : List ℤ) (r m : ℕ) → outcome s lent ≡ accepted 
 yes-by s c r m h = record { lent = lent; regions = r; merges = m; yes = h }
 
 pub example-off : Agree echo (folds 0) (smooth 0) folds-counts smooth-counts
-example-off = two-sweeps echo (folds 0) (smooth 0) folds-counts smooth-counts (yes-by (folds 0) folds-counts 5 3 folds-off) (yes-by (smooth 0) smooth-counts 3 1 smooth-off) (alike 0) (folds-apart 0) (smooth-apart 0)
+example-off = two-sweeps echo (folds 0) (smooth 0) folds-counts smooth-counts (yes-by (folds 0) folds-counts 5 3 folds-off) (yes-by (smooth 0) smooth-counts 3 1 smooth-off) (alike 0)
+    (folds-apart 0) (smooth-apart 0)
 
 pub example-on : Agree echo (folds 1) (smooth 1) folds-centred smooth-counts
-example-on = two-sweeps echo (folds 1) (smooth 1) folds-centred smooth-counts (yes-by (folds 1) folds-centred 5 3 folds-on) (yes-by (smooth 1) smooth-counts 3 1 smooth-on) (alike 1) (folds-apart 1) (smooth-apart 1)
+example-on = two-sweeps echo (folds 1) (smooth 1) folds-centred smooth-counts (yes-by (folds 1) folds-centred 5 3 folds-on) (yes-by (smooth 1) smooth-counts 3 1 smooth-on) (alike 1)
+    (folds-apart 1) (smooth-apart 1)
 
 -- ---- a merge list
 

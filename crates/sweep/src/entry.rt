@@ -1,4 +1,5 @@
 // The call of the sweep entry: questions 1 to 8, then the sweep by its own limits.
+use memory::layout;
 ghost use mathlib.Core.Path.{_≡_};
 ghost use mathlib.Core.Option.{none};
 ghost use Prim.Native.Nat.{_≤_};
@@ -49,8 +50,8 @@ fn unfold_sweep(
         ) ⌝ }
 {
     let n = velocity.len();
-    let w = 96 * n + 64;
-    let d = 16 * n + 16;
+    let w = layout::WORDS * n + layout::WORDS_MORE;
+    let d = layout::FLOATS * n + layout::FLOATS_MORE;
     crate::sweep::solve(
         o,
         p,

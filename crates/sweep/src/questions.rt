@@ -1,4 +1,5 @@
 // The questions put to a call, each as a test, and for each entry the number of the first that gets a no. Question 9 is put at each merge.
+use memory::layout;
 ghost use mathlib.Core.Path.{_≡_};
 ghost use mathlib.Core.Bool.{not, _&&_, _||_};
 ghost use Prim.Native.Nat.{_*_, _≤_};
@@ -12,11 +13,32 @@ ghost use Rattle.sweep.specs.Checks.{firstNo, seven, room, atMost, words
 ghost use Rattle.sweep.specs.Entry.{sweepBy, answerOf};
 ghost use Rattle.sweep.specs.Velocity.{counted, askedVelocity};
 
+// The ranges that the questions ask for.
+const MOST_RAYS: u32 = 720;
+
+const MOST_GATES: u32 = 2000;
+
+const LEAST_NYQUIST: f32 = 0.125;
+
+const MOST_NYQUIST: f32 = 1024.0;
+
+const MOST_SPLITS: u32 = 9999;
+
+const MOST_SKIP: u32 = 1000;
+
+const FASTEST: f32 = 16384.0;
+
+const MOST_LIMITS: i64 = 10000;
+
+const LEAST_COUNT: i32 = -2000;
+
+const MOST_COUNT: i32 = 2000;
+
 // Question 1.
 fn size_in_range(rays: u32, gates: u32) -> bool
     ensures { λ r. ⌜ r ≡ sizeInRange rays gates ⌝ }
 {
-    rays <= 720 && gates <= 2000
+    rays <= MOST_RAYS && gates <= MOST_GATES
 }
 
 // The gates that a sweep should have: a product of two u32 fits.
@@ -59,14 +81,15 @@ fn work_suffices(n: usize, words: usize, floats: usize) -> bool
     requires { ⌜ n ≤ 1440000 ⌝ }
     ensures { λ r. ⌜ r ≡ (leb (wordsFor n) words && leb (floatsFor n) floats) ⌝ }
 {
-    96 * n + 64 <= words && 16 * n + 16 <= floats
+    layout::WORDS * n + layout::WORDS_MORE <= words
+        && layout::FLOATS * n + layout::FLOATS_MORE <= floats
 }
 
 // Question 5.
 fn nyquist_in_range(nyquist: f32) -> bool
     ensures { λ r. ⌜ r ≡ nyquistInRange nyquist ⌝ }
 {
-    0.125 <= nyquist && nyquist <= 1024.0
+    LEAST_NYQUIST <= nyquist && nyquist <= MOST_NYQUIST
 }
 
 // Question 6.
@@ -74,15 +97,15 @@ fn options_in_range(splits: u32, skip_rays: u32, skip_gates: u32, centred: u32, 
     ensures { λ r. ⌜ r ≡ (leb 1 splits && leb splits 9999 && leb «skip_rays» 1000 && leb «skip_gates» 1000 && leb centred 1 && leb wrap 1) ⌝ }
 {
     1 <= splits
-        && (splits <= 9999
-            && (skip_rays <= 1000 && (skip_gates <= 1000 && (centred <= 1 && wrap <= 1))))
+        && (splits <= MOST_SPLITS
+            && (skip_rays <= MOST_SKIP && (skip_gates <= MOST_SKIP && (centred <= 1 && wrap <= 1))))
 }
 
 // Whether a velocity is a number from -16,384 to 16,384.
 fn velocity_in_range(v: f32) -> bool
     ensures { λ r. ⌜ r ≡ velocityInRange v ⌝ }
 {
-    -16384.0 <= v && v <= 16384.0
+    -FASTEST <= v && v <= FASTEST
 }
 
 // Question 7. What stands at a masked gate does not matter.
@@ -106,14 +129,14 @@ fn velocities_in_range(velocity: &[f32], valid: &[u8]) -> bool
 pub fn limits_few(p: arithmetic::intervals::Plan) -> bool
     ensures { λ r. ⌜ r ≡ atMost 10000 (p .number) ⌝ }
 {
-    p.number <= 10000
+    p.number <= MOST_LIMITS
 }
 
 // Whether a count is -2,000 to 2,000.
 fn count_in_range(count: i32) -> bool
     ensures { λ r. ⌜ r ≡ bounded 2000 count ⌝ }
 {
-    -2000 <= count && count <= 2000
+    LEAST_COUNT <= count && count <= MOST_COUNT
 }
 
 // Question 10. What stands at a masked gate does not matter.

@@ -17,6 +17,11 @@ ghost use Rattle.sweep.specs.Call.{ending, memoryOf, answerBy};
 ghost use Rattle.sweep.specs.Entry.{sweepBy};
 ghost use Rattle.sweep.specs.Inside.Finish.{offsetBy, countsBy, Finishes, WritesFound, lent, written, allZero};
 
+// Counts are kept with 1,000 added (layout::ZERO): the word of 0, for sums and for signed numbers.
+const ZERO_U64: u64 = 1000;
+
+const ZERO_I32: i32 = 1000;
+
 // The gates of all regions, and their counts, with 1,000 added to each, summed over them.
 pub struct Totals {
     pub gates: u64,
@@ -49,7 +54,7 @@ fn mean(s: Totals) -> i32
     requires { ⌜ (s .gates ≤ 1440000) × (s .held ≤ 2880000000) ⌝ }
     ensures { λ r. ⌜ r ≡ orZero (roundEven (div binary64 (real (subℕ (s .held) (1000 * s .gates))) (real (pos (s .gates))))) ⌝ }
 {
-    let total = (s.held as i64) - ((1000 * s.gates) as i64);
+    let total = (s.held as i64) - ((ZERO_U64 * s.gates) as i64);
     let x = std::num::nearest_i64_to_f64(total) / std::num::nearest_u64_to_f64(s.gates);
     match arithmetic::rounding::round_even(x) {
         arithmetic::rounding::Rounded::Whole(z) => z,
@@ -65,7 +70,7 @@ fn fold_of(m: u8, c: u32, offset: i32) -> i32
     if m != 1 {
         return 0;
     }
-    ((c as i32) - 1000) - offset
+    ((c as i32) - ZERO_I32) - offset
 }
 
 // The counts of all gates: labels are the first n words, counts lie in their table.

@@ -64,7 +64,8 @@ pub record Slot (w : List ℕ) (d : List Float) (n m t c e : ℕ) : Type 0 where
 -- one turn, at pair p: the record goes on, or is written and another begun
 pub record GathersPair (twoNyquist : Float) (t c : ℕ) (p : Pair) (s r : Gathering) (w v : List ℕ) (d b : List Float) : Type 0 where
   pub on : alike (s .«record») p ≡ true → (v ≡ w) × (b ≡ d) × (r .«record» ≡ plus (s .«record») p) × (r .edges ≡ s .edges)
-  pub off : alike (s .«record») p ≡ false → (v ≡ written w t c (s .edges) (s .«record»)) × (b ≡ set d (s .edges) (difference twoNyquist (s .«record»))) × (r .«record» ≡ begun p) × (r .edges ≡ s .edges + 1)
+  pub off : alike (s .«record») p ≡ false → (v ≡ written w t c (s .edges) (s .«record»)) × (b ≡ set d (s .edges) (difference twoNyquist (s .«record»))) × (r .«record» ≡ begun p) × (r .edges
+      ≡ s .edges + 1)
 
 -- what gathering asks: room for all runs
 pub record Gathers (w : List ℕ) (d vel : List Float) (n m t c : ℕ) : Type 0 where

@@ -46,7 +46,10 @@ returns-2 c =
     let p = c .before .before .before .before .before .before .put-edge in
     let p′ = c .before .before .before .before .before .before .before .before .before .before .before .pair-at in
     let s′ = c .before .before .before .before .before .before .before .before .before .before .same-labels in
-    let a = c .before .before .before .before .before .before .before .before .before .before .before .before .before .before .before .before .args in turned-off (a .two-nyquist) (a .t) (a .c) (pairAt (a .w .now) (a .vel .now) (a .n) (a .i)) (a .s) (record { «record» = c .before .begin .result; edges = a .s .edges + 1 }) (p′ .result) (s′ .result) (p′ .ensures) (s′ .ensures) (c .before .before .before .before .before .before .before .before .before .if1 .left) (c .before .begin .ensures) refl (a .w .now) (p .last .0) (a .d .now) (p .last .1 .0) (p .ensures .0) (p .ensures .1)
+    let a = c .before .before .before .before .before .before .before .before .before .before .before .before .before .before .before .before .args in
+    turned-off (a .two-nyquist) (a .t) (a .c) (pairAt (a .w .now) (a .vel .now) (a .n) (a .i)) (a .s) (record { «record» = c .before .begin .result; edges = a .s .edges + 1 })
+    (p′ .result) (s′ .result) (p′ .ensures) (s′ .ensures) (c .before .before .before .before .before .before .before .before .before .if1 .left) (c .before .begin .ensures) refl
+    (a .w .now) (p .last .0) (a .d .now) (p .last .1 .0) (p .ensures .0) (p .ensures .1)
 
 pub gather-one-spec : {M : Type 1} → statement M
 gather-one-spec =

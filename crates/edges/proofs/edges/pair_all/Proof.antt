@@ -31,7 +31,13 @@ loop-less c = search needs
 loop-again : tie.Need-loop-again Inv-loop μ-loop
 loop-again c =
     let p = c .before .before .before .before .before .before .before .pre in
-    let a = c .before .before .before .before .before .before .before .args in let l = c .before .before .before .before .before .loop in (omega arith, scan-most (a .f) (a .n) (a .w .now) (p) (l .w) (c .before .before .pair-gate .last .0) (l .g) (l .c) (c .before .before .pair-gate .result) (l .inv .1) (c .before .before .pair-gate .ensures), scan-on (a .f) (a .n) (a .w .now) (p) (l .w) (c .before .before .pair-gate .last .0) (l .g) (l .c) (c .before .before .pair-gate .result) (l .inv .2) (l .inv .1) (c .before .before .before .before .loop-test .taken) (c .before .before .pair-gate .ensures))
+    let a = c .before .before .before .before .before .before .before .args in let l = c .before .before .before .before .before .loop in (
+      omega arith,
+      scan-most (a .f) (a .n) (a .w .now) (p) (l .w) (c .before .before .pair-gate .last .0) (l .g) (l .c) (c .before .before .pair-gate .result) (l .inv .1)
+          (c .before .before .pair-gate .ensures),
+      scan-on (a .f) (a .n) (a .w .now) (p) (l .w) (c .before .before .pair-gate .last .0) (l .g) (l .c) (c .before .before .pair-gate .result)
+          (l .inv .2) (l .inv .1) (c .before .before .before .before .loop-test .taken) (c .before .before .pair-gate .ensures),
+    )
 
 same-length : tie.Need-same-length Inv-loop μ-loop
 same-length c = let a = c .before .before .before .args in let l = c .before .loop in adds-length (a .n) (a .w .now) (l .w) 0 (l .c) (each (gatePairsAt (a .f) (seg (a .w .now) 0 (a .n))) (upto (l .g) 0)) (l .inv .2)

@@ -87,7 +87,10 @@ returns : tie.Need-returns
 returns c =
     let p = c .before .before .before .before .before .before .before .before .before .before .before .pre in
     let f = c .before .before .f32-to-f64-with-nan in
-    let a = c .before .before .before .before .before .before .before .before .before .before .before .args in is-pair (a .w .now) (a .vel .now) (a .n) (a .m) (a .i) (p .0) (p .1) (getD (a .w .now) (getD (a .w .now) (a .n + getD (a .w .now) (9 * a .n + a .i) 0) 0) 0) (getD (a .w .now) (getD (a .w .now) (5 * a .n + getD (a .w .now) (9 * a .n + a .i) 0) 0) 0) (f .result) (c .f32-to-f64-with-nan2 .result) refl refl (f .ensures) (c .f32-to-f64-with-nan2 .ensures)
+    let a = c .before .before .before .before .before .before .before .before .before .before .before .args in
+    is-pair (a .w .now) (a .vel .now) (a .n) (a .m) (a .i) (p .0) (p .1) (getD (a .w .now) (getD (a .w .now) (a .n + getD (a .w .now) (9 * a .n + a .i) 0) 0) 0)
+    (getD (a .w .now) (getD (a .w .now) (5 * a .n + getD (a .w .now) (9 * a .n + a .i) 0) 0) 0) (f .result) (c .f32-to-f64-with-nan2 .result) refl refl (f .ensures)
+    (c .f32-to-f64-with-nan2 .ensures)
 
 pub pair-at-spec : {M : Type 1} → statement M
 pair-at-spec =

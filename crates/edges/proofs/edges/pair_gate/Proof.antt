@@ -28,14 +28,22 @@ pair-one-requires-3 : tie.Need-pair-one-requires-3
 pair-one-requires-3 c κs =
     let p = c .before .before .before .pair-one2 in
     let p′ = c .before .before .before .before .before .before .before .pair-one in
-    let a = c .before .before .before .before .before .before .before .before .before .before .before .before .args in place-less (a .f) (a .n) (p .last .0) (a .g) (p .result) 2 1 (place-on (a .f) (a .n) (p′ .last .0) (p .last .0) (a .g) (p′ .result) (p .result) 2 Right (place-on (a .f) (a .n) (a .w .now) (p′ .last .0) (a .g) (a .c) (p′ .result) 3 Left (c .before .before .before .before .before .before .before .before .before .before .before .before .pre) (p′ .ensures)) (p .ensures)) (omega arith)
+    let a = c .before .before .before .before .before .before .before .before .before .before .before .before .args in
+    place-less (a .f) (a .n) (p .last .0) (a .g) (p .result) 2 1
+    (place-on (a .f) (a .n) (p′ .last .0) (p .last .0) (a .g) (p′ .result) (p .result) 2 Right
+    (place-on (a .f) (a .n) (a .w .now) (p′ .last .0) (a .g) (a .c) (p′ .result) 3 Left
+    (c .before .before .before .before .before .before .before .before .before .before .before .before .pre) (p′ .ensures)) (p .ensures)) (omega arith)
 
 pair-one-requires-4 : tie.Need-pair-one-requires-4
 pair-one-requires-4 c κs =
     let p = c .before .before .before .before .before .before .before .pair-one2 in
     let p′ = c .before .before .before .before .before .before .before .before .before .before .before .pair-one in
     let p″ = c .before .before .before .pair-one3 in
-    let a = c .before .before .before .before .before .before .before .before .before .before .before .before .before .before .before .before .args in place-on (a .f) (a .n) (p .last .0) (p″ .last .0) (a .g) (p .result) (p″ .result) 1 Top (place-on (a .f) (a .n) (p′ .last .0) (p .last .0) (a .g) (p′ .result) (p .result) 2 Right (place-on (a .f) (a .n) (a .w .now) (p′ .last .0) (a .g) (a .c) (p′ .result) 3 Left (c .before .before .before .before .before .before .before .before .before .before .before .before .before .before .before .before .pre) (p′ .ensures)) (p .ensures)) (p″ .ensures)
+    let a = c .before .before .before .before .before .before .before .before .before .before .before .before .before .before .before .before .args in
+    place-on (a .f) (a .n) (p .last .0) (p″ .last .0) (a .g) (p .result) (p″ .result) 1 Top
+    (place-on (a .f) (a .n) (p′ .last .0) (p .last .0) (a .g) (p′ .result) (p .result) 2 Right
+    (place-on (a .f) (a .n) (a .w .now) (p′ .last .0) (a .g) (a .c) (p′ .result) 3 Left
+    (c .before .before .before .before .before .before .before .before .before .before .before .before .before .before .before .before .pre) (p′ .ensures)) (p .ensures)) (p″ .ensures)
 
 same-length : tie.Need-same-length
 same-length c = search needs
@@ -45,7 +53,9 @@ returns-2 c =
     let p = c .before .before .before .before .before .before .before .before .before .before .before .before .before .before .pair-one in
     let p′ = c .before .before .before .before .before .before .before .before .before .before .pair-one2 in
     let p″ = c .before .before .before .before .before .before .pair-one3 in
-    let a = c .before .before .before .before .before .before .before .before .before .before .before .before .before .before .before .before .before .before .before .args in four (a .f) (a .n) (a .g) (a .w .now) (p .last .0) (p′ .last .0) (p″ .last .0) (c .before .before .pair-one4 .last .0) (a .c) (p .result) (p′ .result) (p″ .result) (c .before .before .pair-one4 .result) (c .before .before .before .before .before .before .before .before .before .before .before .before .before .before .before .before .before .before .before .pre) (c .before .before .before .before .before .before .before .before .before .before .before .before .before .before .before .before .if1 .left) (p .ensures) (p′ .ensures) (p″ .ensures) (c .before .before .pair-one4 .ensures)
+    let a = c .before .before .before .before .before .before .before .before .before .before .before .before .before .before .before .before .before .before .before .args in
+    four (a .f) (a .n) (a .g) (a .w .now) (p .last .0) (p′ .last .0) (p″ .last .0) (c .before .before .pair-one4 .last .0) (a .c) (p .result) (p′ .result) (p″ .result)
+    (c .before .before .pair-one4 .result) (c .before .before .before .before .before .before .before .before .before .before .before .before .before .before .before .before .before .before .before .pre) (c .before .before .before .before .before .before .before .before .before .before .before .before .before .before .before .before .if1 .left) (p .ensures) (p′ .ensures) (p″ .ensures) (c .before .before .pair-one4 .ensures)
 
 pub pair-gate-spec : {M : Type 1} → statement M
 pair-gate-spec =

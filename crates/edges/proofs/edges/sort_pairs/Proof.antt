@@ -53,7 +53,8 @@ returns c =
     let n′ = c .before .before .before .before .before .before .before .before .before .before .before .before .before .before .number in
     let l = c .before .before .before .before .before .before .before .before .before .before .labels-of in
     let l′ = c .before .before .before .before .before .before .labels-of2 in
-    let a = c .before .before .before .before .before .before .before .before .before .before .before .before .before .before .before .before .before .args in sort-done (a .w .now) (a .n) (a .m) (a .k) (c .before .before .before .before .before .before .before .before .before .before .before .before .before .before .before .before .before .pre) (n′ .last .0) (n′ .ensures) (l .last .0) (l .ensures) (l′ .last .0) (l′ .ensures) (c .before .before .sort2 .last .0) (c .before .before .sort2 .ensures .0) (c .before .before .sort2 .ensures .1)
+    let a = c .before .before .before .before .before .before .before .before .before .before .before .before .before .before .before .before .before .args in
+    sort-done (a .w .now) (a .n) (a .m) (a .k) (c .before .before .before .before .before .before .before .before .before .before .before .before .before .before .before .before .before .pre) (n′ .last .0) (n′ .ensures) (l .last .0) (l .ensures) (l′ .last .0) (l′ .ensures) (c .before .before .sort2 .last .0) (c .before .before .sort2 .ensures .0) (c .before .before .sort2 .ensures .1)
 
 pub sort-pairs-spec : {M : Type 1} → statement M
 sort-pairs-spec =

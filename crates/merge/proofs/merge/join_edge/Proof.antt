@@ -15,7 +15,11 @@ face-requires c κs = let p = c .before .before .before .before .before .before 
 absorb-requires : tie.Need-absorb-requires
 absorb-requires c κs =
     let i = c .before .before .before .before .before .before .before .before .before .if1 in
-    let a = c .before .before .before .before .before .before .before .before .before .before .before .before .before .before .before .args in let p = c .before .before .before .before .before .before .before .before .before .before .before .before .before .before .before .pre in let y = c .before .before .before .before .before .before .before .before .before .before .mate in let z = c .before .before .before .before .before .before .face in let u = face-room (a .m) (a .n) (a .w .now) (a .d .now) (y .result) (z .last .0) (z .last .1 .0) (p .0) (p .1 .0) (i .taken) (z .kept .0) (z .kept .1 .0) (z .ensures) in (u .0, (u .1, (join-apart (a .m) (a .n) (a .b) (view (a .m) (a .n) (a .w .now) (a .d .now)) (a .f) (a .c) (y .result) (p .1 .1 .0) (y .ensures) (i .taken), p .1 .1 .1)))
+    let a = c .before .before .before .before .before .before .before .before .before .before .before .before .before .before .before .args in
+    let p = c .before .before .before .before .before .before .before .before .before .before .before .before .before .before .before .pre in
+    let y = c .before .before .before .before .before .before .before .before .before .before .mate in let z = c .before .before .before .before .before .before .face in
+    let u = face-room (a .m) (a .n) (a .w .now) (a .d .now) (y .result) (z .last .0) (z .last .1 .0) (p .0) (p .1 .0) (i .taken) (z .kept .0) (z .kept .1 .0) (z .ensures) in
+    (u .0, (u .1, (join-apart (a .m) (a .n) (a .b) (view (a .m) (a .n) (a .w .now) (a .d .now)) (a .f) (a .c) (y .result) (p .1 .1 .0) (y .ensures) (i .taken), p .1 .1 .1)))
 
 same-length : tie.Need-same-length
 same-length c = search needs
@@ -24,7 +28,12 @@ same-length-2 : tie.Need-same-length-2
 same-length-2 c = search needs
 
 returns : tie.Need-returns
-returns c = let a = c .before .before .before .before .before .before .before .before .before .before .before .before .before .before .before .before .before .before .before .before .args in let y = c .before .before .before .before .before .before .before .before .before .before .before .before .before .before .before .mate in let z = c .before .before .before .before .before .before .before .before .before .before .before .face in join-faced (a .m) (a .n) (a .b) (a .w .now) (a .d .now) (a .f) (a .c) (y .result) (a .x) (z .last .0) (z .last .1 .0) _ _ (y .ensures) (c .before .before .before .before .before .before .before .before .before .before .before .before .before .before .if1 .taken) (z .ensures) (c .before .before .before .before .absorb .ensures)
+returns c = let a = c .before .before .before .before .before .before .before .before .before .before .before .before .before .before .before .before .before .before .before .before .args in
+    let y = c .before .before .before .before .before .before .before .before .before .before .before .before .before .before .before .mate in
+    let z = c .before .before .before .before .before .before .before .before .before .before .before .face in
+    join-faced (a .m) (a .n) (a .b) (a .w .now) (a .d .now) (a .f) (a .c) (y .result) (a .x) (z .last .0) (z .last .1 .0) _ _ (y .ensures)
+    (c .before .before .before .before .before .before .before .before .before .before .before .before .before .before .if1 .taken) (z .ensures)
+    (c .before .before .before .before .absorb .ensures)
 
 attach-requires : tie.Need-attach-requires
 attach-requires c κs = let p = c .before .before .before .before .before .before .before .before .pre in (p .0, p .1 .1 .0 .f-in)

@@ -10,10 +10,16 @@ weigh-requires : tie.Need-weigh-requires
 weigh-requires c κs = search needs
 
 stamp-requires : tie.Need-stamp-requires
-stamp-requires c κs = let a = c .before .before .before .before .before .before .before .before .args in let p = c .before .before .before .before .before .before .before .before .pre in let y = c .before .before .before .before .weigh in merge-stamp (a .m) (a .n) (a .b) (a .v) (a .g) (a .k) (a .e) (a .w .now) (a .d .now) (p .0) (p .1 .0) (p .1 .1 .0) (p .1 .1 .1 .0) (p .1 .1 .1 .1) (y .last .0) (y .ensures)
+stamp-requires c κs = let a = c .before .before .before .before .before .before .before .before .args in let p = c .before .before .before .before .before .before .before .before .pre in
+    let y = c .before .before .before .before .weigh in merge-stamp (a .m) (a .n) (a .b) (a .v) (a .g) (a .k) (a .e) (a .w .now) (a .d .now) (p .0) (p .1 .0) (p .1 .1 .0) (p .1 .1 .1 .0)
+    (p .1 .1 .1 .1) (y .last .0) (y .ensures)
 
 walk-raise-requires : tie.Need-walk-raise-requires
-walk-raise-requires c κs = let a = c .before .before .before .before .before .before .before .before .before .before .before .before .before .before .before .args in let p = c .before .before .before .before .before .before .before .before .before .before .before .before .before .before .before .pre in let y = c .before .before .before .before .before .before .before .before .before .before .before .weigh in let u = c .before .before .before .before .before .before .stamp in merge-raise (a .m) (a .n) (a .b) (a .v) (a .g) (a .k) (a .e) (a .w .now) (a .d .now) (p .0) (p .1 .0) (p .1 .1 .0) (p .1 .1 .1 .0) (p .1 .1 .1 .1) (y .last .0) (y .ensures) (u .last .0) (u .last .1 .0) (u .kept .0) (u .kept .1 .0) (u .ensures)
+walk-raise-requires c κs = let a = c .before .before .before .before .before .before .before .before .before .before .before .before .before .before .before .args in
+    let p = c .before .before .before .before .before .before .before .before .before .before .before .before .before .before .before .pre in
+    let y = c .before .before .before .before .before .before .before .before .before .before .before .weigh in let u = c .before .before .before .before .before .before .stamp in
+    merge-raise (a .m) (a .n) (a .b) (a .v) (a .g) (a .k) (a .e) (a .w .now) (a .d .now) (p .0) (p .1 .0) (p .1 .1 .0) (p .1 .1 .1 .0) (p .1 .1 .1 .1) (y .last .0) (y .ensures) (u .last .0)
+    (u .last .1 .0) (u .kept .0) (u .kept .1 .0) (u .ensures)
 
 same-length : tie.Need-same-length
 same-length c = search needs

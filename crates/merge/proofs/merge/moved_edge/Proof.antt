@@ -78,7 +78,10 @@ returns-2 : tie.Need-returns-2
 returns-2 c =
     let p = c .before .before .before .before .before .before .before .before .before .before .before .before .before .before .before .before .pre in
     let s = c .before .before .before .before .before .before .before .shift-up in
-    let a = c .before .before .before .before .before .before .before .before .before .before .before .before .before .before .before .before .args in moved-first (a .m) (a .n) (a .w .now) (a .d .now) (p .0) (a .b) (a .v) (a .g) (a .f) (p .1 .1 .1) (c .before .before .before .before .before .before .before .before .before .before .before .before .if1 .left) _ _ (s .result) (c .before .before .before .before .before .before .before .before .if2 .taken) (s .ensures) (c .before .before .before .before .join-edge .ensures)
+    let a = c .before .before .before .before .before .before .before .before .before .before .before .before .before .before .before .before .args in
+    moved-first (a .m) (a .n) (a .w .now) (a .d .now) (p .0) (a .b) (a .v) (a .g) (a .f) (p .1 .1 .1)
+    (c .before .before .before .before .before .before .before .before .before .before .before .before .if1 .left) _ _ (s .result)
+    (c .before .before .before .before .before .before .before .before .if2 .taken) (s .ensures) (c .before .before .before .before .join-edge .ensures)
 
 shift-down-requires : tie.Need-shift-down-requires
 shift-down-requires c κs =
@@ -109,7 +112,11 @@ unfolding neg
 returns-3 c =
     let p = c .before .before .before .before .before .before .before .before .before .before .before .before .before .before .before .before .before .pre in
     let s = c .before .before .before .before .before .before .before .shift-down in
-    let a = c .before .before .before .before .before .before .before .before .before .before .before .before .before .before .before .before .before .args in moved-second (a .m) (a .n) (a .w .now) (a .d .now) (p .0) (a .b) (a .v) (a .g) (a .f) (p .1 .1 .1) (c .before .before .before .before .before .before .before .before .before .before .before .before .before .if1 .left) _ _ (neg (s .result)) (c .before .before .before .before .before .before .before .before .before .if2 .left) (c .before .before .before .before .before .before .before .before .if3 .taken) (ap (λ (x : Float). neg x) (s .ensures)) (c .before .before .before .before .join-edge2 .ensures)
+    let a = c .before .before .before .before .before .before .before .before .before .before .before .before .before .before .before .before .before .args in
+    moved-second (a .m) (a .n) (a .w .now) (a .d .now) (p .0) (a .b) (a .v) (a .g) (a .f) (p .1 .1 .1)
+    (c .before .before .before .before .before .before .before .before .before .before .before .before .before .if1 .left) _ _ (neg (s .result))
+    (c .before .before .before .before .before .before .before .before .before .if2 .left) (c .before .before .before .before .before .before .before .before .if3 .taken)
+    (ap (λ (x : Float). neg x) (s .ensures)) (c .before .before .before .before .join-edge2 .ensures)
 
 returns-4 : tie.Need-returns-4
 returns-4 c =

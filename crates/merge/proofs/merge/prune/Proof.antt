@@ -80,7 +80,11 @@ slice-read-t : tie.Need-slice-read-t Inv-loop μ-loop
 slice-read-t c = omega (arith, c .before .before .loop .inv .room .words, c .before .before .loop .inv .room .small, c .before .before .loop .inv .x-in)
 
 pass-slot-requires : tie.Need-pass-slot-requires Inv-loop μ-loop
-pass-slot-requires c κs = let a = c .before .before .before .before .before .before .before .before .before .args in let k = c .before .before .before .before .loop in (k .inv .room, prune-slots (a .m) (a .n) (a .b) (c .before .before .before .before .before .before .before .before .before .pre .1 .1) (a .w .now) (a .d .now) (k .w) (k .d) _ (k .p) (k .x) (k .i) _ (k .inv) (c .before .before .before .loop-test .taken))
+pass-slot-requires c κs = let a = c .before .before .before .before .before .before .before .before .before .args in let k = c .before .before .before .before .loop in (
+  k .inv .room,
+  prune-slots (a .m) (a .n) (a .b) (c .before .before .before .before .before .before .before .before .before .pre .1 .1) (a .w .now) (a .d .now) (k .w) (k .d) _ (k .p)
+      (k .x) (k .i) _ (k .inv) (c .before .before .before .loop-test .taken),
+)
 
 add-i : tie.Need-add-i Inv-loop μ-loop
 add-i c =
@@ -91,7 +95,11 @@ loop-less : tie.Need-loop-less Inv-loop μ-loop
 loop-less c = omega (arith, c .before .before .before .before .before .before .before .before .loop-test)
 
 loop-again : tie.Need-loop-again Inv-loop μ-loop
-loop-again c = let a = c .before .before .before .before .before .before .before .before .before .before .before .before .before .before .args in let k = c .before .before .before .before .before .before .before .before .before .loop in let u = c .before .before .before .before .pass-slot in prune-turned (a .m) (a .n) (a .b) (c .before .before .before .before .before .before .before .before .before .before .before .before .before .before .pre .1 .1) (a .w .now) (a .d .now) (k .w) (k .d) _ (k .p) (k .x) (k .i) _ (k .inv) (c .before .before .before .before .before .before .before .before .loop-test .taken) _ _ (u .result) (u .ensures) (u .kept .0) (u .kept .1 .0)
+loop-again c = let a = c .before .before .before .before .before .before .before .before .before .before .before .before .before .before .args in
+    let k = c .before .before .before .before .before .before .before .before .before .loop in let u = c .before .before .before .before .pass-slot in
+    prune-turned (a .m) (a .n) (a .b) (c .before .before .before .before .before .before .before .before .before .before .before .before .before .before .pre .1 .1) (a .w .now) (a .d .now)
+    (k .w) (k .d) _ (k .p) (k .x) (k .i) _ (k .inv) (c .before .before .before .before .before .before .before .before .loop-test .taken) _ _ (u .result) (u .ensures) (u .kept .0)
+    (u .kept .1 .0)
 
 same-length : tie.Need-same-length Inv-loop μ-loop
 same-length c = c .before .loop .inv .same-w

@@ -60,7 +60,9 @@ joins-requires : tie.Need-joins-requires Inv-loop μ-loop
 joins-requires c κs = c .before .before .before .before .before .before .pre .0
 
 returns : tie.Need-returns Inv-loop μ-loop
-returns c = let a = c .before .before .before .before .before .before .before .before .args in let k = c .before .before .before .loop in let z = c .before .joins in seek-found (a .m) (a .n) (a .b) (a .c) (a .w .now) (a .d .now) (c .before .before .before .before .before .before .before .before .pre .1 .0) _ (k .x) (k .i) _ (k .inv) (c .before .before .loop-test .taken) (z .result) (z .ensures) (c .if1 .taken)
+returns c = let a = c .before .before .before .before .before .before .before .before .args in let k = c .before .before .before .loop in let z = c .before .joins in
+    seek-found (a .m) (a .n) (a .b) (a .c) (a .w .now) (a .d .now) (c .before .before .before .before .before .before .before .before .pre .1 .0) _ (k .x) (k .i) _ (k .inv)
+    (c .before .before .loop-test .taken) (z .result) (z .ensures) (c .if1 .taken)
 
 mul-x-4 : tie.Need-mul-x-4 Inv-loop μ-loop
 mul-x-4 c = omega (arith, c .before .before .before .loop .inv .x-in, c .before .before .before .before .before .before .before .before .pre .0 .words, c .before .before .before .before .before .before .before .before .pre .0 .small)
@@ -86,7 +88,9 @@ loop-less : tie.Need-loop-less Inv-loop μ-loop
 loop-less c = omega (arith, c .before .before .before .loop-test .taken)
 
 loop-again : tie.Need-loop-again Inv-loop μ-loop
-loop-again c = let a = c .before .before .before .before .before .before .before .before .before .args in let k = c .before .before .before .before .loop in let z = c .before .before .joins in seek-turn (a .m) (a .n) (a .b) (a .c) (a .w .now) (a .d .now) (c .before .before .before .before .before .before .before .before .before .pre .1 .0) _ (k .x) (k .i) _ (k .inv) (c .before .before .before .loop-test .taken) (z .result) (z .ensures) (c .before .if1 .left)
+loop-again c = let a = c .before .before .before .before .before .before .before .before .before .args in let k = c .before .before .before .before .loop in
+    let z = c .before .before .joins in seek-turn (a .m) (a .n) (a .b) (a .c) (a .w .now) (a .d .now) (c .before .before .before .before .before .before .before .before .before .pre .1 .0) _
+    (k .x) (k .i) _ (k .inv) (c .before .before .before .loop-test .taken) (z .result) (z .ensures) (c .before .if1 .left)
 
 returns-2 : tie.Need-returns-2 Inv-loop μ-loop
 returns-2 c = let a = c .before .before .before .before .before .before .args in let k = c .before .loop in seek-end (a .m) (a .n) (a .b) (a .c) (a .w .now) (a .d .now) (c .before .before .before .before .before .before .pre .1 .0) _ (k .x) (k .i) _ (k .inv) (c .loop-test .left)

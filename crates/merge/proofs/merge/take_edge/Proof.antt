@@ -14,7 +14,10 @@ face-requires c κs = let p = c .before .before .before .before .before .pre in 
 moved-edge-requires : tie.Need-moved-edge-requires
 moved-edge-requires c κs =
     let i = c .before .before .before .before .before .before .before .before .before .if1 in
-    let a = c .before .before .before .before .before .before .before .before .before .before .before .before .args in let p = c .before .before .before .before .before .before .before .before .before .before .before .before .pre in let z = c .before .before .before .before .before .before .face in let u = face-room (a .m) (a .n) (a .w .now) (a .d .now) (a .f) (z .last .0) (z .last .1 .0) (p .0) (p .1 .0) (i .left) (z .kept .0) (z .kept .1 .0) (z .ensures) in (u .0, (u .1, (p .1 .1, i .left)))
+    let a = c .before .before .before .before .before .before .before .before .before .before .before .before .args in
+    let p = c .before .before .before .before .before .before .before .before .before .before .before .before .pre in let z = c .before .before .before .before .before .before .face in
+    let u = face-room (a .m) (a .n) (a .w .now) (a .d .now) (a .f) (z .last .0) (z .last .1 .0) (p .0) (p .1 .0) (i .left) (z .kept .0) (z .kept .1 .0) (z .ensures) in
+    (u .0, (u .1, (p .1 .1, i .left)))
 
 same-length : tie.Need-same-length
 same-length c = search needs
@@ -23,7 +26,9 @@ same-length-2 : tie.Need-same-length-2
 same-length-2 c = search needs
 
 returns-2 : tie.Need-returns-2
-returns-2 c = let a = c .before .before .before .before .before .before .before .before .before .before .before .before .before .before .before .before .before .args in let z = c .before .before .before .before .before .before .before .before .before .before .before .face in take-does (a .m) (a .n) (a .w .now) (a .d .now) (c .before .before .before .before .before .before .before .before .before .before .before .before .before .before .before .before .before .pre .0) (a .b) (a .v) (a .g) (a .f) (c .before .before .before .before .before .before .before .before .before .before .before .before .before .before .if1 .left) (z .last .0) (z .last .1 .0) (z .ensures) _ _ (c .before .before .before .before .moved-edge .ensures)
+returns-2 c = let a = c .before .before .before .before .before .before .before .before .before .before .before .before .before .before .before .before .before .args in
+    let z = c .before .before .before .before .before .before .before .before .before .before .before .face in
+    take-does (a .m) (a .n) (a .w .now) (a .d .now) (c .before .before .before .before .before .before .before .before .before .before .before .before .before .before .before .before .before .pre .0) (a .b) (a .v) (a .g) (a .f) (c .before .before .before .before .before .before .before .before .before .before .before .before .before .before .if1 .left) (z .last .0) (z .last .1 .0) (z .ensures) _ _ (c .before .before .before .before .moved-edge .ensures)
 
 pub take-edge-spec : {M : Type 1} → statement M
 take-edge-spec =

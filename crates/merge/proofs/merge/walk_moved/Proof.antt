@@ -87,7 +87,11 @@ loop-less c = omega (arith, c .before .before .before .before .before .before .b
 loop-again : tie.Need-loop-again Inv-loop μ-loop
 loop-again c =
     let t = c .before .before .before .before .take-edge in
-    let a = c .before .before .before .before .before .before .before .before .before .before .before .before .before .before .args in let k = c .before .before .before .before .before .before .before .before .before .loop in moved-turned (a .m) (a .n) (a .b) (a .v) (a .g) (c .before .before .before .before .before .before .before .before .before .before .before .before .before .before .pre .1 .1) (a .w .now) (a .d .now) (k .w) (k .d) _ _ _ (k .x) (k .i) _ (k .inv) (c .before .before .before .before .before .before .before .before .loop-test .taken) (t .ensures) (t .kept .0) (t .kept .1 .0)
+    let a = c .before .before .before .before .before .before .before .before .before .before .before .before .before .before .args in
+    let k = c .before .before .before .before .before .before .before .before .before .loop in
+    moved-turned (a .m) (a .n) (a .b) (a .v) (a .g) (c .before .before .before .before .before .before .before .before .before .before .before .before .before .before .pre .1 .1)
+    (a .w .now) (a .d .now) (k .w) (k .d) _ _ _ (k .x) (k .i) _ (k .inv) (c .before .before .before .before .before .before .before .before .loop-test .taken) (t .ensures) (t .kept .0)
+    (t .kept .1 .0)
 
 same-length : tie.Need-same-length Inv-loop μ-loop
 same-length c = c .before .loop .inv .same-w

@@ -126,7 +126,9 @@ loop-less : tie.Need-loop-less Inv-loop μ-loop
 loop-less c = omega (arith, c .before .before .before .before .loop-test)
 
 loop-again : tie.Need-loop-again Inv-loop μ-loop
-loop-again c = let a = c .before .before .before .before .before .before .before .args in let k = c .before .before .before .before .before .loop in raise-turn (a .m) (a .n) (a .g) (c .before .before .before .before .before .before .before .pre .1 .1 .1) (a .w .now) (k .w) (a .d .now) _ (k .x) (k .i) _ (k .inv) (c .before .before .before .before .loop-test .taken) (c .before .before .if1 .left) (c .before .if2 .left)
+loop-again c = let a = c .before .before .before .before .before .before .before .args in let k = c .before .before .before .before .before .loop in
+    raise-turn (a .m) (a .n) (a .g) (c .before .before .before .before .before .before .before .pre .1 .1 .1) (a .w .now) (k .w) (a .d .now) _ (k .x) (k .i) _ (k .inv)
+    (c .before .before .before .before .loop-test .taken) (c .before .before .if1 .left) (c .before .if2 .left)
 
 same-length-3 : tie.Need-same-length-3 Inv-loop μ-loop
 same-length-3 c = c .before .loop .inv .same-w

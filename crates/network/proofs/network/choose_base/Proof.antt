@@ -11,7 +11,10 @@ ends c =
     let a = c .args in
     let x = c .pre .1 .0 in
     let y = c .pre .1 .1 .0 in
-    let u = ends-words (a .m) (a .n) (x .0) (a .k) (a .w .now) (a .d .now) (x .1) (x .2) (a .e) (y .e-in) (chosen-live (a .m) (a .n) (x .0) (a .k) (a .w .now) (a .d .now) (x .1) (x .2) (a .e) (a .p) (a .q) (a .g) y) (a .p) (a .q) (chosen-ends (a .m) (a .n) (x .0) (a .k) (a .w .now) (a .d .now) (x .1) (x .2) (a .e) (a .p) (a .q) (a .g) y .0) (chosen-ends (a .m) (a .n) (x .0) (a .k) (a .w .now) (a .d .now) (x .1) (x .2) (a .e) (a .p) (a .q) (a .g) y .1) in
+    let u = ends-words (a .m) (a .n) (x .0) (a .k) (a .w .now) (a .d .now) (x .1) (x .2) (a .e) (y .e-in)
+    (chosen-live (a .m) (a .n) (x .0) (a .k) (a .w .now) (a .d .now) (x .1) (x .2) (a .e) (a .p) (a .q) (a .g) y) (a .p) (a .q)
+    (chosen-ends (a .m) (a .n) (x .0) (a .k) (a .w .now) (a .d .now) (x .1) (x .2) (a .e) (a .p) (a .q) (a .g) y .0)
+    (chosen-ends (a .m) (a .n) (x .0) (a .k) (a .w .now) (a .d .now) (x .1) (x .2) (a .e) (a .p) (a .q) (a .g) y .1) in
     (omega (arith, u .0, u .2), omega (arith, u .1, u .3))
 
 add-i : tie.Need-add-i
@@ -59,7 +62,14 @@ slice-read-sq c = omega (arith, ends (c .before .before .before .before), c .bef
 merge-requires : tie.Need-merge-requires
 merge-requires c κs =
     let p′ = c .before .before .before .before .before .before .before .pre in
-    let a = c .before .before .before .before .before .before .before .args in let x = p′ .1 .0 in let y = p′ .1 .1 .0 in (p′ .0, asks-first (a .m) (a .n) (x .0) (a .k) (a .w .now) (a .d .now) (x .1) (x .2) (a .e) (y .e-in) (chosen-live (a .m) (a .n) (x .0) (a .k) (a .w .now) (a .d .now) (x .1) (x .2) (a .e) (a .p) (a .q) (a .g) y) (a .p) (a .q) (chosen-ends (a .m) (a .n) (x .0) (a .k) (a .w .now) (a .d .now) (x .1) (x .2) (a .e) (a .p) (a .q) (a .g) y .0) (chosen-ends (a .m) (a .n) (x .0) (a .k) (a .w .now) (a .d .now) (x .1) (x .2) (a .e) (a .p) (a .q) (a .g) y .1) (a .g) (chosen-number (a .m) (a .n) (x .0) (a .k) (a .w .now) (a .d .now) (x .1) (x .2) (a .e) (a .p) (a .q) (a .g) y))
+    let a = c .before .before .before .before .before .before .before .args in let x = p′ .1 .0 in let y = p′ .1 .1 .0 in (
+      p′ .0,
+      asks-first (a .m) (a .n) (x .0) (a .k) (a .w .now) (a .d .now) (x .1) (x .2) (a .e) (y .e-in)
+          (chosen-live (a .m) (a .n) (x .0) (a .k) (a .w .now) (a .d .now) (x .1) (x .2) (a .e) (a .p) (a .q) (a .g) y) (a .p) (a .q)
+          (chosen-ends (a .m) (a .n) (x .0) (a .k) (a .w .now) (a .d .now) (x .1) (x .2) (a .e) (a .p) (a .q) (a .g) y .0)
+          (chosen-ends (a .m) (a .n) (x .0) (a .k) (a .w .now) (a .d .now) (x .1) (x .2) (a .e) (a .p) (a .q) (a .g) y .1) (a .g)
+          (chosen-number (a .m) (a .n) (x .0) (a .k) (a .w .now) (a .d .now) (x .1) (x .2) (a .e) (a .p) (a .q) (a .g) y),
+    )
 
 same-length : tie.Need-same-length
 same-length c = search needs
@@ -68,7 +78,14 @@ same-length-2 : tie.Need-same-length-2
 same-length-2 c = search needs
 
 returns : tie.Need-returns
-returns c = λ gates t R. let a = c .before .before .before .before .before .before .before .before .before .before .before .before .before .args in let y = c .before .before .before .before .before .before .before .before .before .before .before .before .before .pre .1 .1 .0 in let z = c .before .before .before .before .before .merge in first-yes (a .m) (a .n) gates (a .k) (a .w .now) (a .d .now) t R (a .e) (y .e-in) (chosen-live (a .m) (a .n) gates (a .k) (a .w .now) (a .d .now) t R (a .e) (a .p) (a .q) (a .g) y) (a .p) (a .q) (chosen-ends (a .m) (a .n) gates (a .k) (a .w .now) (a .d .now) t R (a .e) (a .p) (a .q) (a .g) y .0) (chosen-ends (a .m) (a .n) gates (a .k) (a .w .now) (a .d .now) t R (a .e) (a .p) (a .q) (a .g) y .1) (a .g) (chosen-number (a .m) (a .n) gates (a .k) (a .w .now) (a .d .now) t R (a .e) (a .p) (a .q) (a .g) y) (c .before .before .before .before .before .before .before .before .if1 .taken) (z .last .0) (z .last .1 .0) (z .result) (z .ensures) (c .if2 .taken)
+returns c = λ gates t R. let a = c .before .before .before .before .before .before .before .before .before .before .before .before .before .args in
+    let y = c .before .before .before .before .before .before .before .before .before .before .before .before .before .pre .1 .1 .0 in
+    let z = c .before .before .before .before .before .merge in
+    first-yes (a .m) (a .n) gates (a .k) (a .w .now) (a .d .now) t R (a .e) (y .e-in) (chosen-live (a .m) (a .n) gates (a .k) (a .w .now) (a .d .now) t R (a .e) (a .p) (a .q) (a .g) y)
+    (a .p) (a .q) (chosen-ends (a .m) (a .n) gates (a .k) (a .w .now) (a .d .now) t R (a .e) (a .p) (a .q) (a .g) y .0)
+    (chosen-ends (a .m) (a .n) gates (a .k) (a .w .now) (a .d .now) t R (a .e) (a .p) (a .q) (a .g) y .1) (a .g)
+    (chosen-number (a .m) (a .n) gates (a .k) (a .w .now) (a .d .now) t R (a .e) (a .p) (a .q) (a .g) y) (c .before .before .before .before .before .before .before .before .if1 .taken)
+    (z .last .0) (z .last .1 .0) (z .result) (z .ensures) (c .if2 .taken)
 
 same-length-3 : tie.Need-same-length-3
 same-length-3 c = search needs
@@ -77,7 +94,14 @@ same-length-4 : tie.Need-same-length-4
 same-length-4 c = search needs
 
 returns-2 : tie.Need-returns-2
-returns-2 c = λ gates t R. let a = c .before .before .before .before .before .before .before .before .before .before .before .before .before .args in let y = c .before .before .before .before .before .before .before .before .before .before .before .before .before .pre .1 .1 .0 in let z = c .before .before .before .before .before .merge in first-no (a .m) (a .n) gates (a .k) (a .w .now) (a .d .now) t R (a .e) (y .e-in) (chosen-live (a .m) (a .n) gates (a .k) (a .w .now) (a .d .now) t R (a .e) (a .p) (a .q) (a .g) y) (a .p) (a .q) (chosen-ends (a .m) (a .n) gates (a .k) (a .w .now) (a .d .now) t R (a .e) (a .p) (a .q) (a .g) y .0) (chosen-ends (a .m) (a .n) gates (a .k) (a .w .now) (a .d .now) t R (a .e) (a .p) (a .q) (a .g) y .1) (a .g) (chosen-number (a .m) (a .n) gates (a .k) (a .w .now) (a .d .now) t R (a .e) (a .p) (a .q) (a .g) y) (c .before .before .before .before .before .before .before .before .if1 .taken) (z .last .0) (z .last .1 .0) (z .result) (z .ensures) (c .if2 .left) _ _
+returns-2 c = λ gates t R. let a = c .before .before .before .before .before .before .before .before .before .before .before .before .before .args in
+    let y = c .before .before .before .before .before .before .before .before .before .before .before .before .before .pre .1 .1 .0 in
+    let z = c .before .before .before .before .before .merge in
+    first-no (a .m) (a .n) gates (a .k) (a .w .now) (a .d .now) t R (a .e) (y .e-in) (chosen-live (a .m) (a .n) gates (a .k) (a .w .now) (a .d .now) t R (a .e) (a .p) (a .q) (a .g) y) (a .p)
+    (a .q) (chosen-ends (a .m) (a .n) gates (a .k) (a .w .now) (a .d .now) t R (a .e) (a .p) (a .q) (a .g) y .0)
+    (chosen-ends (a .m) (a .n) gates (a .k) (a .w .now) (a .d .now) t R (a .e) (a .p) (a .q) (a .g) y .1) (a .g)
+    (chosen-number (a .m) (a .n) gates (a .k) (a .w .now) (a .d .now) t R (a .e) (a .p) (a .q) (a .g) y) (c .before .before .before .before .before .before .before .before .if1 .taken)
+    (z .last .0) (z .last .1 .0) (z .result) (z .ensures) (c .if2 .left) _ _
 
 sub-merge : tie.Need-sub-merge
 sub-merge c = search needs
@@ -85,7 +109,14 @@ sub-merge c = search needs
 merge-requires-2 : tie.Need-merge-requires-2
 merge-requires-2 c κs =
     let p′ = c .before .before .before .before .before .before .before .pre in
-    let a = c .before .before .before .before .before .before .before .args in let x = p′ .1 .0 in let y = p′ .1 .1 .0 in (p′ .0, asks-second (a .m) (a .n) (x .0) (a .k) (a .w .now) (a .d .now) (x .1) (x .2) (a .e) (y .e-in) (chosen-live (a .m) (a .n) (x .0) (a .k) (a .w .now) (a .d .now) (x .1) (x .2) (a .e) (a .p) (a .q) (a .g) y) (a .p) (a .q) (chosen-ends (a .m) (a .n) (x .0) (a .k) (a .w .now) (a .d .now) (x .1) (x .2) (a .e) (a .p) (a .q) (a .g) y .0) (chosen-ends (a .m) (a .n) (x .0) (a .k) (a .w .now) (a .d .now) (x .1) (x .2) (a .e) (a .p) (a .q) (a .g) y .1) (a .g) (chosen-number (a .m) (a .n) (x .0) (a .k) (a .w .now) (a .d .now) (x .1) (x .2) (a .e) (a .p) (a .q) (a .g) y))
+    let a = c .before .before .before .before .before .before .before .args in let x = p′ .1 .0 in let y = p′ .1 .1 .0 in (
+      p′ .0,
+      asks-second (a .m) (a .n) (x .0) (a .k) (a .w .now) (a .d .now) (x .1) (x .2) (a .e) (y .e-in)
+          (chosen-live (a .m) (a .n) (x .0) (a .k) (a .w .now) (a .d .now) (x .1) (x .2) (a .e) (a .p) (a .q) (a .g) y) (a .p) (a .q)
+          (chosen-ends (a .m) (a .n) (x .0) (a .k) (a .w .now) (a .d .now) (x .1) (x .2) (a .e) (a .p) (a .q) (a .g) y .0)
+          (chosen-ends (a .m) (a .n) (x .0) (a .k) (a .w .now) (a .d .now) (x .1) (x .2) (a .e) (a .p) (a .q) (a .g) y .1) (a .g)
+          (chosen-number (a .m) (a .n) (x .0) (a .k) (a .w .now) (a .d .now) (x .1) (x .2) (a .e) (a .p) (a .q) (a .g) y),
+    )
 
 same-length-5 : tie.Need-same-length-5
 same-length-5 c = search needs
@@ -94,7 +125,14 @@ same-length-6 : tie.Need-same-length-6
 same-length-6 c = search needs
 
 returns-3 : tie.Need-returns-3
-returns-3 c = λ gates t R. let a = c .before .before .before .before .before .before .before .before .before .before .before .before .before .args in let y = c .before .before .before .before .before .before .before .before .before .before .before .before .before .pre .1 .1 .0 in let z = c .before .before .before .before .before .merge2 in second-yes (a .m) (a .n) gates (a .k) (a .w .now) (a .d .now) t R (a .e) (y .e-in) (chosen-live (a .m) (a .n) gates (a .k) (a .w .now) (a .d .now) t R (a .e) (a .p) (a .q) (a .g) y) (a .p) (a .q) (chosen-ends (a .m) (a .n) gates (a .k) (a .w .now) (a .d .now) t R (a .e) (a .p) (a .q) (a .g) y .0) (chosen-ends (a .m) (a .n) gates (a .k) (a .w .now) (a .d .now) t R (a .e) (a .p) (a .q) (a .g) y .1) (a .g) (chosen-number (a .m) (a .n) gates (a .k) (a .w .now) (a .d .now) t R (a .e) (a .p) (a .q) (a .g) y) (c .before .before .before .before .before .before .before .before .if1 .left) (z .last .0) (z .last .1 .0) (z .result) (z .ensures) (c .if3 .taken)
+returns-3 c = λ gates t R. let a = c .before .before .before .before .before .before .before .before .before .before .before .before .before .args in
+    let y = c .before .before .before .before .before .before .before .before .before .before .before .before .before .pre .1 .1 .0 in
+    let z = c .before .before .before .before .before .merge2 in
+    second-yes (a .m) (a .n) gates (a .k) (a .w .now) (a .d .now) t R (a .e) (y .e-in) (chosen-live (a .m) (a .n) gates (a .k) (a .w .now) (a .d .now) t R (a .e) (a .p) (a .q) (a .g) y)
+    (a .p) (a .q) (chosen-ends (a .m) (a .n) gates (a .k) (a .w .now) (a .d .now) t R (a .e) (a .p) (a .q) (a .g) y .0)
+    (chosen-ends (a .m) (a .n) gates (a .k) (a .w .now) (a .d .now) t R (a .e) (a .p) (a .q) (a .g) y .1) (a .g)
+    (chosen-number (a .m) (a .n) gates (a .k) (a .w .now) (a .d .now) t R (a .e) (a .p) (a .q) (a .g) y) (c .before .before .before .before .before .before .before .before .if1 .left)
+    (z .last .0) (z .last .1 .0) (z .result) (z .ensures) (c .if3 .taken)
 
 same-length-7 : tie.Need-same-length-7
 same-length-7 c = search needs
@@ -103,7 +141,14 @@ same-length-8 : tie.Need-same-length-8
 same-length-8 c = search needs
 
 returns-4 : tie.Need-returns-4
-returns-4 c = λ gates t R. let a = c .before .before .before .before .before .before .before .before .before .before .before .before .before .args in let y = c .before .before .before .before .before .before .before .before .before .before .before .before .before .pre .1 .1 .0 in let z = c .before .before .before .before .before .merge2 in second-no (a .m) (a .n) gates (a .k) (a .w .now) (a .d .now) t R (a .e) (y .e-in) (chosen-live (a .m) (a .n) gates (a .k) (a .w .now) (a .d .now) t R (a .e) (a .p) (a .q) (a .g) y) (a .p) (a .q) (chosen-ends (a .m) (a .n) gates (a .k) (a .w .now) (a .d .now) t R (a .e) (a .p) (a .q) (a .g) y .0) (chosen-ends (a .m) (a .n) gates (a .k) (a .w .now) (a .d .now) t R (a .e) (a .p) (a .q) (a .g) y .1) (a .g) (chosen-number (a .m) (a .n) gates (a .k) (a .w .now) (a .d .now) t R (a .e) (a .p) (a .q) (a .g) y) (c .before .before .before .before .before .before .before .before .if1 .left) (z .last .0) (z .last .1 .0) (z .result) (z .ensures) (c .if3 .left) _ _
+returns-4 c = λ gates t R. let a = c .before .before .before .before .before .before .before .before .before .before .before .before .before .args in
+    let y = c .before .before .before .before .before .before .before .before .before .before .before .before .before .pre .1 .1 .0 in
+    let z = c .before .before .before .before .before .merge2 in
+    second-no (a .m) (a .n) gates (a .k) (a .w .now) (a .d .now) t R (a .e) (y .e-in) (chosen-live (a .m) (a .n) gates (a .k) (a .w .now) (a .d .now) t R (a .e) (a .p) (a .q) (a .g) y)
+    (a .p) (a .q) (chosen-ends (a .m) (a .n) gates (a .k) (a .w .now) (a .d .now) t R (a .e) (a .p) (a .q) (a .g) y .0)
+    (chosen-ends (a .m) (a .n) gates (a .k) (a .w .now) (a .d .now) t R (a .e) (a .p) (a .q) (a .g) y .1) (a .g)
+    (chosen-number (a .m) (a .n) gates (a .k) (a .w .now) (a .d .now) t R (a .e) (a .p) (a .q) (a .g) y) (c .before .before .before .before .before .before .before .before .if1 .left)
+    (z .last .0) (z .last .1 .0) (z .result) (z .ensures) (c .if3 .left) _ _
 
 pub choose-base-spec : {M : Type 1} → statement M
 choose-base-spec =

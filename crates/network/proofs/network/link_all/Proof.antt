@@ -57,7 +57,10 @@ add-link c =
     omega (arith, c .before .before .before .before .before .before .before .before .before .before .before .loop-test .taken, l .inv .room .words, l .inv .room .small)
 
 link-requires-2 : tie.Need-link-requires-2 Inv-loop μ-loop
-link-requires-2 c κs = let a = c .before .before .before .before .before .before .before .before .before .before .before .before .before .before .before .args in let k = c .before .before .before .before .before .before .before .before .before .before .before .before .loop in let z = c .before .before .before .before .before .before .link in link-two (a .m) (a .n) (a .w .now) (a .d .now) (k .w) (k .d) (k .j) _ (k .inv) (c .before .before .before .before .before .before .before .before .before .before .before .loop-test .taken) (z .last .0) (z .last .1 .0) (z .kept .0) (z .kept .1 .0) (z .ensures)
+link-requires-2 c κs = let a = c .before .before .before .before .before .before .before .before .before .before .before .before .before .before .before .args in
+    let k = c .before .before .before .before .before .before .before .before .before .before .before .before .loop in let z = c .before .before .before .before .before .before .link in
+    link-two (a .m) (a .n) (a .w .now) (a .d .now) (k .w) (k .d) (k .j) _ (k .inv)
+    (c .before .before .before .before .before .before .before .before .before .before .before .loop-test .taken) (z .last .0) (z .last .1 .0) (z .kept .0) (z .kept .1 .0) (z .ensures)
 
 add-j : tie.Need-add-j Inv-loop μ-loop
 add-j c =

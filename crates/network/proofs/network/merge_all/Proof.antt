@@ -19,7 +19,9 @@ same-length-2 : tie.Need-same-length-2
 same-length-2 c = search needs
 
 returns : tie.Need-returns
-returns c = let a = c .before .before .before .before .before .before .before .before .before .before .before .before .before .before .before .before .args in let k = c .before .before .before .before .before .before .before .before .before .before .before .begin in let u = c .before .before .before .before .run in all-is (a .m) (a .n) (view (a .m) (a .n) (a .w .now) (a .d .now)) (k .last .0) (k .last .1 .0) _ _ (u .result) (k .ensures) (u .ensures)
+returns c = let a = c .before .before .before .before .before .before .before .before .before .before .before .before .before .before .before .before .args in
+    let k = c .before .before .before .before .before .before .before .before .before .before .before .begin in let u = c .before .before .before .before .run in
+    all-is (a .m) (a .n) (view (a .m) (a .n) (a .w .now) (a .d .now)) (k .last .0) (k .last .1 .0) _ _ (u .result) (k .ensures) (u .ensures)
 
 pub merge-all-spec : {M : Type 1} → statement M
 merge-all-spec = tie.close (tie.spec begin-requires run-requires same-length same-length-2 returns)

@@ -31,7 +31,10 @@ loop-less : tie.Need-loop-less Inv-loop μ-loop
 loop-less c = omega (arith, c .before .before .before .before .before .before .before .before .before .loop-test .taken)
 
 loop-again : tie.Need-loop-again Inv-loop μ-loop
-loop-again c = let a = c .before .before .before .before .before .before .before .before .before .before .before .before .before .args in let k = c .before .before .before .before .before .before .before .before .before .before .loop in let z = c .before .before .before .before .before .before .turn in run-merged (a .m) (a .n) (a .w .now) (a .d .now) (k .w) (k .d) (k .k) (k .inv) (c .before .before .before .before .before .before .before .before .before .loop-test .taken) (z .last .0) (z .last .1 .0) (z .kept .0) (z .kept .1 .0) (z .result) (c .enum-told .given .1) (z .ensures (gatesIn (view (a .m) (a .n) (a .w .now) (a .d .now))) (k .inv .net) (k .inv .rep))
+loop-again c = let a = c .before .before .before .before .before .before .before .before .before .before .before .before .before .args in
+    let k = c .before .before .before .before .before .before .before .before .before .before .loop in let z = c .before .before .before .before .before .before .turn in
+    run-merged (a .m) (a .n) (a .w .now) (a .d .now) (k .w) (k .d) (k .k) (k .inv) (c .before .before .before .before .before .before .before .before .before .loop-test .taken) (z .last .0)
+    (z .last .1 .0) (z .kept .0) (z .kept .1 .0) (z .result) (c .enum-told .given .1) (z .ensures (gatesIn (view (a .m) (a .n) (a .w .now) (a .d .now))) (k .inv .net) (k .inv .rep))
 
 enum-told-2 : tie.Need-enum-told-2 Inv-loop μ-loop
 enum-told-2 c = search needs
@@ -43,7 +46,10 @@ same-length-2 : tie.Need-same-length-2 Inv-loop μ-loop
 same-length-2 c = c .before .before .before .before .before .before .turn .kept .1 .0 ∙ c .before .before .before .before .before .before .before .before .before .before .loop .inv .same-d
 
 returns : tie.Need-returns Inv-loop μ-loop
-returns c = let a = c .before .before .before .before .before .before .before .before .before .before .before .before .before .args in let k = c .before .before .before .before .before .before .before .before .before .before .loop in let z = c .before .before .before .before .before .before .turn in run-ended (a .m) (a .n) (a .w .now) (a .d .now) (k .w) (k .d) (k .k) (k .inv) (c .before .before .before .before .before .before .before .before .before .loop-test .taken) (z .last .0) (z .last .1 .0) (z .kept .0) (z .kept .1 .0) (z .result) (c .enum-told2 .given .1) (z .ensures (gatesIn (view (a .m) (a .n) (a .w .now) (a .d .now))) (k .inv .net) (k .inv .rep))
+returns c = let a = c .before .before .before .before .before .before .before .before .before .before .before .before .before .args in
+    let k = c .before .before .before .before .before .before .before .before .before .before .loop in let z = c .before .before .before .before .before .before .turn in
+    run-ended (a .m) (a .n) (a .w .now) (a .d .now) (k .w) (k .d) (k .k) (k .inv) (c .before .before .before .before .before .before .before .before .before .loop-test .taken) (z .last .0)
+    (z .last .1 .0) (z .kept .0) (z .kept .1 .0) (z .result) (c .enum-told2 .given .1) (z .ensures (gatesIn (view (a .m) (a .n) (a .w .now) (a .d .now))) (k .inv .net) (k .inv .rep))
 
 enum-told-3 : tie.Need-enum-told-3 Inv-loop μ-loop
 enum-told-3 c = search needs
@@ -55,7 +61,10 @@ same-length-4 : tie.Need-same-length-4 Inv-loop μ-loop
 same-length-4 c = c .before .before .before .before .before .before .turn .kept .1 .0 ∙ c .before .before .before .before .before .before .before .before .before .before .loop .inv .same-d
 
 returns-2 : tie.Need-returns-2 Inv-loop μ-loop
-returns-2 c = let a = c .before .before .before .before .before .before .before .before .before .before .before .before .before .args in let k = c .before .before .before .before .before .before .before .before .before .before .loop in let z = c .before .before .before .before .before .before .turn in run-denied (a .m) (a .n) (a .w .now) (a .d .now) (k .w) (k .d) (k .k) (k .inv) (c .before .before .before .before .before .before .before .before .before .loop-test .taken) (z .last .0) (z .last .1 .0) (z .kept .0) (z .kept .1 .0) (z .result) (c .enum-told3 .given .1) (z .ensures (gatesIn (view (a .m) (a .n) (a .w .now) (a .d .now))) (k .inv .net) (k .inv .rep))
+returns-2 c = let a = c .before .before .before .before .before .before .before .before .before .before .before .before .before .args in
+    let k = c .before .before .before .before .before .before .before .before .before .before .loop in let z = c .before .before .before .before .before .before .turn in
+    run-denied (a .m) (a .n) (a .w .now) (a .d .now) (k .w) (k .d) (k .k) (k .inv) (c .before .before .before .before .before .before .before .before .before .loop-test .taken) (z .last .0)
+    (z .last .1 .0) (z .kept .0) (z .kept .1 .0) (z .result) (c .enum-told3 .given .1) (z .ensures (gatesIn (view (a .m) (a .n) (a .w .now) (a .d .now))) (k .inv .net) (k .inv .rep))
 
 same-length-5 : tie.Need-same-length-5 Inv-loop μ-loop
 same-length-5 c = c .before .loop .inv .same-w

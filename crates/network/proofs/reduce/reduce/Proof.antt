@@ -21,7 +21,10 @@ find-edges-requires : tie.Need-find-edges-requires
 find-edges-requires c κs = search needs
 
 count-sizes-requires : tie.Need-count-sizes-requires
-count-sizes-requires c κs = let a = c .before .before .before .before .before .before .before .before .before .before .before .args in let g = c .before .before .before .before .before .find-edges in sizes-ask (a .f) (a .w .now) (a .d .now) (a .vel .now) (a .n) (a .k) (a .two-nyquist) (c .before .before .before .before .before .before .before .before .before .before .before .pre) (g .last .0) (g .last .1 .0) (g .result) (g .kept .0) (g .kept .1 .0) (g .ensures)
+count-sizes-requires c κs = let a = c .before .before .before .before .before .before .before .before .before .before .before .args in
+    let g = c .before .before .before .before .before .find-edges in
+    sizes-ask (a .f) (a .w .now) (a .d .now) (a .vel .now) (a .n) (a .k) (a .two-nyquist) (c .before .before .before .before .before .before .before .before .before .before .before .pre)
+    (g .last .0) (g .last .1 .0) (g .result) (g .kept .0) (g .kept .1 .0) (g .ensures)
 
 mul-copy : tie.Need-mul-copy
 mul-copy c = search needs
@@ -66,7 +69,15 @@ merge-all-requires : tie.Need-merge-all-requires
 unfolding seg
 merge-all-requires c κs =
     let p = c .before .before .before .before .before .before .before .before .before .before .before .before .before .before .before .before .before .before .before .before .pre in
-    let a = c .before .before .before .before .before .before .before .before .before .before .before .before .before .before .before .before .before .before .before .before .args in let g = c .before .before .before .before .before .before .before .before .before .before .before .before .before .before .find-edges in let z = c .before .before .before .before .before .before .before .before .count-sizes in let y = c .before .before .before .before .copy in (space (a .f) (a .w .now) (a .d .now) (a .vel .now) (a .n) (a .k) (a .two-nyquist) (p) (g .last .0) (g .last .1 .0) (g .result) (g .kept .0) (g .kept .1 .0) (g .ensures) (z .last .0) (z .ensures) (y .last .0) (y .ensures) ((13 * a .n + 7 * g .result + 7 * (a .k + 1)) - 13 * a .n) (omega arith), raw-ask (a .f) (a .w .now) (a .d .now) (a .vel .now) (a .n) (a .k) (a .two-nyquist) (p) (g .last .0) (g .last .1 .0) (g .result) (g .kept .0) (g .kept .1 .0) (g .ensures) (z .last .0) (z .ensures) (y .last .0) (y .ensures) ((13 * a .n + 7 * g .result + 7 * (a .k + 1)) - 13 * a .n) (omega arith))
+    let a = c .before .before .before .before .before .before .before .before .before .before .before .before .before .before .before .before .before .before .before .before .args in
+    let g = c .before .before .before .before .before .before .before .before .before .before .before .before .before .before .find-edges in
+    let z = c .before .before .before .before .before .before .before .before .count-sizes in let y = c .before .before .before .before .copy in (
+      space (a .f) (a .w .now) (a .d .now) (a .vel .now) (a .n) (a .k) (a .two-nyquist) (p) (g .last .0) (g .last .1 .0) (g .result) (g .kept .0) (g .kept .1 .0) (g .ensures) (z .last .0)
+          (z .ensures) (y .last .0) (y .ensures) ((13 * a .n + 7 * g .result + 7 * (a .k + 1)) - 13 * a .n) (omega arith),
+      raw-ask (a .f) (a .w .now) (a .d .now) (a .vel .now) (a .n) (a .k)
+          (a .two-nyquist) (p) (g .last .0) (g .last .1 .0) (g .result) (g .kept .0) (g .kept .1 .0) (g .ensures) (z .last .0) (z .ensures) (y .last .0) (y .ensures)
+          ((13 * a .n + 7 * g .result + 7 * (a .k + 1)) - 13 * a .n) (omega arith),
+    )
 
 mul-copy-3 : tie.Need-mul-copy-3
 mul-copy-3 c = search needs

@@ -71,7 +71,9 @@ same-length : tie.Need-same-length Inv-loop μ-loop
 same-length c = omega (arith, c .before .loop .inv .1 .1 .1, c .before .before .before .before .fill .kept .0)
 
 returns : tie.Need-returns Inv-loop μ-loop
-returns c = let a = c .before .before .before .before .before .before .before .args in let u = c .before .before .before .before .fill in sizes-whole (a .w .now) (u .last .0) (a .n) (a .at) (a .k) (c .before .before .before .before .before .before .before .pre) (u .ensures) (c .before .loop .w) (sizes-end (u .last .0) (c .before .loop .w) (a .n) (a .at) (a .k) (c .before .loop .g) (c .before .loop .inv .1 .0) (c .before .loop .inv .1 .1 .0) (omega (arith, c .loop-test .left)))
+returns c = let a = c .before .before .before .before .before .before .before .args in let u = c .before .before .before .before .fill in
+    sizes-whole (a .w .now) (u .last .0) (a .n) (a .at) (a .k) (c .before .before .before .before .before .before .before .pre) (u .ensures) (c .before .loop .w)
+    (sizes-end (u .last .0) (c .before .loop .w) (a .n) (a .at) (a .k) (c .before .loop .g) (c .before .loop .inv .1 .0) (c .before .loop .inv .1 .1 .0) (omega (arith, c .loop-test .left)))
 
 pub count-sizes-spec : {M : Type 1} → statement M
 count-sizes-spec =

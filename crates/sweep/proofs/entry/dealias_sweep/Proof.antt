@@ -67,8 +67,15 @@ returns-2 c =
 unfold-sweep-requires : tie.Need-unfold-sweep-requires
 unfold-sweep-requires c κs =
     let s = c .before .before .before .before .before .before .before .before .before .before .before .before .before .before .before .before in
-    let r = c .before .before .before .before .before .before .plan-of in
-    (seven-yes (c .before .before .before .before .before .before .before), (few-limits (sweepAt s) (memoryAt s) (seven-yes (c .before .before .before .before .before .before .before)) (r .result) (r .ensures) (few-yes (c .before .before .before .before)), limits-rise (sweepAt s) (memoryAt s) (seven-yes (c .before .before .before .before .before .before .before)) (r .result) (r .ensures) (T-of (s .good .0 .1 .1 .1 .1 .0 .1)) (c .before .before .before .before .before .before .before .before .before .before .before .before .before .before .before .shared-slice-known .given) (few-yes (c .before .before .before .before))))
+    let r = c .before .before .before .before .before .before .plan-of in (
+      seven-yes (c .before .before .before .before .before .before .before),
+      (
+        few-limits (sweepAt s) (memoryAt s) (seven-yes (c .before .before .before .before .before .before .before)) (r .result) (r .ensures) (few-yes (c .before .before .before .before)),
+        limits-rise (sweepAt s) (memoryAt s) (seven-yes (c .before .before .before .before .before .before .before)) (r .result) (r .ensures) (T-of (s .good .0 .1 .1 .1 .1 .0 .1))
+            (c .before .before .before .before .before .before .before .before .before .before .before .before .before .before .before .shared-slice-known .given)
+            (few-yes (c .before .before .before .before)),
+      ),
+    )
 
 same-length : tie.Need-same-length
 same-length c = search needs

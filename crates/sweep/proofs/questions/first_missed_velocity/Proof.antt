@@ -103,11 +103,17 @@ counts-in-range-requires c κs = let q = lengths _ _ (long-yes (c .before .befor
 
 returns-6 : tie.Need-returns-6
 unfolding askedVelocity
-returns-6 c = let s = c .before .before .before .before .before .before .before .before .before .before .before .before .before .before .before .before in sym (ap answerOf (left-5 (c .before .before) ∙ no _ _ (answer-no (counts-are (countedAt s) (s .args .unfolded) (lengths _ _ (long-yes (c .before .before .before .before .before .before .before .before)) .mask) (c .before .counts-in-range .ensures)) (c .if6 .taken))))
+returns-6 c = let s = c .before .before .before .before .before .before .before .before .before .before .before .before .before .before .before .before in
+    sym (ap answerOf (left-5 (c .before .before) ∙ no _ _ (answer-no
+    (counts-are (countedAt s) (s .args .unfolded) (lengths _ _ (long-yes (c .before .before .before .before .before .before .before .before)) .mask) (c .before .counts-in-range .ensures))
+    (c .if6 .taken))))
 
 returns-7 : tie.Need-returns-7
 unfolding askedVelocity firstNo
-returns-7 c = let s = c .before .before .before .before .before .before .before .before .before .before .before .before .before .before .before .before in sym (ap answerOf (left-5 (c .before .before) ∙ on _ [] (answer-yes (counts-are (countedAt s) (s .args .unfolded) (lengths _ _ (long-yes (c .before .before .before .before .before .before .before .before)) .mask) (c .before .counts-in-range .ensures)) (c .if6 .left))))
+returns-7 c = let s = c .before .before .before .before .before .before .before .before .before .before .before .before .before .before .before .before in
+    sym (ap answerOf (left-5 (c .before .before) ∙ on _ [] (answer-yes
+    (counts-are (countedAt s) (s .args .unfolded) (lengths _ _ (long-yes (c .before .before .before .before .before .before .before .before)) .mask) (c .before .counts-in-range .ensures))
+    (c .if6 .left))))
 
 pub first-missed-velocity-spec : {M : Type 1} → statement M
 first-missed-velocity-spec =

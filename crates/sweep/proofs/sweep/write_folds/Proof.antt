@@ -85,7 +85,11 @@ same-length c = c .before .loop .inv .1 .1
 returns : tie.Need-returns Inv-loop μ-loop
 returns c =
     let a = c .before .before .before .before .args in
-    fill-all (λ g. gateCount (toZ w32 (ofZ w32 (a .offset))) (getD (a .valid .now) g 0) (unbias (getD (a .w .now) (countsAt (a .n) (a .k) + getD (a .w .now) g 0) 0))) (a .folds .now) (c .before .loop .folds) (c .before .loop .g) (a .n) (c .before .loop .inv .1 .0) (omega (arith, c .before .loop .inv .0, c .loop-test .left)) (c .before .before .before .before .pre .counts) ∙ ap (λ (z : ℤ). tabulate (a .n) (λ g. gateCount z (getD (a .valid .now) g 0) (unbias (getD (a .w .now) (countsAt (a .n) (a .k) + getD (a .w .now) g 0) 0)))) (toZ-ofZ w32 (a .offset) (c .before .before .before .before .fits .offset))
+    fill-all (λ g. gateCount (toZ w32 (ofZ w32 (a .offset))) (getD (a .valid .now) g 0) (unbias (getD (a .w .now) (countsAt (a .n) (a .k) + getD (a .w .now) g 0) 0))) (a .folds .now)
+    (c .before .loop .folds) (c .before .loop .g) (a .n) (c .before .loop .inv .1 .0) (omega (arith, c .before .loop .inv .0, c .loop-test .left))
+    (c .before .before .before .before .pre .counts) ∙ ap (λ (z : ℤ). tabulate (a .n)
+    (λ g. gateCount z (getD (a .valid .now) g 0) (unbias (getD (a .w .now) (countsAt (a .n) (a .k) + getD (a .w .now) g 0) 0))))
+    (toZ-ofZ w32 (a .offset) (c .before .before .before .before .fits .offset))
 
 pub write-folds-spec : {M : Type 1} → statement M
 write-folds-spec =
