@@ -43,7 +43,7 @@ sum-parts (negsuc a) (pos b) = go (ltb b (suc a)) (ltb→lt b (suc a)) (nltb→l
 sum-parts (negsuc a) (negsuc b) = omega arith
 
 -- with suc (suc k) limits the adds are at least 1 - S in sum
-pub number-parts : (S k : ℕ) (a b : ℤ) → atLeast0 (pos (S + 1) +ℤ a +ℤ b) ≡ suc (suc k) → 1 + (zn a + zn b) ≤ S + (zp a + zp b)
+number-parts : (S k : ℕ) (a b : ℤ) → atLeast0 (pos (S + 1) +ℤ a +ℤ b) ≡ suc (suc k) → 1 + (zn a + zn b) ≤ S + (zp a + zp b)
 number-parts S k a b h =
     let x = pos (S + 1) +ℤ a in
     let u = at-pos (x +ℤ b) h in
@@ -60,7 +60,7 @@ number-parts S k a b h =
     go xp xn ap an bp bn yp yn e f g h = omega arith
 
 -- ---- z widths
-pub real-has : (z : ℤ) → natAbs z ≤ 9007199254740992 → HasValue (real z) (sgn z) (natAbs z) 1
+real-has : (z : ℤ) → natAbs z ≤ 9007199254740992 → HasValue (real z) (sgn z) (natAbs z) 1
 unfolding real
 real-has (pos n) h = whole-has n h
 real-has (negsuc n) h = minus-has n h

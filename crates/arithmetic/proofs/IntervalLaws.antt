@@ -64,7 +64,7 @@ pub up-none : (vs : List Float) (ms : List ℕ) → upTo vs ms 0 ≡ NoneValid
 unfolding upTo range valid
 up-none vs ms = refl
 
-pub up-more : (vs : List Float) (ms : List ℕ) (i : ℕ) → i < length vs → length ms ≡ length vs → upTo vs ms (i + 1) ≡ cond (eqb (getD ms i 0) 1) (include (upTo vs ms i) (getD vs i nan)) (upTo vs ms i)
+up-more : (vs : List Float) (ms : List ℕ) (i : ℕ) → i < length vs → length ms ≡ length vs → upTo vs ms (i + 1) ≡ cond (eqb (getD ms i 0) 1) (include (upTo vs ms i) (getD vs i nan)) (upTo vs ms i)
 unfolding upTo
 up-more vs ms i h e =
     let hm : i < length ms = omega arith in

@@ -81,19 +81,6 @@ module _ (f : Format) (x x' y y' : Float) (tx : T (finite x)) (tx' : T (finite x
   unfolding c k4
   iy' = own-is y' (den x * den x' * den y) (den x * den x' * den y * den y') ty' refl
 
-  pub add-mono : T (le x x') → T (le y y') → T (le (add f x y) (add f x' y'))
-  add-mono h k =
-      rounds-le C (add-rounds f C ix iy) (add-rounds f C ix' iy')
-      (both (plus (sign x) (num x * k1)) (minus (sign x) (num x * k1)) (plus (sign x') (num x' * k2)) (minus (sign x') (num x' * k2)) (plus (sign y) (num y * k3)) (minus (sign y) (num y * k3)) (plus (sign y') (num y' * k4)) (minus (sign y') (num y' * k4))
-      (is-le C ix ix' h) (is-le C iy iy' k))
-
-  -- the other way round in the second
-  pub sub-mono : T (le x x') → T (le y y') → T (le (sub f x y') (sub f x' y))
-  sub-mono h k =
-      rounds-le C (sub-rounds f C ix iy') (sub-rounds f C ix' iy)
-      (crossed (plus (sign x) (num x * k1)) (minus (sign x) (num x * k1)) (plus (sign x') (num x' * k2)) (minus (sign x') (num x' * k2)) (plus (sign y) (num y * k3)) (minus (sign y) (num y * k3)) (plus (sign y') (num y' * k4)) (minus (sign y') (num y' * k4))
-      (is-le C ix ix' h) (is-le C iy iy' k))
-
 -- ---- a factor b / d that is not negative, a divisor b / d above zero
 scaled : (s t : Bool) (a b k : ℕ) → plus s a + minus t b ≤ plus t b + minus s a → plus s (a * k) + minus t (b * k) ≤ plus t (b * k) + minus s (a * k)
 scaled s t a b k h =
@@ -117,19 +104,3 @@ module _ (f : Format) (x x' y : Float) (b d : ℕ) (tx : T (finite x)) (tx' : T 
     where
       swap : (a b : ℕ) → a * b ≡ b * a
       swap a b = omega arith
-
-  pub mul-mono : T (le (mul f x y) (mul f x' y))
-  mul-mono =
-      let c = den x' * den x in
-      let C : 0 < c = mul-pos (den-pos x') (den-pos x) in
-      subst (λ (z : Float). T (le z (mul f x' y))) (sym (mul-values f x y (sign x) (num x * den x') c b d C D at v))
-      (subst (λ (z : Float). T (le (round f (sign x) (num x * den x' * b) (c * d)) z)) (sym (mul-values f x' y (sign x') (num x' * den x) c b d C D at' v))
-      (round-le f (sign x) (sign x') (num x * den x' * b) (num x' * den x * b) (c * d) (mul-pos C D) (scaled (sign x) (sign x') (num x * den x') (num x' * den x) b order')))
-
-  pub div-mono : 0 < b → T (le (div f x y) (div f x' y))
-  div-mono B =
-      let c = den x' * den x in
-      let C : 0 < c = mul-pos (den-pos x') (den-pos x) in
-      subst (λ (z : Float). T (le z (div f x' y))) (sym (div-values f x y (sign x) (num x * den x') c b d C D B at v))
-      (subst (λ (z : Float). T (le (round f (sign x) (num x * den x' * d) (c * b)) z)) (sym (div-values f x' y (sign x') (num x' * den x) c b d C D B at' v))
-      (round-le f (sign x) (sign x') (num x * den x' * d) (num x' * den x * d) (c * b) (mul-pos C B) (scaled (sign x) (sign x') (num x * den x') (num x' * den x) d order')))

@@ -270,7 +270,7 @@ sizes nyq S n w few = record { is = unit-is; some = le-trans (lit≤ tt) tiny-la
     go : (x ν t : ℕ) → 2 * ν ≤ x + 2 * t → 2147483648 * t ≤ ν → 4294967294 * t ≤ x
     go x ν t h k = omega arith
 
-pub width-pos : (nyq : Float) (S : ℕ) (n : Nyquist nyq) (w : Wide nyq (n .size) S) → S ≤ 9999 → 0 < w .size
+width-pos : (nyq : Float) (S : ℕ) (n : Nyquist nyq) (w : Wide nyq (n .size) S) → S ≤ 9999 → 0 < w .size
 width-pos nyq S n w few = let z = sizes nyq S n w few in first-pos (w .size) S (le-trans (le-trans (lit≤ tt) (le-trans tiny-large (many tiny))) (z .wide))
   where
     many : (t : ℕ) → t ≤ 4294967294 * t
@@ -308,7 +308,7 @@ is-within (fin t m e) s G v h = le→leb (m * up e) (2 ^ 30 * down e) (le-of-mul
     go M E u e h = omega arith
 
 -- the ceiling is less than one above
-pub ceil-most : (x : Float) (s : Bool) (G : ℕ) → HasValue x s G unit → natAbs (ceilingWhole x) * unit ≤ G + unit
+ceil-most : (x : Float) (s : Bool) (G : ℕ) → HasValue x s G unit → natAbs (ceilingWhole x) * unit ≤ G + unit
 unfolding ceilingWhole
 ceil-most nan s G v = absurd v
 ceil-most (inf t) s G v = absurd v

@@ -162,14 +162,6 @@ limits-never-fall nyq S e f g a h l =
     let d = adds-of nyq S e n w (a .some) (a .few) g h in
     limits-rise nyq S n w (adds nyq S e .start) (adds nyq S e .end) (a .few) (d .0) (d .1) l
 
-pub limits-are-finite : (nyq : Float) (S : ℕ) (e : Extremes) → T (fits binary64 nyq) → Held e → Asked nyq S → ExtremesInRange e → atLeast0 (number S (adds nyq S e)) ≤ 10000 → AllFinite (limitsFor nyq S e)
-unfolding limitsFor number
-limits-are-finite nyq S e f g a h l =
-    let n = nyquist nyq f a in
-    let w = wide nyq S n (a .some) (a .few) in
-    let d = adds-of nyq S e n w (a .some) (a .few) g h in
-    limits-finite nyq S n w (adds nyq S e .start) (adds nyq S e .end) (a .few) (d .0) (d .1) l
-
 -- ---- the extremes of floats that an f64 holds are held
 abbrev pub AllHeld : List Float → Type 0
 AllHeld [] = Unit {0}
@@ -185,12 +177,12 @@ unfolding greatest
 greatest-held x [] f h = f
 greatest-held x (v ∷ l) f h = greatest-held (cond (lt x v) v x) l (cond-fits binary64 (lt x v) v x (h .0) f) (h .1)
 
-pub range-held : (l : List Float) → AllHeld l → Held (range l)
+range-held : (l : List Float) → AllHeld l → Held (range l)
 unfolding range
 range-held [] h = tt
 range-held (v ∷ l) h = (least-held v l (h .0) (h .1), greatest-held v l (h .0) (h .1))
 
-pub valid-held : (vs : List Float) (ms : List ℕ) → AllHeld vs → AllHeld (valid vs ms)
+valid-held : (vs : List Float) (ms : List ℕ) → AllHeld vs → AllHeld (valid vs ms)
 unfolding valid
 valid-held [] ms h = tt
 valid-held (v ∷ vs) [] h = tt
@@ -249,7 +241,7 @@ module _ (l : List Float) (r : Rising l) where
       less j n h = omega arith
 
 -- ---- as a sweep entry has it: what a slice of f32 holds, and questions 5 to 8
-pub slice-held : (vs : List Float) → ((i : ℕ) → T (fits binary32 (getD vs i nan))) → AllHeld vs
+slice-held : (vs : List Float) → ((i : ℕ) → T (fits binary32 (getD vs i nan))) → AllHeld vs
 slice-held [] h = tt
 slice-held (v ∷ vs) h = (fits-widens v (h 0), slice-held vs (λ (i : ℕ). h (suc i)))
 

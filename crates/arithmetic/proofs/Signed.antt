@@ -43,16 +43,16 @@ pub minus-mul : (s : Bool) (a k : ℕ) → minus s a * k ≡ minus s (a * k)
 minus-mul true a k = refl
 minus-mul false a k = zero-mul k
 
-pub plus-not : (s : Bool) (a : ℕ) → plus (not s) a ≡ minus s a
+plus-not : (s : Bool) (a : ℕ) → plus (not s) a ≡ minus s a
 plus-not true a = refl
 plus-not false a = refl
 
-pub minus-not : (s : Bool) (a : ℕ) → minus (not s) a ≡ plus s a
+minus-not : (s : Bool) (a : ℕ) → minus (not s) a ≡ plus s a
 minus-not true a = refl
 minus-not false a = refl
 
 -- A / G and a / c are the same fraction, and so are B / G and b / c: their order is the same
-pub carry : (s t : Bool) (A B a b c G : ℕ) → 0 < c → A * c ≡ a * G → B * c ≡ b * G → plus s a + minus t b ≤ plus t b + minus s a → plus s A + minus t B ≤ plus t B + minus s A
+carry : (s t : Bool) (A B a b c G : ℕ) → 0 < c → A * c ≡ a * G → B * c ≡ b * G → plus s a + minus t b ≤ plus t b + minus s a → plus s A + minus t B ≤ plus t B + minus s A
 carry s t A B a b c G C e g h =
     le-of-mul-le-mul-right (lines (plus s A) (minus t B) (plus t B) (minus s A) (plus s a) (minus t b) (plus t b) (minus s a)
     (plus-scale s A c a G e) (minus-scale t B c b G g) (plus-scale t B c b G g) (minus-scale s A c a G e) h) C
@@ -75,7 +75,7 @@ both A B h =
     let b : B ≡ 0 = omega arith in
     subst (λ (x : ℕ). T (eqb x B && eqb x 0)) (sym a) (subst (λ (x : ℕ). T (eqb 0 x && eqb 0 0)) (sym b) tt)
 
-pub to-leq : (s t : Bool) (A B : ℕ) → plus s A + minus t B ≤ plus t B + minus s A → T (below s A t B || level s A t B)
+to-leq : (s t : Bool) (A B : ℕ) → plus s A + minus t B ≤ plus t B + minus s A → T (below s A t B || level s A t B)
 to-leq false false A B h = subst T (sym (le-leb A B)) (le→leb A B (omega arith))
 to-leq true true A B h = subst (λ (b : Bool). T (ltb B A || (b && true))) (eqb-sym B A) (subst T (sym (le-leb B A)) (le→leb B A (omega arith)))
 to-leq false true A B h = both A B (omega arith)
@@ -172,7 +172,7 @@ le-opposite (fin true m e) (inf false) p q = tt
 le-opposite (fin true m e) (fin true n d) p q = absurd q
 le-opposite (fin true m e) (fin false n d) p q = to-leq true false (m * up e * down d) (n * up d * down e) (omega arith)
 
-pub le-neg : (x y : Float) → T (le x y) → T (le (neg y) (neg x))
+le-neg : (x y : Float) → T (le x y) → T (le (neg y) (neg x))
 unfolding le neg
 le-neg nan y h = absurd h
 le-neg (inf s) nan h = absurd h
@@ -244,9 +244,6 @@ order' s t a b p n q m e g h = go (plus s a) (minus s a) (plus t b) (minus t b) 
     go x y z w e g h = omega arith
 
 module _ {x y : Float} {c p n q m : ℕ} (C : 0 < c) where
-  pub le-is : Is x c p n → Is y c q m → p + m ≤ q + n → T (le x y)
-  le-is i j h = le-values x y (i .sign) (j .sign) (i .size) (j .size) c C (i .has) (j .has) (order (i .sign) (j .sign) (i .size) (j .size) p n q m (i .pair) (j .pair) h)
-
   pub is-le : Is x c p n → Is y c q m → T (le x y) → p + m ≤ q + n
   is-le i j h = order' (i .sign) (j .sign) (i .size) (j .size) p n q m (i .pair) (j .pair) (values-le x y (i .sign) (j .sign) (i .size) (j .size) c C (i .has) (j .has) h)
 

@@ -1,5 +1,5 @@
 -- intervals.rs: the least and the greatest valid velocity, the adds, and the limits. Arithmetic is f64, one rounding an operation.
--- Definitions only.
+--
 use Prim.Native.Nat.{ℕ, zero, suc, _+_}
 use mathlib.Core.Bool.{Bool, cond, _&&_, _||_}
 use mathlib.Core.List.{List, [], _∷_, _++_}

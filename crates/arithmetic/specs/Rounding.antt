@@ -1,5 +1,5 @@
 -- The float helpers: a float to a whole number, a whole number to f32, and f64 to f32, over the fraction ± m × up e / down e that a
--- finite float is. A whole number to the nearest f32 is the library's `ofInt binary32`. Definitions only.
+-- finite float is. A whole number to the nearest f32 is the library's `ofInt binary32`.
 use Prim.Native.Nat.{ℕ, suc, _*_, _/_, _%_, _^_}
 use mathlib.Core.Bool.{Bool, true, false, cond}
 use lib.Dec.{eqb, leb}

@@ -23,7 +23,7 @@ fn closest_to(n: u64, unit: u64) -> u64
 }
 
 // The f32 nearest to n. The count of leading zeros says how many of n's digits are past the 24 that an f32 keeps.
-pub fn nearest_u64_to_f32(n: u64) -> f32
+fn nearest_u64_to_f32(n: u64) -> f32
     ensures { λ r. ⌜ r ≡ Ieee.ofInt binary32 (pos n) ⌝ }
 {
     let z = u64::leading_zeros(n);

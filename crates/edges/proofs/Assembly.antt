@@ -61,7 +61,7 @@ module _ (s : Shape) (L : List ℕ) (n : ℕ) (w : n ≡ s .rays * s .gates) whe
   from-within zero k h = tt
   from-within (suc m) k h = all-append (Within n) (gatePairsAt s L k) (each (gatePairsAt s L) (upto m (suc k))) (at-within k (omega arith)) (from-within m (suc k) (omega arith))
 
-  pub links-within : length L ≡ n → All (Within n) (gatePairs s L)
+  links-within : length L ≡ n → All (Within n) (gatePairs s L)
   unfolding gatePairs
   links-within e = from-within (length L) 0 (omega arith)
 
@@ -86,9 +86,6 @@ keys-same w vel n (t ∷ ts) f key h s = rw (h t (s .0), keys-same w vel n ts f 
 module _ (f : Shape) (u : List ℕ) (a vel : List Float) (n k t : ℕ) (q : FindsEdges f u a vel n k t) where
   ts : List GatePair
   ts = gatePairs f (seg u 0 n)
-
-  pub sheet : Sheet f n u
-  sheet = record { whole = q .whole; room = omega (arith, q .scratch); small = omega (arith, q .small) }
 
   module _ (w : List ℕ) (m : ℕ) (p : AddsPairs n u w 0 m (gatePairs f (seg u 0 n))) (few : m ≤ 4 * n) where
     lw : length w ≡ length u

@@ -19,7 +19,7 @@ use Rattle.edges.proofs.Next.{next-in}
 
 module _ (s : Shape) (d : Direction) (L : List ℕ) where
   -- the gate seen is in the sweep
-  pub look-in : (k g h : ℕ) → g < s .rays * s .gates → look s d L k g ≡ some h → h < s .rays * s .gates
+  look-in : (k g h : ℕ) → g < s .rays * s .gates → look s d L k g ≡ some h → h < s .rays * s .gates
   unfolding look
   look-in zero g h i e = absurd (Option·none-ne-some h e)
   look-in (suc k) g h i e = go (next s d g) refl e (look-in k)

@@ -56,7 +56,7 @@ place-on f n w v g c e k d p q = record {
 }
 
 -- a call's pairs are those by the labels at the start
-pub adds-from : (f : Shape) (n : ℕ) (u w v : List ℕ) (g c e : ℕ) (d : Direction) → seg w 0 n ≡ seg u 0 n → AddsPairs n w v c e (one f n w g d) → AddsPairs n w v c e (one f n u g d)
+adds-from : (f : Shape) (n : ℕ) (u w v : List ℕ) (g c e : ℕ) (d : Direction) → seg w 0 n ≡ seg u 0 n → AddsPairs n w v c e (one f n w g d) → AddsPairs n w v c e (one f n u g d)
 adds-from f n u w v g c e d l q = rw l at q
 
 pub unlabelled : (f : Shape) (n : ℕ) (w : List ℕ) (g c : ℕ) → g < n → getD w g 0 ≡ 0 → AddsPairs n w w c c (gatePairsAt f (seg w 0 n) g)

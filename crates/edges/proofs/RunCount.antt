@@ -17,7 +17,7 @@ use Rattle.edges.proofs.GatherLaws.{later-cons, later-end}
 use borrow.Author.Tests.{eqb-true}
 
 -- records of the same labels begin equally many runs
-pub runs-labels : (r s : EdgeRecord) (l : List Pair) → r .one ≡ s .one → r .two ≡ s .two → length (runsFrom r l) ≡ length (runsFrom s l)
+runs-labels : (r s : EdgeRecord) (l : List Pair) → r .one ≡ s .one → r .two ≡ s .two → length (runsFrom r l) ≡ length (runsFrom s l)
 unfolding runsFrom
 runs-labels r s [] a b = refl
 runs-labels r s (p ∷ ps) a b = rw same (go (alike s p) (runs-labels (plus r p) (plus s p) ps (unfold plus in a) (unfold plus in b)))
@@ -34,7 +34,7 @@ both-eq : (a b c d : ℕ) → (eqb a b && eqb c d) ≡ true → (a ≡ b) × (c 
 both-eq a b c d h = (eqb-true a b (and-left (eqb a b) (eqb c d) h), eqb-true c d (and-right (eqb a b) (eqb c d) h))
 
 -- one pair more
-pub run-more : (p q : Pair) (l : List Pair) (e : ℕ) → cond (alike (begun p) q) e (e + 1) + length (runsFrom (begun q) l) ≡ e + length (runsFrom (begun p) (q ∷ l))
+run-more : (p q : Pair) (l : List Pair) (e : ℕ) → cond (alike (begun p) q) e (e + 1) + length (runsFrom (begun q) l) ≡ e + length (runsFrom (begun p) (q ∷ l))
 unfolding runsFrom
 run-more p q l e = go (alike (begun p) q) refl
   where
@@ -59,7 +59,7 @@ head-labels r p q l a b = rw same (go (alike r q) (runs-labels (plus r p) (plus 
     go false x y = ap suc y
 
 -- there are no more runs than pairs
-pub from-few : (r : EdgeRecord) (l : List Pair) → length (runsFrom r l) ≤ suc (length l)
+from-few : (r : EdgeRecord) (l : List Pair) → length (runsFrom r l) ≤ suc (length l)
 unfolding runsFrom
 from-few r [] = omega arith
 from-few r (p ∷ ps) = go (alike r p) (from-few (plus r p) ps) (from-few (begun p) ps)

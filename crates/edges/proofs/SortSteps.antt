@@ -113,8 +113,8 @@ module _ (u : List ℕ) (n m k : ℕ) (lay : Sorts u n m k) where
           fit = omega (arith, lay .room, ly);
           small = lay .small;
           index = λ i h. omega (arith, getD-seg y (9 * n) m i 0 h, ap (λ (z : List ℕ). getD z i 0) part-numbers, upto-at m 0 i h);
-          second = λ j h. omega (arith, getD-seg y (9 * n + m + m) m j 0 h, ap (λ (z : List ℕ). getD z j 0) part-one, labels-at u n m k j (omega (arith, lay .room, lay .few)) h (lay .label (getD u (n + j) 0) (lay .gate j h)));
-          first = λ j h. omega (arith, getD-seg y (9 * n + m + m + m) m j 0 h, ap (λ (z : List ℕ). getD z j 0) part-two, labels-at u (5 * n) m k j (omega (arith, lay .room, lay .few)) h (lay .label (getD u (5 * n + j) 0) (lay .far j h)));
+          first = λ j h. omega (arith, getD-seg y (9 * n + m + m) m j 0 h, ap (λ (z : List ℕ). getD z j 0) part-one, labels-at u n m k j (omega (arith, lay .room, lay .few)) h (lay .label (getD u (n + j) 0) (lay .gate j h)));
+          second = λ j h. omega (arith, getD-seg y (9 * n + m + m + m) m j 0 h, ap (λ (z : List ℕ). getD z j 0) part-two, labels-at u (5 * n) m k j (omega (arith, lay .room, lay .few)) h (lay .label (getD u (5 * n + j) 0) (lay .far j h)));
         }
 
         pub sort-done : (r : List ℕ) → seg r (9 * n) m ≡ both y (9 * n) m m k → ((j : ℕ) → (9 * n ≤ j → j < 9 * n + m + m → ⊥) → (9 * n + m + m + m + m ≤ j → j < 9 * n + m + m + m + m + k → ⊥) → getD r j 0 ≡ getD y j 0) → Sorted u r n m k

@@ -83,7 +83,7 @@ module _ (L : List ℕ) (vel : List Float) where
       go true h = tt
       go false h = h
 
-  pub links-good : (s : Shape) → All Labelled (map (pairOf L vel) (gatePairs s L))
+  links-good : (s : Shape) → All Labelled (map (pairOf L vel) (gatePairs s L))
   unfolding gatePairs
   links-good s = each-good (gatePairsAt s L) (upto (length L) 0) (at-good s)
 

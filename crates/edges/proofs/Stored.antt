@@ -10,12 +10,12 @@ use Rattle.lists.proofs.SeqLaws.{map-append}
 use Rattle.edges.specs.Inside.GatePairs.{GatePair, stored, AddsPairs}
 
 module _ {A : Type 0} where
-  pub put-append : (w : List A) (b : ℕ) (us vs : List A) → put (put w b us) (b + length us) vs ≡ put w b (us ++ vs)
+  put-append : (w : List A) (b : ℕ) (us vs : List A) → put (put w b us) (b + length us) vs ≡ put w b (us ++ vs)
   unfolding put
   put-append w b [] vs = ap (λ (x : ℕ). put w x vs) (omega arith)
   put-append w b (u ∷ us) vs = ap (λ (x : ℕ). put (put (set w b u) (suc b) us) x vs) (omega arith) ∙ put-append (set w b u) (suc b) us vs
 
-  pub put-swap : (w : List A) (a : ℕ) (us : List A) (b : ℕ) (vs : List A) → a + length us ≤ b → put (put w a us) b vs ≡ put (put w b vs) a us
+  put-swap : (w : List A) (a : ℕ) (us : List A) (b : ℕ) (vs : List A) → a + length us ≤ b → put (put w a us) b vs ≡ put (put w b vs) a us
   unfolding put
   put-swap w a us b [] h = refl
   put-swap w a us b (v ∷ vs) h = ap (λ (l : List A). put l (suc b) vs) (set-put-above w a us b v h) ∙ put-swap (set w b v) a us (suc b) vs (omega arith)
@@ -26,15 +26,15 @@ gates ts = map (λ (t : GatePair). t .gate) ts
 abbrev pub fars : List GatePair → List ℕ
 fars ts = map (λ (t : GatePair). t .far) ts
 
-pub length-stored : (w : List ℕ) (n c : ℕ) (ts : List GatePair) → length (stored w n c ts) ≡ length w
+length-stored : (w : List ℕ) (n c : ℕ) (ts : List GatePair) → length (stored w n c ts) ≡ length w
 unfolding stored
 length-stored w n c ts = simp length-put refl
 
-pub stored-one : (w : List ℕ) (n c g h : ℕ) → stored w n c (record { gate = g; far = h } ∷ []) ≡ set (set w (n + c) g) (5 * n + c) h
+stored-one : (w : List ℕ) (n c g h : ℕ) → stored w n c (record { gate = g; far = h } ∷ []) ≡ set (set w (n + c) g) (5 * n + c) h
 unfolding stored put
 stored-one w n c g h = refl
 
-pub stored-append : (w : List ℕ) (n c : ℕ) (xs ys : List GatePair) → c + length xs + length ys ≤ 4 * n → stored (stored w n c xs) n (c + length xs) ys ≡ stored w n c (xs ++ ys)
+stored-append : (w : List ℕ) (n c : ℕ) (xs ys : List GatePair) → c + length xs + length ys ≤ 4 * n → stored (stored w n c xs) n (c + length xs) ys ≡ stored w n c (xs ++ ys)
 unfolding stored
 stored-append w n c xs ys h =
     let lg : length (gates xs) ≡ length xs = length-map xs (λ (t : GatePair). t .gate) in
@@ -49,7 +49,7 @@ stored-append w n c xs ys h =
     ∙ ap (λ (l : List ℕ). put (put w (n + c) l) (5 * n + c) (fars xs ++ fars ys)) (sym (map-append (λ (t : GatePair). t .gate) xs ys))
     ∙ ap (λ (l : List ℕ). put (put w (n + c) (gates (xs ++ ys))) (5 * n + c) l) (sym (map-append (λ (t : GatePair). t .far) xs ys))
 
-pub stored-labels : (w : List ℕ) (n c : ℕ) (ts : List GatePair) → seg (stored w n c ts) 0 n ≡ seg w 0 n
+stored-labels : (w : List ℕ) (n c : ℕ) (ts : List GatePair) → seg (stored w n c ts) 0 n ≡ seg w 0 n
 unfolding stored
 stored-labels w n c ts = seg-put-below (put w (n + c) (gates ts)) (5 * n + c) (fars ts) 0 n (omega arith) ∙ seg-put-below w (n + c) (gates ts) 0 n (omega arith)
 

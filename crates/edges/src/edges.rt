@@ -99,7 +99,7 @@ fn to_bottom(f: Shape, g: usize) -> Seen
 }
 
 // One step.
-pub fn next(f: Shape, d: Direction, g: usize) -> Seen
+fn next(f: Shape, d: Direction, g: usize) -> Seen
     requires { ⌜ Inside f g ⌝ }
     ensures { λ r. ⌜ answer r ≡ next f d g ⌝ }
 {
@@ -112,7 +112,7 @@ pub fn next(f: Shape, d: Direction, g: usize) -> Seen
 }
 
 // How many further steps a look takes.
-pub fn skip(f: Shape, d: Direction) -> usize
+fn skip(f: Shape, d: Direction) -> usize
     ensures { λ r. ⌜ r ≡ skip f d ⌝ }
 {
     match d {
@@ -124,7 +124,7 @@ pub fn skip(f: Shape, d: Direction) -> usize
 }
 
 // The gate that gate g sees.
-pub fn sees(labels: &[u32], f: Shape, d: Direction, g: usize) -> Seen
+fn sees(labels: &[u32], f: Shape, d: Direction, g: usize) -> Seen
     requires { ⌜ Looks f (now labels) g ⌝ }
     ensures { λ r. ⌜ answer r ≡ sees f (now (labels .entry)) d g ⌝ }
 {
@@ -147,7 +147,7 @@ pub fn sees(labels: &[u32], f: Shape, d: Direction, g: usize) -> Seen
 }
 
 // Gate g and the gate that it sees one way, as pair c, if its label is the greater. Gives how many pairs there are then.
-pub fn pair_one(w: &mut [u32], n: usize, f: Shape, d: Direction, g: usize, c: usize) -> usize
+fn pair_one(w: &mut [u32], n: usize, f: Shape, d: Direction, g: usize, c: usize) -> usize
     requires { ⌜ Place f n (now w) g c 1 ⌝ }
     ensures { λ r. ⌜ AddsPairs n (now (w .entry)) (now (w .exit)) c r (gatePairTo (seg (now (w .entry)) 0 n) g (sees f (seg (now (w .entry)) 0 n) d g)) ⌝ }
 {
@@ -164,7 +164,7 @@ pub fn pair_one(w: &mut [u32], n: usize, f: Shape, d: Direction, g: usize, c: us
 }
 
 // The pairs of gate g.
-pub fn pair_gate(w: &mut [u32], n: usize, f: Shape, g: usize, c: usize) -> usize
+fn pair_gate(w: &mut [u32], n: usize, f: Shape, g: usize, c: usize) -> usize
     requires { ⌜ Place f n (now w) g c 4 ⌝ }
     ensures { λ r. ⌜ AddsPairs n (now (w .entry)) (now (w .exit)) c r (gatePairsAt f (seg (now (w .entry)) 0 n) g) ⌝ }
 {
@@ -193,7 +193,7 @@ pub fn pair_all(w: &mut [u32], n: usize, f: Shape) -> usize
 }
 
 // The labels of the m gates from src on, from dst on.
-pub fn labels_of(w: &mut [u32], n: usize, src: usize, m: usize, dst: usize)
+fn labels_of(w: &mut [u32], n: usize, src: usize, m: usize, dst: usize)
     requires { ⌜ Reads (now w) n src m dst ⌝ }
     ensures { λ _. ⌜ now (w .exit) ≡ put (now (w .entry)) dst (labelsOf (now (w .entry)) src m) ⌝ }
 {
@@ -238,7 +238,7 @@ pub struct Labels {
 }
 
 // The i-th of the sorted pairs.
-pub fn pair_at(w: &[u32], vel: &[f32], n: usize, m: usize, i: usize) -> Raw
+fn pair_at(w: &[u32], vel: &[f32], n: usize, m: usize, i: usize) -> Raw
     requires { ⌜ ReadsPairs (now w) (now vel) n m ⌝ }
     requires { ⌜ i < m ⌝ }
     ensures { λ r. ⌜ pairIs r ≡ pairAt (now (w .entry)) (now (vel .entry)) n i ⌝ }
@@ -255,7 +255,7 @@ pub fn pair_at(w: &[u32], vel: &[f32], n: usize, m: usize, i: usize) -> Raw
 }
 
 // A record of one pair.
-pub fn begin(p: Raw) -> EdgeRecord
+fn begin(p: Raw) -> EdgeRecord
     ensures { λ r. ⌜ r ≡ begun (pairIs p) ⌝ }
 {
     EdgeRecord {
@@ -268,7 +268,7 @@ pub fn begin(p: Raw) -> EdgeRecord
 }
 
 // A record with one more pair.
-pub fn go_on(s: EdgeRecord, p: Raw) -> EdgeRecord
+fn go_on(s: EdgeRecord, p: Raw) -> EdgeRecord
     requires { ⌜ s .count + 1 < 2 ^ 32 ⌝ }
     ensures { λ r. ⌜ r ≡ plus s (pairIs p) ⌝ }
 {
@@ -282,7 +282,7 @@ pub fn go_on(s: EdgeRecord, p: Raw) -> EdgeRecord
 }
 
 // The difference of a record.
-pub fn difference(s: EdgeRecord, two_nyquist: f64) -> f64
+fn difference(s: EdgeRecord, two_nyquist: f64) -> f64
     ensures { λ r. ⌜ r ≡ difference «two_nyquist» s ⌝ }
 {
     let y = arithmetic::narrow::to_f32((s.sum1 - s.sum2) / two_nyquist);
@@ -290,7 +290,7 @@ pub fn difference(s: EdgeRecord, two_nyquist: f64) -> f64
 }
 
 // The record written as edge e.
-pub fn put_edge(
+fn put_edge(
     w: &mut [u32],
     d: &mut [f64],
     t: usize,
@@ -310,7 +310,7 @@ pub fn put_edge(
 }
 
 // Whether a pair has a record's labels.
-pub fn same_labels(s: EdgeRecord, p: Raw) -> bool
+fn same_labels(s: EdgeRecord, p: Raw) -> bool
     ensures { λ r. ⌜ r ≡ alike s (pairIs p) ⌝ }
 {
     if s.one != p.one {
@@ -320,7 +320,7 @@ pub fn same_labels(s: EdgeRecord, p: Raw) -> bool
 }
 
 // The i-th pair goes on with the record, or the record is written and another begun.
-pub fn gather_one(
+fn gather_one(
     w: &mut [u32],
     d: &mut [f64],
     vel: &[f32],

@@ -15,13 +15,13 @@ use Rattle.labels.specs.Regions.{Interval, windows, windowsFrom, inside,
 use Rattle.labels.proofs.OverLaws.{over-old, over-new, added-at, added-long}
 
 -- ---- areas over areas over areas
-pub over-over : (k j old mid new : ℕ) → over k old (over j mid new) ≡ over (k + j) (over k old mid) new
+over-over : (k j old mid new : ℕ) → over k old (over j mid new) ≡ over (k + j) (over k old mid) new
 over-over k j old mid new = ⊎-elim
     (λ h. ap (over k old) (over-new j mid new h) ∙ over-new k old (new + j) (omega arith) ∙ omega (arith, over-new (k + j) (over k old mid) new h))
     (λ h. ap (over k old) (over-old j mid new (omega arith)) ∙ sym (over-old (k + j) (over k old mid) new (omega arith)))
     (lt-or-le 0 new)
 
-pub added-assoc : (f g a : Found) → length (g .labels) ≡ length (f .labels) → added f (added g a) ≡ added (added f g) a
+added-assoc : (f g a : Found) → length (g .labels) ≡ length (f .labels) → added f (added g a) ≡ added (added f g) a
 unfolding added
 added-assoc f g a e =
     let m : length ((added (added f g) a) .labels) ≡ length (f .labels) = added-long (added f g) a ∙ added-long f g in
@@ -37,7 +37,7 @@ added-assoc f g a e =
     let n : f .number + (g .number + a .number) ≡ f .number + g .number + a .number = omega arith in
     λ i. record { labels = l i; number = n i }
 
-pub added-nothing : (f : Found) → added f (nothing (length (f .labels))) ≡ f
+added-nothing : (f : Found) → added f (nothing (length (f .labels))) ≡ f
 unfolding added nothing
 added-nothing f =
     let z : Found = nothing (length (f .labels)) in

@@ -31,11 +31,11 @@ module _ (gates : ℕ) (iv : List ℕ) where
   unfolding joint
   rooted = rooted-all (laterIn gates iv 0) (laterIn gates iv 0) (own (marks iv)) (λ l m. m) (rooted-own (laterIn gates iv 0) (marks iv))
 
-  pub root-self : (i r : ℕ) → getD (joint gates iv) i 0 ≡ suc r → getD (joint gates iv) r 0 ≡ suc r
+  root-self : (i r : ℕ) → getD (joint gates iv) i 0 ≡ suc r → getD (joint gates iv) r 0 ≡ suc r
   unfolding joint
   root-self i r e = sym (joined-one-root (laterIn gates iv 0) (own (marks iv)) i r (rooted i r e .0)) ∙ e
 
-  pub one-root : (i h r : ℕ) → getD (joint gates iv) i 0 ≡ suc r → getD (joint gates iv) h 0 ≡ suc r → Joined (laterIn gates iv 0) i h
+  one-root : (i h r : ℕ) → getD (joint gates iv) i 0 ≡ suc r → getD (joint gates iv) h 0 ≡ suc r → Joined (laterIn gates iv 0) i h
   one-root i h r e f = joined-trans (laterIn gates iv 0) i r h (rooted i r e .0) (joined-sym (laterIn gates iv 0) h r (rooted h r f .0))
 
   root-in : (i r j : ℕ) → getD (joint gates iv) i 0 ≡ suc r → getD iv i 0 ≡ suc j → In (suc r) (firsts (part iv (joint gates iv) j))
@@ -48,7 +48,7 @@ module _ (gates : ℕ) (iv : List ℕ) where
       keep-in (λ q. eqb (getD P (q - 1) 0) q) (suc r) (upto (length P) 1) (eq-eqb (getD P (suc r - 1) 0) (suc r) (ap (λ (y : ℕ). getD P y 0) k ∙ at)) (upto-in (length P) 1 (suc r) (omega arith) (omega (arith, in-length P r r at)))
 
   -- two gates of one band whose roots have one rank are joined
-  pub same-rank : (i h r s j : ℕ) → getD (joint gates iv) i 0 ≡ suc r → getD (joint gates iv) h 0 ≡ suc s → getD iv i 0 ≡ suc j → getD iv h 0 ≡ suc j
+  same-rank : (i h r s j : ℕ) → getD (joint gates iv) i 0 ≡ suc r → getD (joint gates iv) h 0 ≡ suc s → getD iv i 0 ≡ suc j → getD iv h 0 ≡ suc j
       → rank (firsts (part iv (joint gates iv) j)) (suc r) ≡ rank (firsts (part iv (joint gates iv) j)) (suc s) → Joined (laterIn gates iv 0) i h
   same-rank i h r s j e f b d q = one-root i h r e (f ∙ ap suc (sym (equal (decide r s))))
     where
@@ -83,7 +83,7 @@ module _ (gates : ℕ) (vel : List Float) (mask : List ℕ) (limits : List Float
       ∙ ap (λ (t : Bool). cond t 0 (getD starts (getD iv i 0 - 1) 0 + rank (firsts (part iv (joint gates iv) (getD iv i 0 - 1))) (getD (joint gates iv) i 0))) (eq-eqb (getD iv i 0) 0 z)
 
   -- a gate of interval j
-  pub label-some : (i j : ℕ) → i < length mask → getD iv i 0 ≡ suc j → getD ((regions gates vel mask limits) .labels) i 0 ≡ sizes iv (joint gates iv) j + rank (firsts (part iv (joint gates iv) j)) (getD (joint gates iv) i 0)
+  label-some : (i j : ℕ) → i < length mask → getD iv i 0 ≡ suc j → getD ((regions gates vel mask limits) .labels) i 0 ≡ sizes iv (joint gates iv) j + rank (firsts (part iv (joint gates iv) j)) (getD (joint gates iv) i 0)
   unfolding final
   label-some i j l b =
       let k : getD iv i 0 - 1 ≡ j = omega arith in

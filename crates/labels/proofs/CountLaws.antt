@@ -29,7 +29,7 @@ module _ (iv w rs : List ℕ) (F : Forest (marks iv) w rs) where
   pub band-of : (g : ℕ) → (getD w g 0 ≡ 0 → ⊥) → getD iv g 0 ≡ 0 → ⊥
   band-of g n z = not-both (getD (marks iv) g false) (gate-in (marks iv) w rs F g (omega arith)) (marks-out iv g z)
 
-  pub no-band : (g : ℕ) → getD w g 0 ≡ 0 → getD iv g 0 ≡ 0
+  no-band : (g : ℕ) → getD w g 0 ≡ 0 → getD iv g 0 ≡ 0
   no-band g e = ⊎-elim (λ z. z) (λ n. absurd (bad (F .parent g (marks-in iv g n) .some))) (eq-or-ne (getD iv g 0) 0)
     where
       bad : 0 < getD w g 0 → ⊥
@@ -46,7 +46,7 @@ module _ (iv w rs : List ℕ) (F : Forest (marks iv) w rs) where
       let P = F .parent g (gate-in (marks iv) w rs F g (omega arith)) in
       m (omega (arith, F .low (getD w g 0 - 1), P .same, P .not-later))
 
-  pub parent-less : (g : ℕ) → (getD w g 0 ≡ 0 → ⊥) → (getD w g 0 - 1 ≡ g → ⊥) → getD w g 0 - 1 < g
+  parent-less : (g : ℕ) → (getD w g 0 ≡ 0 → ⊥) → (getD w g 0 - 1 ≡ g → ⊥) → getD w g 0 - 1 < g
   parent-less g n m = omega (arith, F .parent g (gate-in (marks iv) w rs F g (omega arith)) .not-later)
 
   pub first-root : (g : ℕ) → (getD w g 0 ≡ 0 → ⊥) → getD w g 0 - 1 ≡ g → getD rs g 0 ≡ suc g
@@ -180,7 +180,7 @@ module _ (iv w rs : List ℕ) (F : Forest (marks iv) w rs) where
               go (suc s) z = sym (N .bands p s z) ∙ N .bands g s (sym q ∙ z)
 
 -- ---- bounds
-pub rank-upto : (rs : List ℕ) (g : ℕ) → g ≤ length rs → rank (firsts rs) g ≤ g
+rank-upto : (rs : List ℕ) (g : ℕ) → g ≤ length rs → rank (firsts rs) g ≤ g
 rank-upto rs zero h = omega (arith, rank-zero rs)
 rank-upto rs (suc g) h = ⊎-elim (λ e. omega (arith, rank-hit rs g h e, rank-upto rs g (omega arith))) (λ n. omega (arith, rank-miss rs g h n, rank-upto rs g (omega arith))) (eq-or-ne (getD rs g 0) (suc g))
 

@@ -121,7 +121,7 @@ lt-le (fin s m e) (fin t n d) (inf true) p q = never q
 lt-le (fin s m e) (fin t n d) (inf false) p q = refl
 lt-le (fin s m e) (fin t n d) (fin r k f) p q = fractions s t r (m * up e) (n * up d) (k * up f) (down e) (down d) (down f) (down-pos e) (down-pos d) (down-pos f) p q
 
-pub lt-irreflexive : (v : Float) → lt v v ≡ true → ⊥
+lt-irreflexive : (v : Float) → lt v v ≡ true → ⊥
 unfolding lt
 lt-irreflexive nan p = never p
 lt-irreflexive (inf true) p = never p

@@ -151,7 +151,7 @@ pub join-keeps : (rs : List ℕ) (l : Neighbours) (i j : ℕ) → getD rs i 0 �
 join-keeps rs l i j e = join-at rs l i ∙ ap (swap (getD rs (l .a) 0) (getD rs (l .b) 0)) e ∙ sym (join-at rs l j)
 
 -- a root after a join, where the greater root was 1 + hi and the lesser 1 + lo
-pub join-cases : (rs : List ℕ) (l : Neighbours) (lo hi i : ℕ) → max (getD rs (l .a) 0) (getD rs (l .b) 0) ≡ suc hi → min (getD rs (l .a) 0) (getD rs (l .b) 0) ≡ suc lo
+join-cases : (rs : List ℕ) (l : Neighbours) (lo hi i : ℕ) → max (getD rs (l .a) 0) (getD rs (l .b) 0) ≡ suc hi → min (getD rs (l .a) 0) (getD rs (l .b) 0) ≡ suc lo
     → ((getD rs i 0 ≡ suc hi) × (getD (join rs l) i 0 ≡ suc lo)) ⊎ ((getD rs i 0 ≡ suc hi → ⊥) × (getD (join rs l) i 0 ≡ getD rs i 0))
 unfolding swap
 join-cases rs l lo hi i p q = go (eqb (getD rs i 0) (max x y)) refl (join-at rs l i)

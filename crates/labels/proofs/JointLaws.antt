@@ -104,7 +104,7 @@ pub by-one : (iv w rs : List ℕ) (ls : List Neighbours) (l : Neighbours) → ls
 by-one iv w rs ls l e F = subst (λ (k : List Neighbours). Forest (marks iv) w (foldl join rs k)) (sym e) F
 
 -- ---- the links that are left
-pub later-none : (gates : ℕ) (iv : List ℕ) (g : ℕ) → length iv ≤ g → laterIn gates iv g ≡ []
+later-none : (gates : ℕ) (iv : List ℕ) (g : ℕ) → length iv ≤ g → laterIn gates iv g ≡ []
 unfolding laterIn upto each
 later-none gates iv g h =
     let e : length iv - g ≡ 0 = omega arith in
@@ -333,7 +333,7 @@ module _ (iv : List ℕ) (j : ℕ) where
         let P = pass (length inside) 0 (own inside) (own (marks iv)) first in
         subst (λ (k : ℕ). Proj (foldl join (own inside) (each (linksAt gates inside) (upto (length inside) 0))) (foldl join (own (marks iv)) (each (linksIn gates iv) (upto k 0)))) (omega arith) P
 
-pub joint-bands : (gates : ℕ) (iv : List ℕ) (inside : List Bool) (j : ℕ) → ((i : ℕ) → getD inside i false ≡ eqb (getD iv i 0) (suc j)) → length inside ≡ length iv → (i r : ℕ) → getD (joint gates iv) i 0 ≡ suc r → getD iv r 0 ≡ getD iv i 0
+joint-bands : (gates : ℕ) (iv : List ℕ) (inside : List Bool) (j : ℕ) → ((i : ℕ) → getD inside i false ≡ eqb (getD iv i 0) (suc j)) → length inside ≡ length iv → (i r : ℕ) → getD (joint gates iv) i 0 ≡ suc r → getD iv r 0 ≡ getD iv i 0
 joint-bands gates iv inside j agree e = whole iv j gates inside agree e .own-band
 
 -- each root is in its band

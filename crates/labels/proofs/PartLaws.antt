@@ -132,7 +132,7 @@ module _ (gates : ℕ) (vel : List Float) (mask : List ℕ) (limits : List Float
   grow-end u k i G h = G .found ∙ ap (regions gates vel mask) (take-all (suc i) limits (omega arith))
 
 -- ---- all intervals at once, in the first words of the slice
-pub first-part : (u ys : List ℕ) (n k : ℕ) → length ys ≡ k → k ≤ length u → n ≤ k → seg (putMid 0 k u ys) 0 n ≡ seg ys 0 n
+first-part : (u ys : List ℕ) (n k : ℕ) → length ys ≡ k → k ≤ length u → n ≤ k → seg (putMid 0 k u ys) 0 n ≡ seg ys 0 n
 unfolding seg
 first-part u ys n k e h l = sym (take-take n k (putMid 0 k u ys) l) ∙ ap (take n) (lent-seg u 0 k ys e (omega arith))
 

@@ -17,7 +17,7 @@ unfoldable pub bit : Bool → ℕ
 bit true = 1
 bit false = 0
 
-pub rank-nil : (r : ℕ) → rank [] r ≡ 0
+rank-nil : (r : ℕ) → rank [] r ≡ 0
 unfolding rank keep
 rank-nil r = refl
 

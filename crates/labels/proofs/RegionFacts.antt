@@ -26,7 +26,7 @@ map-at f (x ∷ xs) zero a b h = refl
 map-at f (x ∷ xs) (suc i) a b h = map-at f xs i a b (omega arith)
 
 -- ---- roots
-pub long-joins : (ls : List Neighbours) (rs : List ℕ) → length (foldl join rs ls) ≡ length rs
+long-joins : (ls : List Neighbours) (rs : List ℕ) → length (foldl join rs ls) ≡ length rs
 long-joins [] rs = refl
 long-joins (l ∷ ls) rs = long-joins ls (join rs l) ∙ length-join rs l
 
@@ -38,7 +38,7 @@ pub roots-long : (gates : ℕ) (ins : List Bool) → length (roots gates ins) �
 unfolding roots
 roots-long gates ins = long-joins (links gates ins) (own ins) ∙ length-own ins
 
-pub roots-out : (gates : ℕ) (ins : List Bool) (i : ℕ) → getD ins i false ≡ false → getD (roots gates ins) i 0 ≡ 0
+roots-out : (gates : ℕ) (ins : List Bool) (i : ℕ) → getD ins i false ≡ false → getD (roots gates ins) i 0 ≡ 0
 unfolding roots
 roots-out gates ins i o = zero-joins (links gates ins) (own ins) i (own-out ins i o)
 
@@ -213,7 +213,7 @@ module _ (gates : ℕ) (vel : List Float) (mask : List ℕ) where
       no : (j : ℕ) → 0 < j → j ≤ 0 → ⊥
       no j p h = omega arith
 
-  pub region-facts : (limits : List Float) → Rising limits → (u : Float) × Facts (regions gates vel mask limits) u
+  region-facts : (limits : List Float) → Rising limits → (u : Float) × Facts (regions gates vel mask limits) u
   unfolding regions windows
   region-facts [] c = (nan, none nan)
   region-facts (x ∷ xs) c = (last-of x xs, all-steps xs x (nothing (length mask)) c (none x))

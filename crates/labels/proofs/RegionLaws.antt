@@ -34,14 +34,14 @@ module _ (gates : ℕ) (vel : List Float) (mask : List ℕ) (limits : List Float
   label-shown = regions-are gates vel mask limits rising .shown
 
   -- a gate with a label is one of the sweep
-  pub labelled-in : (i : ℕ) → 0 < getD ((regions gates vel mask limits) .labels) i 0 → i < length mask
+  labelled-in : (i : ℕ) → 0 < getD ((regions gates vel mask limits) .labels) i 0 → i < length mask
   labelled-in i p = ⊎-elim (λ h. h) (λ h. absurd (none (List·getD-eq-default ((regions gates vel mask limits) .labels) 0 (omega (arith, regions-long gates vel mask limits))))) (lt-or-le i (length mask))
     where
       none : getD ((regions gates vel mask limits) .labels) i 0 ≡ 0 → ⊥
       none z = omega arith
 
   -- and lies in an interval
-  pub labelled-lies : (i : ℕ) → 0 < getD ((regions gates vel mask limits) .labels) i 0 → (j : ℕ) × (suc j < length limits) × Lies vel mask limits j i
+  labelled-lies : (i : ℕ) → 0 < getD ((regions gates vel mask limits) .labels) i 0 → (j : ℕ) × (suc j < length limits) × Lies vel mask limits j i
   labelled-lies i p = go (getD (banded vel mask limits rising .iv) i 0) refl
     where
       go : (b : ℕ) → getD (banded vel mask limits rising .iv) i 0 ≡ b → (j : ℕ) × (suc j < length limits) × Lies vel mask limits j i
@@ -73,7 +73,7 @@ module _ (gates : ℕ) (vel : List Float) (mask : List ℕ) (limits : List Float
       (q .0, q .1, joined-way gates vel mask limits (b .iv) (b .are) (q .0) i h (same-label-joined gates vel mask limits (b .iv) (b .are) i h (q .0) (r .0) in-i in-h bi bh (sym e) .1) bi)
 
   -- a gate in an interval has a label
-  pub lies-labelled : (i j : ℕ) → i < length mask → suc j < length limits → Lies vel mask limits j i → 0 < getD ((regions gates vel mask limits) .labels) i 0
+  lies-labelled : (i j : ℕ) → i < length mask → suc j < length limits → Lies vel mask limits j i → 0 < getD ((regions gates vel mask limits) .labels) i 0
   lies-labelled i j h l p =
       let b = banded vel mask limits rising in
       label-pos gates vel mask limits (b .iv) (b .are) i j h (lies-band gates vel mask limits (b .iv) (b .are) i j h l p)

@@ -39,7 +39,7 @@ module _ (limits vel : List Float) (mask iv w : List ℕ) (g b x : ℕ) (S : Spr
   else-where : (i : ℕ) → (i ≡ g → ⊥) → (getD (set iv g b) i 0 ≡ getD iv i 0) × (getD (set w g x) i 0 ≡ getD w i 0)
   else-where i n = (⊎-elim (λ k. absurd (n (k .0))) (λ k. k .1) (at-iv i), ⊎-elim (λ k. absurd (n (k .0))) (λ k. k .1) (at-w i))
 
-  pub spread-step : Spreading limits vel mask (set iv g b) (set w g x) (g + 1)
+  spread-step : Spreading limits vel mask (set iv g b) (set w g x) (g + 1)
   spread-step =
       record {
         long-iv = length-set iv g b ∙ S .long-iv;

@@ -115,11 +115,11 @@ in-append [] m p = inr p
 in-append (y ∷ l) m here = inl here
 in-append (y ∷ l) m (there p) = ⊎-elim (λ q. inl (there q)) inr (in-append l m p)
 
-pub in-left : {A : Type 0} {x : A} (l m : List A) → In x l → In x (l ++ m)
+in-left : {A : Type 0} {x : A} (l m : List A) → In x l → In x (l ++ m)
 in-left l m (here {xs = xs}) = here
 in-left l m (there {xs = xs} p) = there (in-left xs m p)
 
-pub in-right : {A : Type 0} {x : A} (l m : List A) → In x m → In x (l ++ m)
+in-right : {A : Type 0} {x : A} (l m : List A) → In x m → In x (l ++ m)
 in-right [] m p = p
 in-right (y ∷ l) m p = there (in-right l m p)
 
@@ -128,7 +128,7 @@ unfolding each
 in-each f y [] p = absurd (no-in [] p refl)
 in-each f y (x ∷ l) p = ⊎-elim (λ q. (x, q)) (λ q. in-each f y l q) (in-append (f x) (each f l) p)
 
-pub each-in : {A B : Type 0} (f : A → List B) (x : A) (y : B) (l : List A) → In x l → In y (f x) → In y (each f l)
+each-in : {A B : Type 0} (f : A → List B) (x : A) (y : B) (l : List A) → In x l → In y (f x) → In y (each f l)
 unfolding each
 each-in f x y l (here {xs = xs}) q = in-left (f x) (each f xs) q
 each-in f x y l (there {y = z} {xs = xs} p) q = in-right (f z) (each f xs) (each-in f x y xs p q)
@@ -188,7 +188,7 @@ module _ (gates : ℕ) (iv : List ℕ) where
 
 -- ---- in sweeps
 module _ (gates : ℕ) (vel : List Float) (mask : List ℕ) (limits : List Float) (iv : List ℕ) (B : Bands limits vel mask iv) where
-  pub in-sweep : (i j : ℕ) → getD iv i 0 ≡ suc j → i < length mask
+  in-sweep : (i j : ℕ) → getD iv i 0 ≡ suc j → i < length mask
   in-sweep i j e = ⊎-elim (λ h. h) (λ h. absurd (none (List·getD-eq-default iv 0 (omega (arith, B .long))))) (lt-or-le i (length mask))
     where
       none : getD iv i 0 ≡ 0 → ⊥

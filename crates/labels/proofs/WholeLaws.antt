@@ -24,7 +24,7 @@ module _ (gates : ℕ) (vel : List Float) (mask : List ℕ) (limits : List Float
   few : sizes iv (joint gates iv) (length limits - 1) ≤ length w
   few = omega (arith, number-is gates vel mask limits iv B, regions-are gates vel mask limits rising .few)
 
-  pub tally-room : (c : List ℕ) → length c ≡ length limits - 1 → Tally iv w c
+  tally-room : (c : List ℕ) → length c ≡ length limits - 1 → Tally iv w c
   tally-room c e =
       record {
         treed = record { rs = joint gates iv; forest = F; small = small };
@@ -32,7 +32,7 @@ module _ (gates : ℕ) (vel : List Float) (mask : List ℕ) (limits : List Float
         fits = omega (arith, few, ap (sizes iv (joint gates iv)) e);
       }
 
-  pub number-room : (c : List ℕ) → length c ≡ length limits - 1 → ((j : ℕ) → j < length c → getD c j 0 ≡ sizes iv (joint gates iv) j) → NumbersGates w iv c
+  number-room : (c : List ℕ) → length c ≡ length limits - 1 → ((j : ℕ) → j < length c → getD c j 0 ≡ sizes iv (joint gates iv) j) → NumbersGates w iv c
   number-room c e s =
       record {
         rs = joint gates iv;

@@ -9,7 +9,7 @@ use lib.Ieee.{Float, nan}
 use lib.ListN.{length, getD, drop}
 use Rattle.labels.specs.Regions.{windows, windowsFrom}
 
-pub windows-suc : (l : List Float) (j : ℕ) → suc j < length l → windows (drop j l) ≡ record { lower = getD l j nan; upper = getD l (suc j) nan } ∷ windows (drop (suc j) l)
+windows-suc : (l : List Float) (j : ℕ) → suc j < length l → windows (drop j l) ≡ record { lower = getD l j nan; upper = getD l (suc j) nan } ∷ windows (drop (suc j) l)
 unfolding windows windowsFrom
 windows-suc [] j h = absurd (not-suc-le-zero h)
 windows-suc (x ∷ []) zero h = absurd (bad h)

@@ -1,4 +1,5 @@
 -- What internal contracts need: representation, invariants, and the records that a `requires` names.
+pub mod Areas
 pub mod Bands
 pub mod Forest
 pub mod Numbering

@@ -1,4 +1,4 @@
--- label.rs: the 4-connected areas of a set of gates, numbered from 1 by their first gate in scan order. No wrap. Definitions only.
+-- label.rs: the 4-connected areas of a set of gates, numbered from 1 by their first gate in scan order. No wrap.
 use Prim.Native.Nat.{ℕ, suc, _-_, _%_, min, max}
 use mathlib.Core.Bool.{Bool, false, cond, not, _&&_}
 use mathlib.Core.List.{List, [], _∷_, _++_, map, foldl}

@@ -1,4 +1,4 @@
--- regions.rs: the areas of each interval, numbered on from one interval to the next. Definitions only.
+-- regions.rs: the areas of each interval, numbered on from one interval to the next.
 use Prim.Native.Nat.{ℕ, zero, suc, _+_}
 use mathlib.Core.Bool.{Bool, _&&_}
 use mathlib.Core.List.{List, [], _∷_, foldl}

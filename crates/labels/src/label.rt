@@ -3,17 +3,18 @@
 // A band is 0 for a gate in no interval; gates are joined within their band.
 ghost use mathlib.Core.Path.{_≡_};
 ghost use mathlib.Core.Bool.{Bool};
-ghost use mathlib.Core.List.{List, foldl};
-ghost use Prim.Native.Nat.{ℕ, suc, _+_, _≤_, _<_, _^_};
+ghost use mathlib.Core.List.{List};
+ghost use Prim.Native.Nat.{ℕ, _+_, _≤_, _<_, _^_};
 ghost use lib.ListN.{length, getD, replicate};
 ghost use Rattle.labels.specs.Label.{join};
 ghost use Rattle.labels.specs.Inside.Forest.{Forest, Some, Gate, Root};
-ghost use Rattle.labels.specs.Inside.Bands.{marks, aboveIn, beforeIn, linksIn, laterIn, Treed};
-ghost use Rattle.labels.specs.Inside.Numbering.{CountedBefore, Numbering, Ahead, NumbersGates};
+ghost use Rattle.labels.specs.Inside.Areas.{JoinsAreas, CountsGate, CountsGates, LabelsGate, LabelsGates};
+ghost use Rattle.labels.specs.Inside.Bands.{aboveIn, beforeIn, linksIn, laterIn, Treed};
+ghost use Rattle.labels.specs.Inside.Numbering.{Ahead, NumbersGates};
 ghost use Rattle.labels.specs.Inside.Sheet.{bandsOf, wordsOf, countsOf, WordsDiffer, CountersDiffer};
 
 // The first gate of the area of gate `start`. Halves the path there.
-pub fn find(w: &mut [u32], start: u32) -> u32
+fn find(w: &mut [u32], start: u32) -> u32
     requires { ⌜ Some (now w) ⌝ }
     requires { ⌜ Gate (now w) start ⌝ }
     ensures { λ r. ⌜ ((inside : List Bool) (rs : List ℕ) → Forest inside (now (w .entry)) rs → Root inside (now (w .exit)) rs start r) ⌝ }
@@ -30,7 +31,7 @@ pub fn find(w: &mut [u32], start: u32) -> u32
 }
 
 // The areas of the gates `a` and `b` made one.
-pub fn unite(w: &mut [u32], a: u32, b: u32)
+fn unite(w: &mut [u32], a: u32, b: u32)
     requires { ⌜ Some (now w) ⌝ }
     requires { ⌜ Gate (now w) a × Gate (now w) b ⌝ }
     ensures { λ _. ⌜ ((inside : List Bool) (rs : List ℕ) → Forest inside (now (w .entry)) rs → Forest inside (now (w .exit)) (join rs (record { a = a; b = b }))) ⌝ }
@@ -45,11 +46,11 @@ pub fn unite(w: &mut [u32], a: u32, b: u32)
 }
 
 // Gate `g` joined with the gate of the ray before, if both are of one band.
-pub fn link_above(u: &mut [u32], n: usize, gates: u32, g: u32)
+fn link_above(u: &mut [u32], n: usize, gates: u32, g: u32)
     requires { ⌜ Treed (bandsOf (now u) n) (wordsOf (now u) n) ⌝ }
     requires { ⌜ n + n ≤ length (now u) ⌝ }
     requires { ⌜ Gate (bandsOf (now u) n) g ⌝ }
-    ensures { λ _. ⌜ ((rs : List ℕ) → Forest (marks (bandsOf (now (u .entry)) n)) (wordsOf (now (u .entry)) n) rs → Forest (marks (bandsOf (now (u .entry)) n)) (wordsOf (now (u .exit)) n) (foldl join rs (aboveIn gates (bandsOf (now (u .entry)) n) g))) ⌝ }
+    ensures { λ _. ⌜ JoinsAreas (now (u .entry)) (now (u .exit)) n (aboveIn gates (bandsOf (now (u .entry)) n) g) ⌝ }
     ensures { λ _. ⌜ WordsDiffer (now (u .entry)) (now (u .exit)) n ⌝ }
 {
     if g < gates {
@@ -65,11 +66,11 @@ pub fn link_above(u: &mut [u32], n: usize, gates: u32, g: u32)
 }
 
 // And with the gate before on its ray.
-pub fn link_before(u: &mut [u32], n: usize, gates: u32, g: u32)
+fn link_before(u: &mut [u32], n: usize, gates: u32, g: u32)
     requires { ⌜ Treed (bandsOf (now u) n) (wordsOf (now u) n) ⌝ }
     requires { ⌜ (n + n ≤ length (now u)) × (0 < gates) ⌝ }
     requires { ⌜ Gate (bandsOf (now u) n) g ⌝ }
-    ensures { λ _. ⌜ ((rs : List ℕ) → Forest (marks (bandsOf (now (u .entry)) n)) (wordsOf (now (u .entry)) n) rs → Forest (marks (bandsOf (now (u .entry)) n)) (wordsOf (now (u .exit)) n) (foldl join rs (beforeIn gates (bandsOf (now (u .entry)) n) g))) ⌝ }
+    ensures { λ _. ⌜ JoinsAreas (now (u .entry)) (now (u .exit)) n (beforeIn gates (bandsOf (now (u .entry)) n) g) ⌝ }
     ensures { λ _. ⌜ WordsDiffer (now (u .entry)) (now (u .exit)) n ⌝ }
 {
     if g % gates == 0 {
@@ -85,11 +86,11 @@ pub fn link_before(u: &mut [u32], n: usize, gates: u32, g: u32)
 }
 
 // Gate `g` joined with both, if it has a band.
-pub fn link(u: &mut [u32], n: usize, gates: u32, g: u32)
+fn link(u: &mut [u32], n: usize, gates: u32, g: u32)
     requires { ⌜ Treed (bandsOf (now u) n) (wordsOf (now u) n) ⌝ }
     requires { ⌜ (n + n ≤ length (now u)) × (0 < gates) ⌝ }
     requires { ⌜ g < n ⌝ }
-    ensures { λ _. ⌜ ((rs : List ℕ) → Forest (marks (bandsOf (now (u .entry)) n)) (wordsOf (now (u .entry)) n) rs → Forest (marks (bandsOf (now (u .entry)) n)) (wordsOf (now (u .exit)) n) (foldl join rs (linksIn gates (bandsOf (now (u .entry)) n) g))) ⌝ }
+    ensures { λ _. ⌜ JoinsAreas (now (u .entry)) (now (u .exit)) n (linksIn gates (bandsOf (now (u .entry)) n) g) ⌝ }
     ensures { λ _. ⌜ WordsDiffer (now (u .entry)) (now (u .exit)) n ⌝ }
 {
     if u[g as usize] == 0 {
@@ -103,7 +104,7 @@ pub fn link(u: &mut [u32], n: usize, gates: u32, g: u32)
 pub fn link_all(u: &mut [u32], n: usize, gates: u32)
     requires { ⌜ Treed (bandsOf (now u) n) (wordsOf (now u) n) ⌝ }
     requires { ⌜ (n + n ≤ length (now u)) × (0 < n → 0 < gates) ⌝ }
-    ensures { λ _. ⌜ ((rs : List ℕ) → Forest (marks (bandsOf (now (u .entry)) n)) (wordsOf (now (u .entry)) n) rs → Forest (marks (bandsOf (now (u .entry)) n)) (wordsOf (now (u .exit)) n) (foldl join rs (laterIn gates (bandsOf (now (u .entry)) n) 0))) ⌝ }
+    ensures { λ _. ⌜ JoinsAreas (now (u .entry)) (now (u .exit)) n (laterIn gates (bandsOf (now (u .entry)) n) 0) ⌝ }
     ensures { λ _. ⌜ WordsDiffer (now (u .entry)) (now (u .exit)) n ⌝ }
 {
     let m = n as u32;
@@ -115,11 +116,11 @@ pub fn link_all(u: &mut [u32], n: usize, gates: u32)
 }
 
 // Gate `g` counted for its band, if it is the first of its area.
-pub fn count_gate(u: &mut [u32], n: usize, g: usize)
+fn count_gate(u: &mut [u32], n: usize, g: usize)
     requires { ⌜ Treed (bandsOf (now u) n) (wordsOf (now u) n) ⌝ }
     requires { ⌜ (g < n) × (n + n ≤ length (now u)) × (getD (bandsOf (now u) n) g 0 ≤ length (countsOf (now u) n)) ⌝ }
     requires { ⌜ ((j : ℕ) → j < length (countsOf (now u) n) → getD (countsOf (now u) n) j 0 + 1 < 2 ^ 32) ⌝ }
-    ensures { λ _. ⌜ ((rs : List ℕ) → Forest (marks (bandsOf (now (u .entry)) n)) (wordsOf (now (u .entry)) n) rs → CountedBefore (bandsOf (now (u .entry)) n) rs (countsOf (now (u .entry)) n) g → CountedBefore (bandsOf (now (u .entry)) n) rs (countsOf (now (u .exit)) n) (g + 1)) ⌝ }
+    ensures { λ _. ⌜ CountsGate (now (u .entry)) (now (u .exit)) n g ⌝ }
     ensures { λ _. ⌜ CountersDiffer (now (u .entry)) (now (u .exit)) n ⌝ }
 {
     let v = u[n + g];
@@ -141,7 +142,7 @@ pub fn count(u: &mut [u32], n: usize)
     requires { ⌜ Treed (bandsOf (now u) n) (wordsOf (now u) n) ⌝ }
     requires { ⌜ (n + n ≤ length (now u)) × ((i : ℕ) → getD (bandsOf (now u) n) i 0 ≤ length (countsOf (now u) n)) ⌝ }
     requires { ⌜ countsOf (now u) n ≡ replicate (length (countsOf (now u) n)) 0 ⌝ }
-    ensures { λ _. ⌜ ((rs : List ℕ) → Forest (marks (bandsOf (now (u .entry)) n)) (wordsOf (now (u .entry)) n) rs → CountedBefore (bandsOf (now (u .entry)) n) rs (countsOf (now (u .exit)) n) n) ⌝ }
+    ensures { λ _. ⌜ CountsGates (now (u .entry)) (now (u .exit)) n ⌝ }
     ensures { λ _. ⌜ CountersDiffer (now (u .entry)) (now (u .exit)) n ⌝ }
 {
     let mut g = 0;
@@ -152,10 +153,10 @@ pub fn count(u: &mut [u32], n: usize)
 }
 
 // The label of gate `g` over its band, where all gates before have theirs.
-pub fn label_gate(u: &mut [u32], n: usize, g: usize)
+fn label_gate(u: &mut [u32], n: usize, g: usize)
     requires { ⌜ n + n ≤ length (now u) ⌝ }
     requires { ⌜ Ahead (wordsOf (now u) n) (bandsOf (now u) n) (countsOf (now u) n) g ⌝ }
-    ensures { λ _. ⌜ ((iv rs c₀ : List ℕ) → Forest (marks iv) (wordsOf (now (u .entry)) n) rs → Numbering iv rs c₀ (bandsOf (now (u .entry)) n) (countsOf (now (u .entry)) n) g → Numbering iv rs c₀ (bandsOf (now (u .exit)) n) (countsOf (now (u .exit)) n) (g + 1)) ⌝ }
+    ensures { λ _. ⌜ LabelsGate (now (u .entry)) (now (u .exit)) n g ⌝ }
     ensures { λ _. ⌜ wordsOf (now (u .exit)) n ≡ wordsOf (now (u .entry)) n ⌝ }
 {
     let v = u[n + g];
@@ -178,7 +179,7 @@ pub fn label_gate(u: &mut [u32], n: usize, g: usize)
 pub fn number(u: &mut [u32], n: usize)
     requires { ⌜ n + n ≤ length (now u) ⌝ }
     requires { ⌜ NumbersGates (wordsOf (now u) n) (bandsOf (now u) n) (countsOf (now u) n) ⌝ }
-    ensures { λ _. ⌜ ((rs : List ℕ) → Forest (marks (bandsOf (now (u .entry)) n)) (wordsOf (now (u .entry)) n) rs → ((i r : ℕ) → getD rs i 0 ≡ suc r → getD (bandsOf (now (u .entry)) n) r 0 ≡ getD (bandsOf (now (u .entry)) n) i 0) → Numbering (bandsOf (now (u .entry)) n) rs (countsOf (now (u .entry)) n) (bandsOf (now (u .exit)) n) (countsOf (now (u .exit)) n) n) ⌝ }
+    ensures { λ _. ⌜ LabelsGates (now (u .entry)) (now (u .exit)) n ⌝ }
 {
     let mut g = 0;
     while g < n {

@@ -7,15 +7,16 @@ ghost use mathlib.Core.List.{List, _++_};
 ghost use Prim.Native.Nat.{ℕ, suc, _+_, _*_, _-_, _≤_, _<_, _^_};
 ghost use lib.ListN.{length, getD, replicate};
 ghost use Rattle.arithmetic.specs.Inside.Asked.{Rising};
-ghost use Rattle.labels.specs.Label.{own};
+ghost use Rattle.labels.specs.Label.{own, Found};
 ghost use Rattle.labels.specs.Regions.{within, regions, over, added};
 ghost use Rattle.labels.specs.Inside.Forest.{Forest};
 ghost use Rattle.labels.specs.Inside.Bands.{Band, Bands, marks, joint};
-ghost use Rattle.labels.specs.Inside.Numbering.{sizes, Tally};
+ghost use Rattle.labels.specs.Inside.Numbering.{Tally};
+ghost use Rattle.labels.specs.Inside.Areas.{Tallies, PutsOver};
 ghost use Rattle.labels.specs.Inside.Sheet.{bandsOf, wordsOf, countsOf, CountersDiffer, Same, Fitting, Block, Ample, FindsRegions};
 
 // Whether a valid velocity lies in an interval: at or above its lower limit, below its upper one.
-pub fn holds(lower: f64, upper: f64, x: f32, m: u8) -> bool
+fn holds(lower: f64, upper: f64, x: f32, m: u8) -> bool
     ensures { λ r. ⌜ r ≡ within (record { lower = lower; upper = upper }) x m ⌝ }
 {
     if m != 1 {
@@ -29,7 +30,7 @@ pub fn holds(lower: f64, upper: f64, x: f32, m: u8) -> bool
 }
 
 // The band of a gate, by halving: 1 + the number of the interval that holds it, or 0.
-pub fn band(limits: &[f64], x: f32, m: u8) -> u32
+fn band(limits: &[f64], x: f32, m: u8) -> u32
     requires { ⌜ Rising (now limits) ⌝ }
     requires { ⌜ length (now limits) < 2 ^ 32 ⌝ }
     ensures { λ r. ⌜ Band (now (limits .entry)) x m r ⌝ }
@@ -61,7 +62,7 @@ pub fn band(limits: &[f64], x: f32, m: u8) -> u32
 }
 
 // The first word of a gate in the union-find: itself, or 0 if it has no band.
-pub fn word(b: u32, g: usize) -> u32
+fn word(b: u32, g: usize) -> u32
     requires { ⌜ g + 1 < 2 ^ 32 ⌝ }
     ensures { λ r. ⌜ (b ≡ 0 → r ≡ 0) × ((b ≡ 0 → ⊥) → r ≡ suc g) ⌝ }
 {
@@ -72,7 +73,7 @@ pub fn word(b: u32, g: usize) -> u32
 }
 
 // Every gate's band, and every gate alone.
-pub fn spread(velocity: &[f32], valid: &[u8], limits: &[f64], u: &mut [u32], n: usize)
+fn spread(velocity: &[f32], valid: &[u8], limits: &[f64], u: &mut [u32], n: usize)
     requires { ⌜ Same n (now velocity) (now valid) ⌝ }
     requires { ⌜ n + n ≤ length (now u) ⌝ }
     requires { ⌜ Rising (now limits) ⌝ }
@@ -90,7 +91,7 @@ pub fn spread(velocity: &[f32], valid: &[u8], limits: &[f64], u: &mut [u32], n: 
 }
 
 // Bands, and all gates joined within them.
-pub fn prepare(gates: u32, velocity: &[f32], valid: &[u8], limits: &[f64], u: &mut [u32], n: usize)
+fn prepare(gates: u32, velocity: &[f32], valid: &[u8], limits: &[f64], u: &mut [u32], n: usize)
     requires { ⌜ Same n (now velocity) (now valid) ⌝ }
     requires { ⌜ Fitting gates (now limits) (now u) n ⌝ }
     ensures { λ _. ⌜ Bands (now (limits .entry)) (now (velocity .entry)) (now (valid .entry)) (bandsOf (now (u .exit)) n) ⌝ }
@@ -101,10 +102,10 @@ pub fn prepare(gates: u32, velocity: &[f32], valid: &[u8], limits: &[f64], u: &m
 }
 
 // How many regions the bands before each have, and how many there are.
-pub fn tally(u: &mut [u32], n: usize) -> u32
+fn tally(u: &mut [u32], n: usize) -> u32
     requires { ⌜ n + n ≤ length (now u) ⌝ }
     requires { ⌜ Tally (bandsOf (now u) n) (wordsOf (now u) n) (countsOf (now u) n) ⌝ }
-    ensures { λ r. ⌜ ((rs : List ℕ) → Forest (marks (bandsOf (now (u .entry)) n)) (wordsOf (now (u .entry)) n) rs → (r ≡ sizes (bandsOf (now (u .entry)) n) rs (length (countsOf (now (u .entry)) n))) × ((j : ℕ) → j < length (countsOf (now (u .entry)) n) → getD (countsOf (now (u .exit)) n) j 0 ≡ sizes (bandsOf (now (u .entry)) n) rs j)) ⌝ }
+    ensures { λ r. ⌜ Tallies (now (u .entry)) (now (u .exit)) n r ⌝ }
     ensures { λ _. ⌜ CountersDiffer (now (u .entry)) (now (u .exit)) n ⌝ }
 {
     let a = n + n;
@@ -115,7 +116,7 @@ pub fn tally(u: &mut [u32], n: usize) -> u32
 }
 
 // The regions of all intervals at once: labels in the first n words.
-pub fn at_once(
+fn at_once(
     gates: u32,
     velocity: &[f32],
     valid: &[u8],
@@ -134,7 +135,7 @@ pub fn at_once(
 }
 
 // A label of this block of intervals goes over the old one, counted on from `from`.
-pub fn relabel(from: u32, old: u32, new: u32) -> u32
+fn relabel(from: u32, old: u32, new: u32) -> u32
     requires { ⌜ new + from < 2 ^ 32 ⌝ }
     ensures { λ r. ⌜ r ≡ over from old new ⌝ }
 {
@@ -145,10 +146,10 @@ pub fn relabel(from: u32, old: u32, new: u32) -> u32
 }
 
 // The labels of the second n words put over those of the first n.
-pub fn put_over(u: &mut [u32], n: usize, from: u32)
+fn put_over(u: &mut [u32], n: usize, from: u32)
     requires { ⌜ n + n ≤ length (now u) ⌝ }
     requires { ⌜ ((i : ℕ) → i < n → getD (now u) (n + i) 0 + from < 2 ^ 32) ⌝ }
-    ensures { λ _. ⌜ ((i : ℕ) → i < n → getD (now (u .exit)) i 0 ≡ over from (getD (now (u .entry)) i 0) (getD (now (u .entry)) (n + i) 0)) ⌝ }
+    ensures { λ _. ⌜ PutsOver (now (u .entry)) (now (u .exit)) n from ⌝ }
 {
     let mut g = 0;
     while g < n {
@@ -160,7 +161,7 @@ pub fn put_over(u: &mut [u32], n: usize, from: u32)
 }
 
 // The regions of one block of intervals over what was found before. Gives the last number.
-pub fn block(
+fn block(
     gates: u32,
     velocity: &[f32],
     valid: &[u8],
@@ -172,7 +173,10 @@ pub fn block(
     requires { ⌜ Same n (now velocity) (now valid) ⌝ }
     requires { ⌜ Block gates (now limits) (now u) n ⌝ }
     requires { ⌜ from + (regions gates (now velocity) (now valid) (now limits)) .number < 2 ^ 32 ⌝ }
-    ensures { λ r. ⌜ record { labels = bandsOf (now (u .exit)) n; number = r } ≡ added (record { labels = bandsOf (now (u .entry)) n; number = from }) (regions gates (now (velocity .entry)) (now (valid .entry)) (now (limits .entry))) ⌝ }
+    ensures { λ r. ⌜ (
+        let before : Found = record { labels = bandsOf (now (u .entry)) n; number = from } in
+        record { labels = bandsOf (now (u .exit)) n; number = r } ≡ added before (regions gates (now (velocity .entry)) (now (valid .entry)) (now (limits .entry)))
+        ) ⌝ }
 {
     let e = n + n + n + (limits.len() - 1);
     let r = at_once(gates, velocity, valid, limits, &mut u[n..e], n);
@@ -181,7 +185,7 @@ pub fn block(
 }
 
 // The last limit of the block that starts at limit `i` of `m`: 64 intervals, or those that are left.
-pub fn block_end(i: usize, m: usize) -> usize
+fn block_end(i: usize, m: usize) -> usize
     requires { ⌜ i + 1 < m ⌝ }
     ensures { λ r. ⌜ (i < r) × (r < m) × (r ≤ i + 64) ⌝ }
 {
@@ -192,7 +196,7 @@ pub fn block_end(i: usize, m: usize) -> usize
 }
 
 // Block after block, where there are more intervals than counters.
-pub fn blocks(
+fn blocks(
     gates: u32,
     velocity: &[f32],
     valid: &[u8],
@@ -218,7 +222,7 @@ pub fn blocks(
 }
 
 // How many intervals `m` limits have.
-pub fn spans(m: usize) -> usize
+fn spans(m: usize) -> usize
     ensures { λ r. ⌜ r ≡ m - 1 ⌝ }
 {
     if m == 0 {
@@ -228,7 +232,7 @@ pub fn spans(m: usize) -> usize
 }
 
 // Labels in the first n words: all intervals at once where each has a counter, else block after block.
-pub fn label_gates(
+fn label_gates(
     gates: u32,
     velocity: &[f32],
     valid: &[u8],

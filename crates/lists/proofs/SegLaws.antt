@@ -161,7 +161,7 @@ module _ {A : Type 0} where
   sets-put l i (u ∷ us) = sets-put (set l i u) (suc i) us
 
   -- what a callee that was lent `&mut w[b..e]` leaves, as a `put`
-  pub put-lent : (w : List A) (b : ℕ) (vs : List A) → b + length vs ≤ length w → take b w ++ vs ++ drop (b + length vs) w ≡ put w b vs
+  put-lent : (w : List A) (b : ℕ) (vs : List A) → b + length vs ≤ length w → take b w ++ vs ++ drop (b + length vs) w ≡ put w b vs
   put-lent w b vs h = sym (sets-eq vs w b h) ∙ sets-put w b vs
 
   -- the same, as the borrow checker states it where the part has come back

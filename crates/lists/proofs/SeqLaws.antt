@@ -42,7 +42,7 @@ map-upto-at f zero k i d h = absurd (omega arith)
 map-upto-at f (suc n) k zero d h = ap f (omega arith)
 map-upto-at f (suc n) k (suc i) d h = map-upto-at f n (suc k) i d (omega arith) ∙ ap f (omega arith)
 
-pub map-upto-past : {A : Type 0} (f : ℕ → A) (n k i : ℕ) (d : A) → n ≤ i → getD (map f (upto n k)) i d ≡ d
+map-upto-past : {A : Type 0} (f : ℕ → A) (n k i : ℕ) (d : A) → n ≤ i → getD (map f (upto n k)) i d ≡ d
 unfolding upto
 map-upto-past f zero k i d h = refl
 map-upto-past f (suc n) k zero d h = absurd (omega arith)
@@ -143,7 +143,7 @@ keep-same s t (x ∷ xs) h = rw (h x, keep-same s t xs h) refl
 
 -- ---- each
 
-pub each-append : {A B : Type 0} (f : A → List B) (l m : List A) → each f (l ++ m) ≡ each f l ++ each f m
+each-append : {A B : Type 0} (f : A → List B) (l m : List A) → each f (l ++ m) ≡ each f l ++ each f m
 unfolding each
 each-append f [] m = refl
 each-append f (x ∷ xs) m = ap (λ (t : List _). f x ++ t) (each-append f xs m) ∙ sym (append-assoc (f x) (each f xs) (each f m))

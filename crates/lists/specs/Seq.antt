@@ -1,4 +1,4 @@
--- Lists that every stage uses. Definitions only.
+-- Lists that every stage uses.
 use Prim.Native.Nat.{ℕ, zero, suc, _+_}
 use mathlib.Core.Path.{_≡_}
 use mathlib.Core.Logic.{_⊎_}

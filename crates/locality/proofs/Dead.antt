@@ -56,7 +56,7 @@ norm-find (e ∷ es) x c = go (e .live) refl (norm-find es x c)
     go true h ih = rw (norm-live e h, ih) refl
     go false h ih = rw (norm-dead e h, h) ih
 
-pub norm-choose : (es : List Edge) → choose (map norm es) ≡ choose es
+norm-choose : (es : List Edge) → choose (map norm es) ≡ choose es
 unfolding choose blank better
 norm-choose [] = refl
 norm-choose (e ∷ es) = go (e .live) refl (norm-choose es)
@@ -127,10 +127,3 @@ norm-step s i = ap (λ (o : Option Edge). normS (stepTo o (normS s))) (norm-at (
 -- States that agree but for dead edges
 abbrev pub Agree : State → State → Type 0
 Agree s t = normS s ≡ normS t
-
-pub agree-step : (s t : State) (i : ℕ) → Agree s t → Agree (step s i) (step t i)
-agree-step s t i h = sym (norm-step s i) ∙ ap (λ (u : State). normS (step u i)) h ∙ norm-step t i
-
-pub agree-choose : (s t : State) → Agree s t → choose (s .edges) ≡ choose (t .edges)
-unfolding normS
-agree-choose s t h = sym (norm-choose (s .edges)) ∙ ap (λ (u : State). choose (u .edges)) h ∙ norm-choose (t .edges)

@@ -119,7 +119,7 @@ module _ (p : ℕ → Bool) where
       go true e = rw (sub, e) (ap gathered (keep-same (of a b) (λ x. of a b x && true) ps (λ x. sym (and-true (of a b x)))))
       go false e = unfold gathered in rw (sub, e, keep-none (λ x. of a b x && false) ps (λ x. and-false (of a b x))) refl
 
-  pub records-in : (n : ℕ) (ps : List Pair) → keep recordIn (records n ps) ≡ records n (keep pairIn ps)
+  records-in : (n : ℕ) (ps : List Pair) → keep recordIn (records n ps) ≡ records n (keep pairIn ps)
   unfolding records recordsOf
   records-in n ps = keep-each recordIn _ (upto n 1) ∙ each-same _ _ (upto n 1) (λ b. keep-each recordIn _ (upto n 1) ∙ each-same _ _ (upto n 1) (λ a. cell-in a b ps))
 

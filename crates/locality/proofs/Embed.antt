@@ -32,20 +32,12 @@ pub record Embedding (ρ σ : ℕ → ℕ) (p q : ℕ → Bool) (t s : State) : 
   pub σ-inj : (a b : ℕ) → σ a ≡ σ b → a ≡ b
 
 module _ (ρ σ : ℕ → ℕ) (p q : ℕ → Bool) (t s : State) (m : Embedding ρ σ p q t s) where
-  -- a step inside is the part's step
-  pub step-image : (i : ℕ) → q (σ i) ≡ true → renS ρ σ (step t i) ≡ restrict p q (step s (σ i))
-  step-image i h = sym (step-ren ρ σ (m .ρ-inj) (m .σ-inj) t i) ∙ ap (λ (u : State). step u (σ i)) (m .image) ∙ sym (step-in p q s (m .closed) (σ i) h)
-
-  -- a step outside leaves the part
-  pub step-beside : (i : ℕ) → q i ≡ false → renS ρ σ t ≡ restrict p q (step s i)
-  step-beside i h = m .image ∙ sym (step-out p q s (m .closed) i h)
-
   -- the whole's merges inside are the part's, in order
   pub merges-image : keep q (merges s) ≡ map σ (merges t)
   merges-image = merges-in p q s (m .closed) ∙ ap merges (sym (m .image)) ∙ merges-ren ρ σ (m .ρ-inj) (m .σ-inj) t
 
   -- a list of merges, with whatever merges outside, does inside what the part's list does
-  pub replay-image : (l k : List ℕ) → keep q l ≡ map σ k → restrict p q (replay s l) ≡ renS ρ σ (replay t k)
+  replay-image : (l k : List ℕ) → keep q l ≡ map σ k → restrict p q (replay s l) ≡ renS ρ σ (replay t k)
   replay-image l k h = replay-in p q l s (m .closed) ∙ (rw (h, ← (m .image)) (replay-ren ρ σ (m .ρ-inj) (m .σ-inj) k t))
 
   pub trace-image : (l k : List ℕ) → keep q l ≡ map σ k → keep (eventIn p q) (trace s l) ≡ map (renV ρ σ) (trace t k)

@@ -63,7 +63,7 @@ module _ (s : Sweep) (m : Memory) where
 
 -- ---- the theorems
 
-pub answer-is : AnswerIs
+answer-is : AnswerIs
 answer-is s m a c = ap (λ (x : Answer). x .number) (c ∙ call-ends s m) ∙ number-ends s m (firstMissed s (lengths m)) (workedOn s m)
 
 pub refusal-keeps : RefusalKeeps
@@ -96,7 +96,7 @@ work-cleared s m a c h =
     }
 
 -- a call that answers 0 has an accepted sweep, and the counts it leaves are the sweep's
-pub call-accepts : (s : Sweep) (m : Memory) (a : Answer) → Called s m a → a .number ≡ 0 → Accepted s (a .memory .counts)
+call-accepts : (s : Sweep) (m : Memory) (a : Answer) → Called s m a → a .number ≡ 0 → Accepted s (a .memory .counts)
 unfolding outcome answered
 call-accepts s m a c h = record {
   lent = lengths m;

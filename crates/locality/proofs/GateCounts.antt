@@ -48,9 +48,6 @@ module _ (s : Sweep) (limits : List Float) where
       go true e = unfold ended gateCount in rw (early-counts s f e (at (f .labels) g)) (tab-all (λ g. pos 0) (length (s .mask)) g (pos 0) (λ h. refl) ∙ no-counts (eqb (getD (s .mask) g 0) 1))
       go false e = unfold finished gateCount in tab-all _ (length (s .mask)) g (pos 0) (λ h. rw (List·getD-eq-default (s .mask) 0 h) refl)
 
-  pub masked-counts : (g : ℕ) → eqb (getD (s .mask) g 0) 1 ≡ false → getD (unfolded s limits .counts) g (pos 0) ≡ pos 0
-  masked-counts g h = gate-counts g ∙ masked-zero (unfolded s limits .offset) (regionCount s limits g) (getD (s .mask) g 0) h
-
   pub valid-counts : (g : ℕ) → getD (s .mask) g 0 ≡ 1 → getD (unfolded s limits .counts) g (pos 0) +ℤ unfolded s limits .offset ≡ regionCount s limits g
   unfolding gateCount
   valid-counts g h = ap (λ (z : ℤ). z +ℤ unfolded s limits .offset) (gate-counts g ∙ valid (getD (s .mask) g 0) h) ∙ -ℤ-+ℤ-cancel (regionCount s limits g) (unfolded s limits .offset)

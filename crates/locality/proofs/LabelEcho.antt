@@ -41,7 +41,7 @@ module _ (E t : ℕ → Bool) where
   abbrev Goal : ℕ → List ℕ → List ℕ → Type 0
   Goal r u v = spot (map E u) (below v r) ≡ below u r
 
-  pub trues-kept : (n k : ℕ) → trues (map E (keep t (upto n k))) ≡ length (keep (λ g. E g && t g) (upto n k))
+  trues-kept : (n k : ℕ) → trues (map E (keep t (upto n k))) ≡ length (keep (λ g. E g && t g) (upto n k))
   unfolding keep upto trues
   trues-kept zero k = refl
   trues-kept (suc n) k = go (t k) (E k) refl (trues-kept n (suc k))
@@ -54,7 +54,7 @@ module _ (E t : ℕ → Bool) where
       go false false h ih = ih
 
   -- how many of all are below r is by the flags how many of those in the echo are
-  pub spot-below : (n k r : ℕ) → k ≤ r → r < n + k → t r ≡ true → E r ≡ true
+  spot-below : (n k r : ℕ) → k ≤ r → r < n + k → t r ≡ true → E r ≡ true
       → spot (map E (keep t (upto n k))) (below (keep (λ g. E g && t g) (upto n k)) r) ≡ below (keep t (upto n k)) r
   unfolding upto
   spot-below zero k r h l a e = absurd (omega arith)
@@ -90,7 +90,7 @@ module _ (E t : ℕ → Bool) where
       go false w ih = let q : k < r = omega (arith, eqb-false k r w) in later q (t k) (E k) refl refl (ih q)
 
   -- r's own place is among them, and its flag is the echo's of r
-  pub flag-below : (n k r : ℕ) → k ≤ r → r < n + k → t r ≡ true
+  flag-below : (n k r : ℕ) → k ≤ r → r < n + k → t r ≡ true
       → (below (keep t (upto n k)) r < length (keep t (upto n k))) × (getD (map E (keep t (upto n k))) (below (keep t (upto n k)) r) false ≡ E r)
   unfolding upto
   flag-below zero k r h l a = absurd (omega arith)

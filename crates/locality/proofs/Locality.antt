@@ -85,7 +85,7 @@ module _ (p q : ℕ → Bool) where
 
 module _ (p q : ℕ → Bool) where
   -- The state after a merge list depends only on its two sides.
-  pub replay-same : (l m : List ℕ) → SameSides p q l m → (s : State) → Closed p q s → replay s l ≡ replay s m
+  replay-same : (l m : List ℕ) → SameSides p q l m → (s : State) → Closed p q s → replay s l ≡ replay s m
   unfolding restrict edgeIn regionIn other
   replay-same l m h s c =
       let here : restrict p q (replay s l) ≡ restrict p q (replay s m) = restrict-same p q l m (h .this-side) s c in

@@ -93,7 +93,7 @@ module _ (E : ℕ → Bool) (bs cs : List Bool) (f f′ a a′ : Found) (P : Par
       go zero w = omega (arith, trues-append bs cs, P .bound′ g)
       go (suc m) w = omega (arith, trues-append bs cs, Q .bound′ g, P .number′)
 
-  pub added-parts : Parts E (bs ++ cs) (added f a) (added f′ a′)
+  added-parts : Parts E (bs ++ cs) (added f a) (added f′ a′)
   added-parts = record {
     number = unfold added in omega (arith, P .number, Q .number, length-append bs cs);
     number′ = unfold added in omega (arith, P .number′, Q .number′, trues-append bs cs);
@@ -106,7 +106,7 @@ module _ (E : ℕ → Bool) (bs cs : List Bool) (f f′ a a′ : Found) (P : Par
 
 -- ---- all intervals
 
-pub inside-at : (vel : List Float) (mask : List ℕ) (i : Interval) (g : ℕ) → getD (inside vel mask i) g false ≡ within i (getD vel g nan) (getD mask g 0)
+inside-at : (vel : List Float) (mask : List ℕ) (i : Interval) (g : ℕ) → getD (inside vel mask i) g false ≡ within i (getD vel g nan) (getD mask g 0)
 unfolding inside within
 inside-at vel mask i g = tab-all (λ g. within i (getD vel g nan) (getD mask g 0)) (length mask) g false (λ h. rw (List·getD-eq-default mask 0 h) refl)
 
@@ -182,10 +182,6 @@ module _ (gates : ℕ) (vel : List Float) (mask : List ℕ) where
   after-length : (ws : List Interval) (f : Found) → length (f .labels) ≡ length mask → length (after f ws .labels) ≡ length mask
   after-length [] f h = h
   after-length (i ∷ ws) f h = after-length ws (grow gates vel mask f i) (grow-length f i h)
-
-  pub regions-length : (limits : List Float) → length (regions gates vel mask limits .labels) ≡ length mask
-  unfolding regions
-  regions-length limits = after-length (windows limits) (nothing (length mask)) nothing-length
 
   pub regions-valid : (limits : List Float) (g : ℕ) → 0 < at (regions gates vel mask limits .labels) g → eqb (getD mask g 0) 1 ≡ true
   unfolding regions nothing

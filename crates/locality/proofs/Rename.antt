@@ -35,7 +35,7 @@ module _ (ρ σ : ℕ → ℕ) where
   unfoldable pub renV : Event → Event
   renV v = record { edge = σ (v .edge); live = v .live; number = v .number; gain = v .gain; base = map ρ (v .base); moved = map ρ (v .moved); counts = v .counts }
 
-  pub choose-ren : (es : List Edge) → choose (map renE es) ≡ Option·map renE (choose es)
+  choose-ren : (es : List Edge) → choose (map renE es) ≡ Option·map renE (choose es)
   unfolding choose better renE
   choose-ren [] = refl
   choose-ren (e ∷ es) = rw (choose-ren es) (go (choose es))

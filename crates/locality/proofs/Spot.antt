@@ -63,7 +63,7 @@ trues-append (true ∷ bs) cs = omega (arith, trues-append bs cs)
 trues-append (false ∷ bs) cs = trues-append bs cs
 
 -- the true places are the spots
-pub spots-kept : (t : ℕ → Bool) (ρ : ℕ → ℕ) (bs : List Bool) (k m : ℕ) → ((i : ℕ) → i < length bs → t (k + i) ≡ getD bs i false) → ((i : ℕ) → ρ (m + i) ≡ k + spot bs i)
+spots-kept : (t : ℕ → Bool) (ρ : ℕ → ℕ) (bs : List Bool) (k m : ℕ) → ((i : ℕ) → i < length bs → t (k + i) ≡ getD bs i false) → ((i : ℕ) → ρ (m + i) ≡ k + spot bs i)
     → keep t (upto (length bs) k) ≡ map ρ (upto (trues bs) m)
 unfolding keep upto trues spot
 spots-kept t ρ [] k m h r = refl

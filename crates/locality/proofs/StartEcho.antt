@@ -46,7 +46,7 @@ module _ (p : ℕ → Bool) (w : Float) where
   alone-ok q k [] = tt
   alone-ok q k (n ∷ ns) = (refl, alone-ok q (suc k) ns)
 
-  pub closed-start : (rs : List EdgeRecord) (ns : List ℕ) → Unjoined p rs → Closed p (edgeSide p rs) (start w rs ns)
+  closed-start : (rs : List EdgeRecord) (ns : List ℕ) → Unjoined p rs → Closed p (edgeSide p rs) (start w rs ns)
   unfolding start
   closed-start rs ns t = record { edges-ok = numbered-ok (edgeSide p rs) 0 rs (λ i. ap (edgeSide p rs) (zero-plus i)) t; regions-ok = alone-ok (edgeSide p rs) 1 ns }
 

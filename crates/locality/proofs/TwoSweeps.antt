@@ -49,7 +49,7 @@ module _ (E : ℕ → Bool) (s t : Sweep) (a : Alike E s t) (long : length (s .m
   }
 
   -- the uncentred counts
-  pub same-uncentred : (limits : List Float) → ApartBy E s limits → ApartBy E t limits → (g : ℕ) → E g ≡ true → regionCount s limits g ≡ regionCount t limits g
+  same-uncentred : (limits : List Float) → ApartBy E s limits → ApartBy E t limits → (g : ℕ) → E g ≡ true → regionCount s limits g ≡ regionCount t limits g
   same-uncentred limits p q g e = key E s limits p g e ∙ ap (λ (u : Sweep). regionCount u limits g) only-same ∙ sym (key E t limits q g e)
 
   module _ (limits : List Float) (p : ApartBy E s limits) (q : ApartBy E t limits) where

@@ -1,5 +1,5 @@
 -- Demand 3, stated: merge lists, and two sweeps alike on an echo. An echo is any set of gates, given as a test of gate numbers. Words in
--- quotes are the scope document's. `merge-lists` and `two-sweeps` prove the two statements. Definitions and statements only.
+-- quotes are the scope document's. `merge-lists` and `two-sweeps` prove the two statements.
 use Prim.Native.Nat.{ℕ, _<_}
 use mathlib.Core.Path.{_≡_}
 use mathlib.Core.Bool.{Bool, true, false, cond, not, _&&_, _||_}

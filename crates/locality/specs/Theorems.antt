@@ -1,5 +1,5 @@
 -- What a caller of `jivakkol_dealias_sweep` may rely on, from its contract alone: s is the sweep that the call's parameters are, m all memory
--- lent at entry, a the answer and all memory lent at exit. EntryTheorems proves each. Statements only.
+-- lent at entry, a the answer and all memory lent at exit. EntryTheorems proves each.
 use Prim.Native.Nat.{ℕ, _<_}
 use mathlib.Core.Path.{_≡_}
 use mathlib.Core.Bool.{Bool, true, false}

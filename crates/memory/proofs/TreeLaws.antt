@@ -27,7 +27,7 @@ pub record Picked (w : List ℕ) (i j r : ℕ) : Type 0 where
   pub over-i : Beats w r i
   pub over-j : Beats w r j
 
-pub picked : (w : List ℕ) (i j : ℕ) → Picked w i j (pick (getD w i 0) (getD w j 0) i j)
+picked : (w : List ℕ) (i j : ℕ) → Picked w i j (pick (getD w i 0) (getD w j 0) i j)
 unfolding pick
 picked w i j = go (ltb (getD w j 0) (getD w i 0)) refl (ltb (getD w i 0) (getD w j 0)) refl (ltb i j) refl
   where
@@ -130,7 +130,7 @@ module _ (m : ℕ) (w : List ℕ) (lo dirty k v : ℕ) (h : Played m w lo dirty)
   leaf-kept x p = kept (m + (m + x)) (λ r. omega arith) ∙ h .leaf x p
 
 -- a game on the way up
-pub play-step : (m : ℕ) (w : List ℕ) (k v : ℕ) → Dirty m w k → 1 ≤ k → k < m
+play-step : (m : ℕ) (w : List ℕ) (k v : ℕ) → Dirty m w k → 1 ≤ k → k < m
     → v ≡ pick (getD w (getD w (m + 2 * k) 0) 0) (getD w (getD w (m + 2 * k + 1) 0) 0) (getD w (m + 2 * k) 0) (getD w (m + 2 * k + 1) 0)
     → Dirty m (set w (m + k) v) (k / 2)
 unfolding up
@@ -146,7 +146,7 @@ play-step m w k v h p q e = record {
 }
 
 -- a game while the tree is built
-pub build-step : (m : ℕ) (w : List ℕ) (k v : ℕ) → Played m w (k + 1) 0 → 1 ≤ k → k < m
+build-step : (m : ℕ) (w : List ℕ) (k v : ℕ) → Played m w (k + 1) 0 → 1 ≤ k → k < m
     → v ≡ pick (getD w (getD w (m + 2 * k) 0) 0) (getD w (getD w (m + 2 * k + 1) 0) 0) (getD w (m + 2 * k) 0) (getD w (m + 2 * k + 1) 0)
     → Played m (set w (m + k) v) k 0
 build-step m w k v h p q e = record {
@@ -255,7 +255,7 @@ build-turn m w₀ w k v p a b e = outside m w₀ w (k + 1) 0 k v k 0 p b (build-
 pub play-end : (m : ℕ) (w₀ w : List ℕ) (k : ℕ) → Playing m w₀ w 1 k → k ≤ 0 → Weighed m w₀ w
 play-end m w₀ w k p h = let z : k ≡ 0 = omega arith in record { weights = p .weights; rest = p .rest; long = p .long; tree = rw z at (p .played) }
 
-pub build-end : (m : ℕ) (w₀ w : List ℕ) (k : ℕ) → Playing m w₀ w k 0 → k ≤ 1 → Weighed m w₀ w
+build-end : (m : ℕ) (w₀ w : List ℕ) (k : ℕ) → Playing m w₀ w k 0 → k ≤ 1 → Weighed m w₀ w
 build-end m w₀ w k p h = record {
   weights = p .weights;
   rest = p .rest;

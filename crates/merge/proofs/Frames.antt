@@ -18,10 +18,10 @@ ofEdges u = is weight u || is first u || is second u
 abbrev pub Frame : Tables → Tables → Type 0
 Frame = Alike ofEdges
 
-pub frame-refl : (s : Tables) → Frame s s
+frame-refl : (s : Tables) → Frame s s
 frame-refl = alike-refl ofEdges
 
-pub frame-then : (s t u : Tables) → Frame s t → Frame t u → Frame s u
+frame-then : (s t u : Tables) → Frame s t → Frame t u → Frame s u
 frame-then = alike-then ofEdges
 
 frame-store : (t : Table) (s : Tables) (j x : ℕ) → ofEdges t ≡ true → Frame (store t s j x) s
@@ -61,7 +61,7 @@ frame-moved m b v g s f = go (eqb (getD (s .at weight) f 0) 0) (eqb (getD (s .at
     go false false true = frame-join m b s f _ _
     go false false false = frame-refl s
 
-pub frame-take : (m b v g : ℕ) (s : Tables) (f : ℕ) → Frame (takeEdge m b v g s f) s
+frame-take : (m b v g : ℕ) (s : Tables) (f : ℕ) → Frame (takeEdge m b v g s f) s
 unfolding takeEdge
 frame-take m b v g s f = go (ltb f m)
   where
@@ -69,7 +69,7 @@ frame-take m b v g s f = go (ltb f m)
     go true = frame-then _ _ _ (frame-moved m b v g (faceAt s f) f) (frame-face s f)
     go false = frame-refl s
 
-pub frame-walk-moved : (k m b v g : ℕ) (s : Tables) (x : ℕ) → Frame (walkMoved k m b v g s x) s
+frame-walk-moved : (k m b v g : ℕ) (s : Tables) (x : ℕ) → Frame (walkMoved k m b v g s x) s
 unfolding walkMoved
 frame-walk-moved zero m b v g s x = frame-refl s
 frame-walk-moved (suc k) m b v g s x = frame-then _ _ _ (frame-walk-moved k m b v g (takeEdge m b v g s (x / 2)) (getD (s .at enext) x 0)) (frame-take m b v g s (x / 2))

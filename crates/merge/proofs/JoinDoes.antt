@@ -18,7 +18,7 @@ use Rattle.merge.proofs.Leaf.{room-of}
 pub join-apart : (m n b : ℕ) (s : Tables) (f c q : ℕ) → Joins m n b s f c → q ≡ mate m b s c → q < m → OtherEdge m q f
 join-apart m n b s f c q j e lt = record { q-in = lt; f-in = j .f-in; apart = λ r. j .other (sym e ∙ r) }
 
-pub join-absorbs : (m n b : ℕ) (s : Tables) (f c q : ℕ) (x : Float) (w : List ℕ) (d : List Float) → q ≡ mate m b s c → q < m → LeavesTables m n w d (absorbAt (faceAt s q) q f x) → LeavesTables m n w d (joinEdge m b s f c x)
+join-absorbs : (m n b : ℕ) (s : Tables) (f c q : ℕ) (x : Float) (w : List ℕ) (d : List Float) → q ≡ mate m b s c → q < m → LeavesTables m n w d (absorbAt (faceAt s q) q f x) → LeavesTables m n w d (joinEdge m b s f c x)
 unfolding joinEdge
 join-absorbs m n b s f c q x w d e lt h = rw (← e, lt-ltb q m lt) h
 

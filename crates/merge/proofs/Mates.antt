@@ -19,7 +19,7 @@ pub record Mate (m b : ℕ) (s : Tables) (c q : ℕ) : Type 0 where
   pub ends : ((getD (s .at first) q 0 ≡ b) × (getD (s .at second) q 0 ≡ c)) ⊎ ((getD (s .at first) q 0 ≡ c) × (getD (s .at second) q 0 ≡ b))
 
 module _ (m b c : ℕ) (s : Tables) where
-  pub joins-is : (q : ℕ) → joinsAt m b c s q ≡ true → Mate m b s c q
+  joins-is : (q : ℕ) → joinsAt m b c s q ≡ true → Mate m b s c q
   unfolding joinsAt
   joins-is q = go (ltb q m) refl (eqb (getD (s .at weight) q 0) 0) refl (eqb (getD (s .at first) q 0) b) refl (eqb (getD (s .at first) q 0) c) refl
     where
@@ -39,7 +39,7 @@ module _ (m b c : ℕ) (s : Tables) where
       }
       go true te false xe false ye false ze h = absurd (true≢false (sym h))
 
-  pub joins-of : (q : ℕ) → Mate m b s c q → (b ≡ c → ⊥) → joinsAt m b c s q ≡ true
+  joins-of : (q : ℕ) → Mate m b s c q → (b ≡ c → ⊥) → joinsAt m b c s q ≡ true
   unfolding joinsAt
   joins-of q t ne = go (t .ends)
     where

@@ -63,7 +63,7 @@ module _ (m n b v g : ℕ) (w : List ℕ) (d : List Float) (r : HoldsTables m n 
       hand-does w₄ d₄ D₄ = record { tables = D₄ .tables ∙ ap (grow b v) (D₃ .tables ∙ ap (splice m b v) went₂); tree = D₄ .tree }
 
 -- ---- merge
-pub raise-keeps : (m n g k : ℕ) (s : Tables) (x : ℕ) (t : Tables) → walkRaise k g s x ≡ some t → x < n → Sound m n s → Sound m n t × CountsDiffer t s
+raise-keeps : (m n g k : ℕ) (s : Tables) (x : ℕ) (t : Tables) → walkRaise k g s x ≡ some t → x < n → Sound m n s → Sound m n t × CountsDiffer t s
 unfolding walkRaise store
 raise-keeps m n g zero s x t e lt h =
     let q : s ≡ t = Option·some-injective s t e in

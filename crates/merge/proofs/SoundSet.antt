@@ -20,7 +20,7 @@ pub eq-or-ne : (m n : ℕ) → (m ≡ n) ⊎ (m ≡ n → ⊥)
 eq-or-ne m n = by-cases (ℕ-discrete m n) inl inr
 
 -- what holds of each element holds of each after a store
-pub each-set : {A : Type 0} (P : A → Type 0) (l : List A) (k i : ℕ) (x d : A) → k ≤ length l → P x → ((j : ℕ) → j < k → P (getD l j d)) → (j : ℕ) → j < k → P (getD (set l i x) j d)
+each-set : {A : Type 0} (P : A → Type 0) (l : List A) (k i : ℕ) (x d : A) → k ≤ length l → P x → ((j : ℕ) → j < k → P (getD l j d)) → (j : ℕ) → j < k → P (getD (set l i x) j d)
 each-set {A} P l k i x d h px all j lt = ⊎-elim
     (λ e. subst P (sym (ap (λ (y : ℕ). getD (set l i x) y d) e ∙ getD-set-same l i x d (omega arith))) px)
     (λ e. subst P (sym (getD-set-other l i j x d e)) (all j lt))

@@ -20,7 +20,7 @@ use Rattle.merge.proofs.Leaf.{sum-move}
 use Rattle.arithmetic.specs.Rounding.{scale}
 
 -- what the sums and negations give fits an f32
-pub add-ok : (x y : Float) → T (fits binary32 (add binary32 x y))
+add-ok : (x y : Float) → T (fits binary32 (add binary32 x y))
 unfolding add
 add-ok x y = Fits.add-fits binary32 x y
 
@@ -36,7 +36,7 @@ shift-ok b g w x h = go (eqb g 1000)
     go true = h
     go false = add-ok x (cond b (neg (scale w (unbias g))) (scale w (unbias g)))
 
-pub sound-turn : (m n : ℕ) (s : Tables) (f : ℕ) → Sound m n s → f < m → Sound m n (turnAt s f)
+sound-turn : (m n : ℕ) (s : Tables) (f : ℕ) → Sound m n s → f < m → Sound m n (turnAt s f)
 unfolding turnAt store
 sound-turn m n s f h lt =
     let h₁ : Sound m n (store first s f (getD (s .at second) f 0)) = sound-store first m n s h f (getD (s .at second) f 0) refl (h .within second f lt) in
@@ -51,7 +51,7 @@ sound-face m n s f h lt = go (turned s f)
     go true = sound-turn m n s f h lt
     go false = h
 
-pub sound-absorb : (m n : ℕ) (s : Tables) (q f : ℕ) (x : Float) → Sound m n s → q < m → f < m → (q ≡ f → ⊥) → Sound m n (absorbAt s q f x)
+sound-absorb : (m n : ℕ) (s : Tables) (q f : ℕ) (x : Float) → Sound m n s → q < m → f < m → (q ≡ f → ⊥) → Sound m n (absorbAt s q f x)
 unfolding absorbAt store diff-set
 sound-absorb m n s q f x h hq hf ne =
     let h₁ : Sound m n (diff-set s q (add binary32 (getD (s .diff) q nan) x)) = sound-diff m n s h q (add binary32 (getD (s .diff) q nan) x) (add-ok _ x) in
@@ -65,12 +65,12 @@ sound-absorb m n s q f x h hq hf ne =
         let r : Ranges m n (store weight (store weight u q v) f 0) = ranges-store weight m n (store weight u q v) (ranges-store weight m n u (ranges-of m n u h) q v tt) f 0 tt in
         record { lengths = r .lengths; l-diff = h .l-diff; within = r .within; single = h .single; light = k }
 
-pub sound-attach : (m n b : ℕ) (s : Tables) (f c : ℕ) (x : Float) → Sound m n s → f < m → b < n → c < n → T (fits binary32 x) → Sound m n (attachAt b s f c x)
+sound-attach : (m n b : ℕ) (s : Tables) (f c : ℕ) (x : Float) → Sound m n s → f < m → b < n → c < n → T (fits binary32 x) → Sound m n (attachAt b s f c x)
 unfolding attachAt
 sound-attach m n b s f c x h lt hb hc fx =
     sound-diff m n _ (sound-store second m n _ (sound-store first m n s h f b refl hb) f c refl hc) f x fx
 
-pub sound-join : (m n b : ℕ) (s : Tables) (f c : ℕ) (x : Float) → Sound m n s → Joins m n b s f c → T (fits binary32 x) → Sound m n (joinEdge m b s f c x)
+sound-join : (m n b : ℕ) (s : Tables) (f c : ℕ) (x : Float) → Sound m n s → Joins m n b s f c → T (fits binary32 x) → Sound m n (joinEdge m b s f c x)
 unfolding joinEdge
 sound-join m n b s f c x h j fx = go (ltb (mate m b s c) m) refl
   where
@@ -97,7 +97,7 @@ joins-second m n b v g s f h k lt ne e = record {
       ⊎-elim (λ w. ne (sym (w .1) ∙ e)) (λ w. k .apart (sym (w .1) ∙ e)) (t .ends);
 }
 
-pub sound-moved : (m n b v g : ℕ) (s : Tables) (f : ℕ) → Sound m n s → Gains n b v g → f < m → Sound m n (movedEdge m b v g s f)
+sound-moved : (m n b v g : ℕ) (s : Tables) (f : ℕ) → Sound m n s → Gains n b v g → f < m → Sound m n (movedEdge m b v g s f)
 unfolding movedEdge
 sound-moved m n b v g s f h k lt = go (eqb (getD (s .at weight) f 0) 0) (eqb (getD (s .at first) f 0) v) refl (eqb (getD (s .at second) f 0) v) refl
   where

@@ -58,11 +58,6 @@ apart m n t u e = parts-apart 0 (tables m n) (tableWords m n) (in-turn m n) (num
 pub same-table : (t u : Table) → is t u ≡ true → t ≡ u
 same-table (table i) (table k) e = ap table (eqb-true i k e)
 
--- a store into t changes no other table
-pub store-other : (t u : Table) (s : Tables) (j x : ℕ) → is t u ≡ false → store t s j x .at u ≡ s .at u
-unfolding store
-store-other t u s j x e = rw e refl
-
 -- a store keeps the length of every table
 pub length-store : (t u : Table) (s : Tables) (j x : ℕ) → length (store t s j x .at u) ≡ length (s .at u)
 unfolding store

@@ -10,7 +10,8 @@ ghost use Rattle.arithmetic.specs.Rounding.{scale};
 ghost use lib.ListN.{getD};
 ghost use Rattle.merge.specs.Inside.Tables.{Tables, view, HoldsTables, Sound, store};
 ghost use Rattle.merge.specs.Inside.Table.{stamp, rlen};
-ghost use Rattle.merge.specs.Inside.Steps.{unbias, spent, passed, kept, dropAt, pruned, faceAt, joinsAt, seekAll, mate, absorbAt, attachAt, joinEdge, shift, movedEdge, takeEdge, movedAll, walkRaise, splice, grow, handed, merged};
+ghost use Rattle.merge.specs.Inside.Steps.{unbias, spent, passed, kept, dropAt, pruned, faceAt, joinsAt, seekAll, mate, absorbAt, attachAt, joinEdge, shift};
+ghost use Rattle.merge.specs.Inside.Steps.{movedEdge, takeEdge, movedAll, walkRaise, splice, grow, handed, merged};
 ghost use Rattle.merge.specs.Inside.Leaves.{LeavesTables, Raised, Passes, Slots, OtherEdge, Joins, Gains, Fit};
 
 // layout::ZERO, for a signed number.

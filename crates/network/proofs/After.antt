@@ -86,7 +86,7 @@ module _ (m b v : ℕ) (s : Tables) where
   unfolding grow splice store
   after-rlen = refl
 
-  pub sound-splice : (n : ℕ) → b < n → v < n → Sound m n s → Sound m n (splice m b v s)
+  sound-splice : (n : ℕ) → b < n → v < n → Sound m n s → Sound m n (splice m b v s)
   unfolding splice
   sound-splice n hb hv h =
       let h₁ : Sound m n (store enext s (2 * m + b) (getD (s .at enext) (2 * m + v) 0)) = sound-store enext m n s h (2 * m + b) (getD (s .at enext) (2 * m + v) 0) refl (h .within enext (2 * m + v) (omega arith)) in

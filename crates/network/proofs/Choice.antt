@@ -17,7 +17,7 @@ unfoldable pub Numbered : ℕ → List Edge → Type 0
 Numbered k [] = Unit {0}
 Numbered k (e ∷ es) = (e .num ≡ k) × Numbered (suc k) es
 
-pub at-place : (d : Edge) (k : ℕ) (es : List Edge) → Numbered k es → (i : ℕ) → i < length es → getD es i d .live ≡ true → at es (k + i) ≡ some (getD es i d)
+at-place : (d : Edge) (k : ℕ) (es : List Edge) → Numbered k es → (i : ℕ) → i < length es → getD es i d .live ≡ true → at es (k + i) ≡ some (getD es i d)
 unfolding at Numbered
 at-place d k [] t i h l = absurd (omega arith)
 at-place d k (e ∷ es) t zero h l =

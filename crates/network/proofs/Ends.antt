@@ -66,7 +66,7 @@ combine-live es b m e = go (eqb b (e .first)) (eqb m (e .first)) (find es m (e .
     go false true g h r = and-left (e .live) (absent h) r
     go false false g h r = r
 
-pub step-less : (s : State) (i : ℕ) (e : Edge) → at (s .edges) i ≡ some e → alive (step s i .edges) < alive (s .edges)
+step-less : (s : State) (i : ℕ) (e : Edge) → at (s .edges) i ≡ some e → alive (step s i .edges) < alive (s .edges)
 unfolding step stepTo merge mergeEdges joinAll plan planFor
 step-less s i e h = rw h (omega (arith, alive-map (combine fs (pl .base) (pl .moved)) (combine-live fs (pl .base) (pl .moved)) fs, prepare-less pl (s .edges) e (ap (at (s .edges)) (at-num i (s .edges) e h) ∙ h)))
   where

@@ -64,7 +64,7 @@ unfolding used records keep
 used-none n = rw (rows-nil n (upto n 1)) refl
 
 -- regions that are all alone have count 0
-pub count-alone : (k : ℕ) (ns : List ℕ) (a : ℕ) → countOf (alone k ns) a ≡ pos 0
+count-alone : (k : ℕ) (ns : List ℕ) (a : ℕ) → countOf (alone k ns) a ≡ pos 0
 unfolding alone countOf
 count-alone k [] a = refl
 count-alone k (n ∷ ns) a = go (eqb a k) (count-alone (suc k) ns a)

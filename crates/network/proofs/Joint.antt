@@ -115,7 +115,7 @@ module _ (twoNyquist : Float) (k m : ℕ) (L : List ℕ) (ps : List Pair) (s : T
   pub good : (j : ℕ) → j < m → Good k ps (getD (used k ps) j blank)
   good j h = all-place (Good k ps) (used k ps) blank (used-good k ps) j (in-rs j h)
 
-  pub weight-of : (j : ℕ) → j < m → getD (s .at weight) j 0 ≡ getD (used k ps) j blank .count
+  weight-of : (j : ℕ) → j < m → getD (s .at weight) j 0 ≡ getD (used k ps) j blank .count
   weight-of j h = ap (λ (l : List ℕ). getD l j 0) (F .weight) ∙ map-getD (λ (r : EdgeRecord). r .count) (used k ps) j blank 0 (in-rs j h)
 
   pub first-of : (j : ℕ) → j < m → getD (s .at first) j 0 ≡ getD (used k ps) j blank .one
@@ -124,7 +124,7 @@ module _ (twoNyquist : Float) (k m : ℕ) (L : List ℕ) (ps : List Pair) (s : T
   pub second-of : (j : ℕ) → j < m → getD (s .at second) j 0 ≡ getD (used k ps) j blank .two
   second-of j h = ap (λ (l : List ℕ). getD l j 0) (F .second) ∙ map-getD (λ (r : EdgeRecord). r .two) (used k ps) j blank 0 (in-rs j h)
 
-  pub diff-of : (j : ℕ) → j < m → getD (s .diff) j nan ≡ difference twoNyquist (getD (used k ps) j blank)
+  diff-of : (j : ℕ) → j < m → getD (s .diff) j nan ≡ difference twoNyquist (getD (used k ps) j blank)
   diff-of j h =
       sym (getD-seg (s .diff) 0 m j nan h ∙ ap (λ (i : ℕ). getD (s .diff) i nan) (omega arith))
       ∙ ap (λ (l : List Float). getD l j nan) (F .diff) ∙ map-getD (difference twoNyquist) (used k ps) j blank nan (in-rs j h)
@@ -160,7 +160,7 @@ module _ (twoNyquist : Float) (k m : ℕ) (L : List ℕ) (ps : List Pair) (s : T
       (λ h. ⊎-elim (λ g. absurd (not-joined j i g a (joined-back i j e))) (λ g. omega arith) (lt-or-le j i))
       (lt-or-le i j)
 
-  pub tables-simple : Simple (map (edgeOf s) (upto m 0))
+  tables-simple : Simple (map (edgeOf s) (upto m 0))
   tables-simple = record {
     proper = λ e x l r.
         let w : (i : ℕ) × (0 ≤ i) × (i < 0 + m) × (edgeOf s i ≡ e) = upto-mem (edgeOf s) 0 m e x in

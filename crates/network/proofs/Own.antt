@@ -14,7 +14,7 @@ use Rattle.network.specs.Network.{Edge, State, step, better, choose, fol
 use Rattle.network.proofs.Restrict.{edgeIn, restrict, Closed, closed-step, step-in, step-out, replay-in}
 use Rattle.network.proofs.Ends.{alive, alive-length, choose-less, no-choice}
 
-pub run-none : (n : ℕ) (s : State) → choose (s .edges) ≡ none → run n s ≡ []
+run-none : (n : ℕ) (s : State) → choose (s .edges) ≡ none → run n s ≡ []
 unfolding run follow
 run-none zero s h = refl
 run-none (suc n) s h = rw h refl
@@ -123,7 +123,7 @@ module _ (p q : ℕ → Bool) where
   run-step n k s c h w ih x y a b (alone {f} i) = run-outside n k s c h w f b i ih
   run-step n k s c h w ih x y a b (beaten e f i v) = run-outside n k s c h w f b i ih
 
-  pub run-in : (n k : ℕ) (s : State) → Closed p q s → alive (s .edges) ≤ n → alive (restrict p q s .edges) ≤ k → keep q (run n s) ≡ run k (restrict p q s)
+  run-in : (n k : ℕ) (s : State) → Closed p q s → alive (s .edges) ≤ n → alive (restrict p q s .edges) ≤ k → keep q (run n s) ≡ run k (restrict p q s)
   unfolding run keep restrict
   run-in zero k s c h w = sym (run-none k (restrict p q s) (none-in (chosen (s .edges)) (no-choice s h)))
   run-in (suc n) k s c h w = run-step n k s c h w (λ k t. run-in n k t) (choose (restrict p q s .edges)) (choose (s .edges)) refl refl (chosen (s .edges))

@@ -10,7 +10,7 @@ use borrow.Author.Tests.{lt-ltb, le-ltb, eqb-true, eqb-false}
 use Rattle.merge.specs.Inside.Chain.{cur, Chains}
 use Rattle.merge.proofs.Bias.{lt-or-le}
 
-pub pigeon : (n k : ℕ) (f : ℕ → ℕ) → ((i : ℕ) → i < k → f i < n) → ((i j : ℕ) → i < k → j < k → f i ≡ f j → i ≡ j) → k ≤ n
+pigeon : (n k : ℕ) (f : ℕ → ℕ) → ((i : ℕ) → i < k → f i < n) → ((i j : ℕ) → i < k → j < k → f i ≡ f j → i ≡ j) → k ≤ n
 pigeon zero k f below inj = ⊎-elim (λ h. omega arith) (λ h. absurd (omega (arith, below 0 (omega arith)))) (lt-or-le k 1)
 pigeon (suc n) zero f below inj = omega arith
 pigeon (suc n) (suc k) f below inj = omega (arith, pigeon n k (λ i. g (eqb (f i) n) i) (λ i h. at i h (eqb (f i) n) refl) (λ i j hi hj e. one i j hi hj (eqb (f i) n) refl (eqb (f j) n) refl e))

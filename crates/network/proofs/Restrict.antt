@@ -63,7 +63,7 @@ module _ (p q : ℕ → Bool) where
       go true e ih = rw ih refl
       go false e ih = rw (apart p a (r .node) pa (t .0 ∙ e)) (ih ∙ omega arith)
 
-  pub gather-in : {A : Type 0} (f : Region → A) (a : ℕ) → p a ≡ true → (rs : List Region) → All OkR rs → gather f (keep regionIn rs) a ≡ gather f rs a
+  gather-in : {A : Type 0} (f : Region → A) (a : ℕ) → p a ≡ true → (rs : List Region) → All OkR rs → gather f (keep regionIn rs) a ≡ gather f rs a
   unfolding gather keep regionIn
   gather-in f a pa [] t = refl
   gather-in {A} f a pa (r ∷ rs) t = go (p (r .label)) refl (gather-in f a pa rs (t .1))
@@ -81,7 +81,7 @@ module _ (p q : ℕ → Bool) where
   unfolding raised
   raised-in k a pa rs t = gather-in (λ r. r .count +ℤ k) a pa rs t
 
-  pub at-in : (i : ℕ) → q i ≡ true → (es : List Edge) → at (keep edgeIn es) i ≡ at es i
+  at-in : (i : ℕ) → q i ≡ true → (es : List Edge) → at (keep edgeIn es) i ≡ at es i
   unfolding at keep edgeIn
   at-in i qi [] = refl
   at-in i qi (e ∷ es) = go (q (e .num)) refl (at-in i qi es)
@@ -95,7 +95,7 @@ module _ (p q : ℕ → Bool) where
       go true h ih = rw ih refl
       go false h ih = rw (apart q i (e .num) qi h) (ih ∙ sym (nothing (e .live) (some e) (at es i)))
 
-  pub find-in : (x c : ℕ) → p x ≡ true → (es : List Edge) → All OkE es → find (keep edgeIn es) x c ≡ find es x c
+  find-in : (x c : ℕ) → p x ≡ true → (es : List Edge) → All OkE es → find (keep edgeIn es) x c ≡ find es x c
   unfolding find keep edgeIn
   find-in x c px [] t = refl
   find-in x c px (e ∷ es) t = go (q (e .num)) refl (find-in x c px es (t .1))
@@ -305,7 +305,7 @@ module _ (p q : ℕ → Bool) where
           let n : q (e .num) ≡ false = ap q (t .0) ∙ qi in
           merge-out (plan (s .regions) e) (record { edge-out = ap q (plan-edge (s .regions) e) ∙ n; base-out = base-side (s .regions) e (t .1) ∙ n; moved-out = moved-side (s .regions) e (t .1) ∙ n }) s c
 
-  pub event-in : (s : State) → Closed s → (i : ℕ) → q i ≡ true → event (restrict s) i ≡ event s i
+  event-in : (s : State) → Closed s → (i : ℕ) → q i ≡ true → event (restrict s) i ≡ event s i
   unfolding event eventOf restrict
   event-in s c i qi = rw (at-in i qi (s .edges)) (go (at (s .edges) i) refl)
     where

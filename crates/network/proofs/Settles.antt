@@ -34,7 +34,3 @@ settle-run (suc f) t k = go (choose (t .edges)) (settle-run f)
         test false h = refl
         test true h = let z : suc k + length (run f u) ≡ k + suc (length (run f u)) = omega arith in
             h ∙ ap (λ (x : ℕ). cond (all inRange (trace u (run f u))) (some (record { last = replay u (run f u); merges = x })) none) z
-
-pub settle-merges : (m n : ℕ) (gates node : ℕ → ℕ) (s : Rattle.merge.specs.Inside.Tables.Tables) → settle m (stateOf m n gates node s) 0 ≡ outcome (stateOf m n gates node s) (merges (stateOf m n gates node s)) 0
-unfolding merges stateOf
-settle-merges m n gates node s = settle-run m (stateOf m n gates node s) 0 ∙ ap (λ (x : ℕ). outcome (stateOf m n gates node s) (run x (stateOf m n gates node s)) 0) (sym (map-upto-length (Rattle.network.specs.Inside.Net.edgeOf s) m 0))

@@ -88,7 +88,7 @@ module _ (m n : ℕ) (s : Tables) (lens₀ : Lengths m n s) (raw : Raw m n s) (s
   unfolding slots
   enext₂ x h = ap (λ (l : List ℕ). getD l x 0) (G .tables .at enext) ∙ upto-at (2 * m + n) 0 x h ∙ omega arith
 
-  pub linkable : Linkable m n 0 s₂
+  linkable : Linkable m n 0 s₂
   linkable = record {
     first-in = range-of m n s₂ s given₂ (raw .first-in, raw .second-in) .0;
     second-in = range-of m n s₂ s given₂ (raw .first-in, raw .second-in) .1;
@@ -162,11 +162,11 @@ module _ (m n : ℕ) (s : Tables) (lens₀ : Lengths m n s) (raw : Raw m n s) (s
   regions₃ : map (regionOf (gatesIn s₃) (λ x. x) s₃) (upto n 0) ≡ map (rawRegion s) (upto n 0)
   regions₃ = map-upto-same (regionOf (gatesIn s₃) (λ x. x) s₃) (rawRegion s) n 0 (λ r p q. region₃ r (omega arith))
 
-  pub net₃ : firstOf m n s₃ ≡ rawNet m n s
+  net₃ : firstOf m n s₃ ≡ rawNet m n s
   unfolding firstOf stateOf rawNet
   net₃ = λ i. record { edges = edges₃ i; regions = regions₃ i }
 
-  pub gates₃ : gatesIn s₃ ≡ gatesIn s
+  gates₃ : gatesIn s₃ ≡ gatesIn s
   unfolding gatesIn
   gates₃ = fun-ext (λ r. ap (λ (l : List ℕ). getD l r 0) (given₃ .tables .at size))
 
@@ -182,7 +182,7 @@ module _ (m n : ℕ) (s : Tables) (lens₀ : Lengths m n s) (raw : Raw m n s) (s
     light = subst (λ (l : List ℕ). sum l < 2 ^ 32) (sym (given₃ .tables .at weight)) (raw .light);
   }
 
-  pub rep₃ : Rep m n (gatesIn s₃) 0 s₃ (firstOf m n s₃)
+  rep₃ : Rep m n (gatesIn s₃) 0 s₃ (firstOf m n s₃)
   unfolding firstOf stateOf
   rep₃ = record {
     E = edgeOf s₃;

@@ -99,10 +99,10 @@ module _ (twoNyquist : Float) (k m : ℕ) (L : List ℕ) (ps : List Pair) (s : T
 
   -- ---- so the two runs are one
 
-  pub merges-are : merges tables ≡ merges network
+  merges-are : merges tables ≡ merges network
   merges-are = sym (keep-every any-edge (merges tables) (λ i. refl)) ∙ merges-in some-label any-edge tables closed ∙ ap merges restricted
 
-  pub trace-is : trace tables (merges tables) ≡ trace network (merges network)
+  trace-is : trace tables (merges tables) ≡ trace network (merges network)
   trace-is =
       sym (keep-every (eventIn some-label any-edge) (trace tables (merges tables)) (λ v. unfold eventIn in refl))
       ∙ trace-in some-label any-edge (merges tables) tables closed
@@ -132,7 +132,7 @@ module _ (twoNyquist : Float) (k m : ℕ) (L : List ℕ) (ps : List Pair) (s : T
   unfoldable pub ending : Bool → Option Done
   ending b = cond b (some (record { last = replay tables (merges tables); merges = length (merges network) })) none
 
-  pub settle-is : settle m tables 0 ≡ ending (all inRange (trace network (merges network)))
+  settle-is : settle m tables 0 ≡ ending (all inRange (trace network (merges network)))
   unfolding outcome ending merges
   settle-is =
       settle-run m tables 0

@@ -32,12 +32,12 @@ use Rattle.network.proofs.MovedWalk.{begin, Walked, walk, finish}
 use Rattle.merge.proofs.Counts.{CountsDiffer}
 use Rattle.network.proofs.Prepared.{nodes-apart, setting}
 
-pub sound-walk-moved : (m n b v g k : ℕ) (s : Tables) (x : ℕ) → Gains n b v g → Sound m n s → Sound m n (walkMoved k m b v g s x)
+sound-walk-moved : (m n b v g k : ℕ) (s : Tables) (x : ℕ) → Gains n b v g → Sound m n s → Sound m n (walkMoved k m b v g s x)
 unfolding walkMoved
 sound-walk-moved m n b v g zero s x ok h = h
 sound-walk-moved m n b v g (suc k) s x ok h = sound-walk-moved m n b v g k (takeEdge m b v g s (x / 2)) (getD (s .at enext) x 0) ok (sound-take m n b v g s (x / 2) h ok)
 
-pub sound-moved-all : (m n b v g : ℕ) (s : Tables) → Gains n b v g → Sound m n s → Sound m n (movedAll m b v g s)
+sound-moved-all : (m n b v g : ℕ) (s : Tables) → Gains n b v g → Sound m n s → Sound m n (movedAll m b v g s)
 unfolding movedAll
 sound-moved-all m n b v g s ok h = sound-walk-moved m n b v g (getD (s .at elen) v 0 - 1) s (getD (s .at enext) (2 * m + v) 0) ok h
 
@@ -65,7 +65,7 @@ prep-ends pl e = go (eqb (pl .base) (e .second))
         ⊎ ((cond (eqb (pl .moved) (cond x (e .first) (e .second))) (cond x (e .second) (e .first)) (cond x (e .first) (e .second)) ≡ e .first) × (cond (eqb (pl .moved) (cond x (e .first) (e .second))) (cond x (e .first) (e .second)) (cond x (e .second) (e .first)) ≡ e .second))
     go x = two x (eqb (pl .moved) (cond x (e .first) (e .second)))
 
-pub kill-ends : (pl : Plan) (e : Edge) → (kill (pl .edge) e .first ≡ e .first) × (kill (pl .edge) e .second ≡ e .second)
+kill-ends : (pl : Plan) (e : Edge) → (kill (pl .edge) e .first ≡ e .first) × (kill (pl .edge) e .second ≡ e .second)
 unfolding kill
 kill-ends pl e = (refl, refl)
 

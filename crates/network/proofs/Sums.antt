@@ -25,7 +25,7 @@ mixed c g p q = ⊎-elim
     (λ h. rw (unbias-up c p, unbias-down g q) (sub-high (c - 1000) (suc (999 - g)) (omega arith) ∙ ap pos (omega arith) ∙ sym (sub-high (c + g) 2000 h)))
     (lt-or-le (c + g) 2000)
 
-pub unbias-sum : (c g : ℕ) → unbias c +ℤ unbias g ≡ subℕ (c + g) 2000
+unbias-sum : (c g : ℕ) → unbias c +ℤ unbias g ≡ subℕ (c + g) 2000
 unbias-sum c g = ⊎-elim
     (λ p. ⊎-elim
     (λ q. rw (unbias-down c p, unbias-down g q) (ap negsuc (omega arith) ∙ sym (sub-low (c + g) 2000 (omega arith))))

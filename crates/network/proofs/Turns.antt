@@ -11,7 +11,7 @@ use lib.ListN.{length, getD}
 use borrow.Author.Tests.{lt-ltb, le-ltb}
 use Rattle.lists.proofs.AllLaws.{mem-upto}
 use Rattle.lists.proofs.SeqLaws.{map-upto-length, map-upto-at}
-use Rattle.network.specs.Network.{Edge, Region, State, Plan, sizeOf, at, turnIf, plan, planFor, eventOf, event, step, raised, better, choose, quot, bounded, inRange, whole}
+use Rattle.network.specs.Network.{Edge, Region, State, Plan, sizeOf, at, turnIf, plan, planFor, eventOf, event, step, raised, better, choose, quot, bounded, inRange, whole, popped}
 use Rattle.network.proofs.Choice.{Best as Heaviest, best-chosen}
 use Rattle.memory.specs.Inside.Tree.{Tree, Best}
 use Rattle.merge.specs.Inside.Tables.{Tables, view, HoldsTables, Sound}
@@ -38,7 +38,7 @@ use Rattle.merge.proofs.MergeDoes.{raised-true, raised-false}
 use Rattle.network.proofs.NumberIs.{Numbered, number-in, number-out, opposite}
 use Rattle.lists.specs.Seq.{all, upto}
 use Rattle.arithmetic.specs.Rounding.{real, roundEven}
-use Rattle.network.specs.Inside.Popped.{popped, Takes, Pops}
+use Rattle.network.specs.Inside.Popped.{Takes, Pops}
 use Rattle.network.specs.declared.network.Popped.{Popped}
 use Rattle.network.specs.declared.network.PoppedEdge.{PoppedEdge}
 use Rattle.network.specs.declared.network.Popped.the-variants.{Edge as Taken, Nothing}

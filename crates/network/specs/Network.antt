@@ -1,4 +1,5 @@
--- network.rs: regions joined by weighted edges, and the steps that join them into nodes. Definitions only.
+-- network.rs: regions joined by weighted edges, and the steps that join them into nodes.
+-- Letters: e an edge, i or k its number, a a node, b the base, m the moved node, p the plan of a merge, r a region or a record, w a weight.
 use mathlib.Core.Bool.{Bool, true, false, not, _&&_, cond}
 use mathlib.Core.List.{List, [], _∷_, map}
 use mathlib.Core.Option.{Option, none, some}
@@ -14,6 +15,10 @@ use Rattle.arithmetic.specs.declared.rounding.Rounded.the-variants.{Whole, Outs
 use Rattle.edges.specs.Edges.{difference, pairs, used}
 use Rattle.edges.specs.declared.edges.Shape.{Shape}
 use Rattle.edges.specs.declared.edges.EdgeRecord.{EdgeRecord}
+use Rattle.network.specs.declared.network.Popped.{Popped}
+use Rattle.network.specs.declared.network.Popped.the-variants.{Edge as Taken, Nothing}
+
+-- ---- the network
 
 -- An edge's weight and difference: what follows its node when it moves.
 pub record Link : Type 0 where
@@ -40,6 +45,8 @@ pub record State : Type 0 where
   pub edges : List Edge
   pub regions : List Region
 
+-- ---- whole numbers
+
 -- -k ≤ z ≤ k
 unfoldable pub bounded : ℕ → ℤ → Bool
 bounded k (pos n) = leb n k
@@ -49,6 +56,8 @@ bounded k (negsuc n) = ltb n k
 unfoldable pub isZero : ℤ → Bool
 isZero (pos n) = eqb n 0
 isZero (negsuc n) = false
+
+-- ---- nodes
 
 -- The gates of node a.
 unfoldable pub sizeOf : List Region → ℕ → ℕ
@@ -78,6 +87,8 @@ unfoldable pub at : List Edge → ℕ → Option Edge
 at [] i = none
 at (e ∷ es) i = cond (e .live && eqb i (e .num)) (some e) (at es i)
 
+-- ---- what a merge does
+
 -- A rounded number. What is beyond 2 ^ 30 or no number becomes 2000, which question 9 refuses like any number past 1,000.
 unfoldable pub whole : Rounded → ℤ
 whole (Whole z) = z
@@ -106,6 +117,8 @@ planFor first e = record {
 -- What the merge of an edge does: the larger node is the base.
 unfoldable pub plan : List Region → Edge → Plan
 plan rs e = planFor (ltb (sizeOf rs (e .second)) (sizeOf rs (e .first))) e
+
+-- ---- the edges in a merge
 
 -- The chosen edge dies.
 unfoldable pub kill : ℕ → Edge → Edge
@@ -197,6 +210,8 @@ joinAll p es = map (combine es (p .base) (p .moved)) es
 unfoldable pub mergeEdges : Plan → List Edge → List Edge
 mergeEdges p es = joinAll p (map (prepare p) es)
 
+-- ---- a step
+
 -- The moved node's regions gain the number and become the base's.
 unfoldable pub move : Plan → Region → Region
 move p r = record {
@@ -219,6 +234,8 @@ stepTo (some e) s = merge (plan (s .regions) e) s
 unfoldable pub step : State → ℕ → State
 step s i = stepTo (at (s .edges) i) s
 
+-- ---- choosing
+
 -- The heavier of an edge and the choice among those after it; the first at equal weights.
 unfoldable pub better : Edge → Option Edge → Option Edge
 better e none = cond (e .live) (some e) none
@@ -228,6 +245,13 @@ better e (some f) = cond (e .live && leb (f .link .weight) (e .link .weight)) (s
 unfoldable pub choose : List Edge → Option Edge
 choose [] = none
 choose (e ∷ es) = better e (choose es)
+
+-- The answer of choosing: the ends, the difference divided by the weight in f64, and the number of the edge chosen, or none live
+unfoldable pub popped : Option Edge → Popped
+popped none = Nothing
+popped (some e) = Taken (record { node1 = e .first; node2 = e .second; diff = div binary64 (e .link .diff) (real (pos (e .link .weight))); «edge_number» = e .num })
+
+-- ---- the run
 
 -- The numbers chosen from here, rest being the run of a later state.
 unfoldable pub follow : Option Edge → State → (State → List ℕ) → List ℕ
@@ -247,6 +271,8 @@ merges s = run (length (s .edges)) s
 unfoldable pub replay : State → List ℕ → State
 replay s [] = s
 replay s (i ∷ is) = replay (step s i) is
+
+-- ---- what a run finds and does
 
 -- What an entry of a merge list finds and does.
 pub record Event : Type 0 where
@@ -280,6 +306,8 @@ unfoldable pub trace : State → List ℕ → List Event
 trace s [] = []
 trace s (i ∷ is) = event s i ∷ trace (step s i) is
 
+-- ---- counts, and question 9
+
 -- The count of region a; 0 where there is none.
 unfoldable pub countOf : List Region → ℕ → ℤ
 countOf [] a = pos 0
@@ -289,20 +317,22 @@ countOf (r ∷ rs) a = cond (eqb a (r .label)) (r .count) (countOf rs a)
 unfoldable pub inRange : Event → Bool
 inRange v = bounded 1000 (v .number) && all (bounded 1000) (v .counts)
 
--- An edge of number k from its record, w being 2 × Nyquist.
+-- ---- the first network
+
+-- An edge of number k from its record, with 2 × Nyquist.
 unfoldable pub edgeOf : Float → ℕ → EdgeRecord → Edge
-edgeOf w k r = record {
+edgeOf twoNyquist k r = record {
   num = k;
   live = true;
   first = r .one;
   second = r .two;
-  link = record { weight = r .count; diff = difference w r };
+  link = record { weight = r .count; diff = difference twoNyquist r };
 }
 
 -- The edges of records, numbered from k.
 unfoldable pub numbered : Float → ℕ → List EdgeRecord → List Edge
-numbered w k [] = []
-numbered w k (r ∷ rs) = edgeOf w k r ∷ numbered w (suc k) rs
+numbered twoNyquist k [] = []
+numbered twoNyquist k (r ∷ rs) = edgeOf twoNyquist k r ∷ numbered twoNyquist (suc k) rs
 
 -- Regions of these sizes, labelled from k, each a node of its own with count 0.
 unfoldable pub alone : ℕ → List ℕ → List Region
@@ -315,11 +345,11 @@ sizeIn labels l = length (keep (eqb l) labels)
 
 -- The first state: edges numbered from 0, regions from 1.
 unfoldable pub start : Float → List EdgeRecord → List ℕ → State
-start w rs ns = record { edges = numbered w 0 rs; regions = alone 1 ns }
+start twoNyquist rs ns = record { edges = numbered twoNyquist 0 rs; regions = alone 1 ns }
 
--- The network of labelled gates, k being the number of regions and w 2 × Nyquist.
+-- The network of labelled gates, k being the number of regions.
 unfoldable pub networkBy : Float → Shape → ℕ → List ℕ → List Float → State
-networkBy w shape k labels vel = start w (used k (pairs shape labels vel)) (map (sizeIn labels) (upto k 1))
+networkBy twoNyquist shape k labels vel = start twoNyquist (used k (pairs shape labels vel)) (map (sizeIn labels) (upto k 1))
 
 -- Question 9 of every merge.
 unfoldable pub mergesInRange : State → Bool

@@ -30,7 +30,7 @@ pub enum Popped {
 }
 
 // Chooses the heaviest live edge, the lowest number among equals: the tree's winner, as it stands.
-pub fn pop_edge(w: &[u32], d: &[f64], m: usize, n: usize) -> Popped
+fn pop_edge(w: &[u32], d: &[f64], m: usize, n: usize) -> Popped
     requires { ⌜ HoldsTables m n (now w) (now d) ⌝ }
     requires { ⌜ Sound m n (view m n (now w) (now d)) ⌝ }
     requires { ⌜ 0 < m ⌝ }
@@ -151,7 +151,7 @@ pub enum Ran {
     Denied,
 }
 
-pub fn run(w: &mut [u32], d: &mut [f64], m: usize, n: usize) -> Ran
+fn run(w: &mut [u32], d: &mut [f64], m: usize, n: usize) -> Ran
     requires { ⌜ HoldsTables m n (now w) (now d) ⌝ }
     requires { ⌜ Rep m n (gatesIn (view m n (now w) (now d))) 0 (view m n (now w) (now d)) (firstOf m n (view m n (now w) (now d))) ⌝ }
     ensures { λ r. ⌜ RanIs m n (gatesIn (view m n (now (w .entry)) (now (d .entry)))) (settle m (firstOf m n (view m n (now (w .entry)) (now (d .entry)))) 0) (now (w .exit)) (now (d .exit)) r ⌝ }
@@ -221,7 +221,7 @@ fn link_all(w: &mut [u32], d: &mut [f64], m: usize, n: usize)
 }
 
 // The tables before the first merge: each slot a circle of its own, each region too, then the edges' slots linked to their ends.
-pub fn begin(w: &mut [u32], d: &mut [f64], m: usize, n: usize)
+fn begin(w: &mut [u32], d: &mut [f64], m: usize, n: usize)
     requires { ⌜ Space m n (now w) (now d) ⌝ }
     requires { ⌜ Raw m n (view m n (now w) (now d)) ⌝ }
     ensures { λ _. ⌜ Begun m n (view m n (now (w .entry)) (now (d .entry))) (now (w .exit)) (now (d .exit)) ⌝ }

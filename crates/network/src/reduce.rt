@@ -30,6 +30,7 @@ pub fn reduce(
         n + nodes,
         nodes,
     );
+    // label 0 is no region: its count is 0
     w[n + nodes] = layout::ZERO;
     r
 }

@@ -99,14 +99,14 @@ abbrev pub turned : ℤ → ℤ
 turned z = toZ w64 (ofZ w64 (pos 0 -ℤ wide z))
 
 -- what the code asks of a count below 0, and what it gives
-pub record Turned (z : ℤ) : Type 0 where
+pub record Negated (z : ℤ) : Type 0 where
   pub first : SFits w64 (back z)
   pub second : SFits w64 (pos 0 -ℤ wide z)
   pub sign : T (nonNeg (turned z))
   pub fit : Fits w64 (natAbs (turned z))
   pub same : natAbs (turned z) ≡ natAbs z
 
-pub turn-count : (z : ℤ) → SFits w32 z → ltZ (back z) (pos 0) ≡ true → Turned z
+pub turn-count : (z : ℤ) → SFits w32 z → ltZ (back z) (pos 0) ≡ true → Negated z
 turn-count z f h = go z f (subst (λ (y : ℤ). ltZ y (pos 0) ≡ true) (toZ-ofZ w32 z f) h)
   where
     none : (k : ℕ) → ltb k 0 ≡ true → ⊥
@@ -121,7 +121,7 @@ turn-count z f h = go z f (subst (λ (y : ℤ). ltZ y (pos 0) ≡ true) (toZ-ofZ
     held : (k : ℕ) → k < 2 ^ 31 → suc k < 2 ^ 64
     held k h = omega arith
 
-    go : (z : ℤ) → SFits w32 z → ltZ z (pos 0) ≡ true → Turned z
+    go : (z : ℤ) → SFits w32 z → ltZ z (pos 0) ≡ true → Negated z
     go (pos k) f h = absurd (none k h)
     go (negsuc k) f h =
         let z = negsuc k in

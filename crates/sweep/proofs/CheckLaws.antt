@@ -77,11 +77,11 @@ answer-yes {r} e h = sym e ∙ not-false r h
 
 -- ---- each question's yes
 
-pub size-rays : (a b : ℕ) → sizeInRange a b ≡ true → a ≤ 720
+size-rays : (a b : ℕ) → sizeInRange a b ≡ true → a ≤ 720
 unfolding sizeInRange
 size-rays a b h = leb-true a 720 (and-left (leb a 720) (leb b 2000) h)
 
-pub size-gates : (a b : ℕ) → sizeInRange a b ≡ true → b ≤ 2000
+size-gates : (a b : ℕ) → sizeInRange a b ≡ true → b ≤ 2000
 unfolding sizeInRange
 size-gates a b h = leb-true b 2000 (and-right (leb a 720) (leb b 2000) h)
 
@@ -91,17 +91,17 @@ size-product a b n e h = most n (a * b) e (mul-le-mul (size-rays a b h) (size-ga
     most : (n m : ℕ) → n ≡ m → m ≤ 720 * 2000 → n ≤ 1440000
     most n m e h = omega arith
 
-pub mask-bytes : (l : List ℕ) (g : ℕ) → maskIsBits l ≡ true → getD l g 0 ≤ 1
+mask-bytes : (l : List ℕ) (g : ℕ) → maskIsBits l ≡ true → getD l g 0 ≤ 1
 unfolding maskIsBits all
 mask-bytes [] g h = omega arith
 mask-bytes (m ∷ l) zero h = leb-true m 1 (and-left (leb m 1) (all (λ m. leb m 1) l) h)
 mask-bytes (m ∷ l) (suc g) h = mask-bytes l g (and-right (leb m 1) (all (λ m. leb m 1) l) h)
 
 -- all parts of a test that passes
-pub and-three : (a b c : Bool) → (a && b && c) ≡ true → (a ≡ true) × (b ≡ true) × (c ≡ true)
+and-three : (a b c : Bool) → (a && b && c) ≡ true → (a ≡ true) × (b ≡ true) × (c ≡ true)
 and-three a b c h = let ab = and-left (a && b) c h in (and-left a b ab, and-right a b ab, and-right (a && b) c h)
 
-pub and-four : (a b c d : Bool) → (a && b && c && d) ≡ true → (a ≡ true) × (b ≡ true) × (c ≡ true) × (d ≡ true)
+and-four : (a b c d : Bool) → (a && b && c && d) ≡ true → (a ≡ true) × (b ≡ true) × (c ≡ true) × (d ≡ true)
 and-four a b c d h = let p = and-three a b c (and-left (a && b && c) d h) in (p .0, p .1, p .2, and-right (a && b && c) d h)
 
 -- question 2's yes

@@ -30,7 +30,7 @@ module _ (w : List ℕ) (n k centred : ℕ) where
       ap (λ (x : ℕ). meanBy x h) p ∙ ap (meanBy (sumFrom (sizeAt w n) 1 k)) q
       ∙ sym (ap (λ (b : Bool). cond b (meanBy (sumFrom (sizeAt w n) 1 k) (sumFrom (heldAt w n k) 1 k)) (pos 0)) (eq-eqb centred 1 e))
 
-  pub offset-near : natAbs (offsetBy w n k centred) ≤ 2 ^ 30
+  offset-near : natAbs (offsetBy w n k centred) ≤ 2 ^ 30
   offset-near = go (eqb centred 1)
     where
       go : (b : Bool) → natAbs (cond b (meanBy (sumFrom (sizeAt w n) 1 k) (sumFrom (heldAt w n k) 1 k)) (pos 0)) ≤ 2 ^ 30

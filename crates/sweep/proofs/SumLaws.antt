@@ -9,7 +9,7 @@ use Rattle.memory.specs.Inside.Layout.{sizesAt, countsAt}
 use Rattle.sweep.specs.Inside.Mean.{sumFrom, sizeAt, heldAt, Tabled}
 
 -- the sum from l on is f l and the sum after it
-pub sum-next : (f : ℕ → ℕ) (k l : ℕ) → 0 < l → l ≤ k → sumFrom f (l - 1 + 1) (k - (l - 1)) ≡ f l + sumFrom f (l + 1) (k - l)
+sum-next : (f : ℕ → ℕ) (k l : ℕ) → 0 < l → l ≤ k → sumFrom f (l - 1 + 1) (k - (l - 1)) ≡ f l + sumFrom f (l + 1) (k - l)
 unfolding sumFrom
 sum-next f k l a b =
     ap (λ (i : ℕ). sumFrom f i (k - (l - 1))) {x = l - 1 + 1} {y = l} (omega arith)
@@ -17,7 +17,7 @@ sum-next f k l a b =
     ∙ ap (λ (i : ℕ). f l + sumFrom f i (k - l)) {x = suc l} {y = l + 1} (omega arith)
 
 -- what is left of a sum is no more than the whole
-pub sum-part : (f : ℕ → ℕ) (k d l : ℕ) → d + l ≡ k → sumFrom f (l + 1) (k - l) ≤ sumFrom f 1 k
+sum-part : (f : ℕ → ℕ) (k d l : ℕ) → d + l ≡ k → sumFrom f (l + 1) (k - l) ≤ sumFrom f 1 k
 sum-part f k d zero e = omega (arith, ap (λ (i : ℕ). sumFrom f i (k - 0)) {x = 0 + 1} {y = 1} (omega arith), ap (sumFrom f 1) {x = k - 0} {y = k} (omega arith))
 sum-part f k d (suc l) e =
     let n : sumFrom f (suc l - 1 + 1) (k - (suc l - 1)) ≡ f (suc l) + sumFrom f (suc l + 1) (k - suc l) = sum-next f k (suc l) (omega arith) (omega arith) in

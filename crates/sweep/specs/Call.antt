@@ -1,4 +1,4 @@
--- The call of the sweep entry: from the inputs and everything lent to the answer number and everything lent afterwards. Definitions only.
+-- The call of the sweep entry: from the inputs and everything lent to the answer number and everything lent afterwards.
 use Prim.Native.Nat.{ℕ}
 use mathlib.Core.List.{List, [], _∷_, _++_}
 use mathlib.Core.Option.{none, some}

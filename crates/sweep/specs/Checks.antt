@@ -1,4 +1,4 @@
--- The questions put to a sweep, and the answer. Definitions only.
+-- The questions put to a sweep, and the answer.
 use Prim.Native.Nat.{ℕ, _+_, _*_}
 use mathlib.Core.Bool.{Bool, true, false, _&&_}
 use mathlib.Core.List.{List, [], _∷_, _++_}
@@ -17,7 +17,7 @@ pub record Question : Type 0 where
   pub number : ℕ
   pub yes : Bool
 
--- the same
+-- question k, with its answer
 abbrev pub ask : ℕ → Bool → Question
 ask k b = record { number = k; yes = b }
 

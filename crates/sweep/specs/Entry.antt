@@ -1,4 +1,4 @@
--- A call's parameters as a sweep, and an answer as a number. Definitions only.
+-- A call's parameters as a sweep, and an answer as a number.
 use Prim.Native.Nat.{ℕ}
 use mathlib.Core.List.{List}
 use mathlib.Core.Option.{Option, none, some}

@@ -1,4 +1,4 @@
--- sweep.rs: the counts of a sweep by given limits. Definitions only.
+-- sweep.rs: the counts of a sweep by given limits.
 use Prim.Native.Nat.{ℕ, _+_, _*_}
 use mathlib.Core.Bool.{Bool, true, false, cond, _||_}
 use mathlib.Core.List.{List, [], _∷_, map}

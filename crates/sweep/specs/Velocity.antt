@@ -1,4 +1,4 @@
--- The second entry: the unfolded velocity, and its call. Definitions only.
+-- The second entry: the unfolded velocity, and its call.
 use Prim.Native.Nat.{ℕ, _*_}
 use mathlib.Core.Bool.{Bool, cond, not, _&&_, _||_}
 use mathlib.Core.List.{List, [], _∷_}

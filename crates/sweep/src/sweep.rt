@@ -117,7 +117,7 @@ pub fn settle(w: &[u32], n: usize, k: usize, valid: &[u8], centred: u32, folds: 
 }
 
 // What was found, written: counts and pair, or nothing where question 9 refused. The answer's number.
-pub fn write(
+fn write(
     f: network::find::Finding,
     centred: u32,
     valid: &[u8],

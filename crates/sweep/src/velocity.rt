@@ -18,15 +18,13 @@ fn unfolded_at(nyquist: f32, v: f32, valid: u8, count: i32) -> f64
 }
 
 // Every gate's unfolded velocity.
-pub fn unfold_gates(
-    nyquist: f32,
-    velocity: &[f32],
-    valid: &[u8],
-    folds: &[i32],
-    unfolded: &mut [f64],
-)
+fn unfold_gates(nyquist: f32, velocity: &[f32], valid: &[u8], folds: &[i32], unfolded: &mut [f64])
     requires { ⌜ (length (now velocity) ≡ length (now unfolded)) × (length (now valid) ≡ length (now unfolded)) × (length (now folds) ≡ length (now unfolded)) ⌝ }
-    ensures { λ _. ⌜ now (unfolded .exit) ≡ tabulate (length (now (unfolded .entry))) (λ g. unfoldedAt nyquist (getD (now (velocity .entry)) g nan) (getD (now (valid .entry)) g 0) (getD (now (folds .entry)) g (pos 0))) ⌝ }
+    ensures { λ _. ⌜
+        now (unfolded .exit)
+        ≡ tabulate (length (now (unfolded .entry)))
+        (λ g. unfoldedAt nyquist (getD (now (velocity .entry)) g nan) (getD (now (valid .entry)) g 0) (getD (now (folds .entry)) g (pos 0)))
+        ⌝ }
 {
     let mut i = 0;
     while i < unfolded.len() {

@@ -1,4 +1,4 @@
--- What the contracts on limits ask, and what is known of limits. Definitions only.
+-- What the contracts on limits ask, and what is known of limits.
 use Prim.Native.Nat.{ℕ, suc, _≤_, _<_}
 use mathlib.Core.Bool.{false}
 use mathlib.Core.List.{List, _++_}

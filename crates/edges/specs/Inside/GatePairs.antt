@@ -1,4 +1,4 @@
--- The pairs as gates, those alone whose first label is the greater, in the places that Layout gives them. Definitions only.
+-- The pairs as gates, those alone whose first label is the greater, in the places that Layout gives them.
 use Prim.Native.Nat.{ℕ, _+_, _*_, _≤_, _<_, _^_}
 use mathlib.Core.Path.{_≡_}
 use mathlib.Core.Bool.{Bool, cond}

@@ -1,4 +1,4 @@
--- Sorted pairs read back, and runs of them gathered as c edges into the tables from t on, where Layout puts them. Definitions only.
+-- Sorted pairs read back, and runs of them gathered as c edges into the tables from t on, where Layout puts them.
 use Prim.Native.Nat.{ℕ, _+_, _-_, _*_, _≤_, _<_, _^_}
 use mathlib.Core.Path.{_≡_}
 use mathlib.Core.Bool.{true, false}
@@ -64,8 +64,9 @@ pub record Slot (w : List ℕ) (d : List Float) (n m t c e : ℕ) : Type 0 where
 -- one turn, at pair p: the record goes on, or is written and another begun
 pub record GathersPair (twoNyquist : Float) (t c : ℕ) (p : Pair) (s r : Gathering) (w v : List ℕ) (d b : List Float) : Type 0 where
   pub on : alike (s .«record») p ≡ true → (v ≡ w) × (b ≡ d) × (r .«record» ≡ plus (s .«record») p) × (r .edges ≡ s .edges)
-  pub off : alike (s .«record») p ≡ false → (v ≡ written w t c (s .edges) (s .«record»)) × (b ≡ set d (s .edges) (difference twoNyquist (s .«record»))) × (r .«record» ≡ begun p) × (r .edges
-      ≡ s .edges + 1)
+  pub off : alike (s .«record») p ≡ false
+      → (v ≡ written w t c (s .edges) (s .«record»)) × (b ≡ set d (s .edges) (difference twoNyquist (s .«record»)))
+      × (r .«record» ≡ begun p) × (r .edges ≡ s .edges + 1)
 
 -- what gathering asks: room for all runs
 pub record Gathers (w : List ℕ) (d vel : List Float) (n m t c : ℕ) : Type 0 where
@@ -75,7 +76,7 @@ pub record Gathers (w : List ℕ) (d vel : List Float) (n m t c : ℕ) : Type 0 
   pub diffs : c ≤ length d
   pub fits : length (runs (later w vel n m 0)) ≤ c
 
--- and gives
+-- what gathering leaves: the tables of these records, their differences, and how many
 pub record Gathered (twoNyquist : Float) (w v : List ℕ) (d b : List Float) (t c e : ℕ) (rs : List EdgeRecord) : Type 0 where
   pub words : v ≡ tables w t c rs
   pub diffs : b ≡ put d 0 (map (difference twoNyquist) rs)

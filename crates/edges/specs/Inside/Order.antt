@@ -1,4 +1,4 @@
--- The pairs sorted by second label and then first, and runs of equal labels gathered. Definitions only.
+-- The pairs sorted by second label and then first, and runs of equal labels gathered.
 use Prim.Native.Nat.{ℕ}
 use mathlib.Core.Bool.{Bool, cond, _&&_}
 use mathlib.Core.List.{List, [], _∷_}

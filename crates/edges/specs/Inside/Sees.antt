@@ -1,4 +1,4 @@
--- The code's values as the definition's. Definitions only.
+-- The code's values as the definition's.
 use Prim.Native.Nat.{ℕ, _*_, _<_, _^_}
 use mathlib.Core.Path.{_≡_}
 use mathlib.Core.List.{List}

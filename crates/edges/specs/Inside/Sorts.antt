@@ -1,4 +1,4 @@
--- The stored pairs sorted, in the places that Layout gives them. Definitions only.
+-- The stored pairs sorted, in the places that Layout gives them.
 use Prim.Native.Nat.{ℕ, _+_, _*_, _≤_, _<_, _^_}
 use mathlib.Core.Path.{_≡_}
 use mathlib.Core.List.{List, map}
@@ -28,7 +28,7 @@ pub record Sorts (w : List ℕ) (n m k : ℕ) : Type 0 where
   pub far : (i : ℕ) → i < m → getD w (farAt n + i) 0 < n
   pub label : (j : ℕ) → j < n → getD w j 0 < k
 
--- and gives
+-- the order that the sort leaves, and that nothing before it changed
 pub record Sorted (w v : List ℕ) (n m k : ℕ) : Type 0 where
   pub order : seg v (orderAt n) m ≡ sorted (labelsOf w (farAt n) m) k (sorted (labelsOf w (gateAt n) m) k (upto m 0))
   pub kept : (j : ℕ) → j < orderAt n → getD v j 0 ≡ getD w j 0

@@ -1,4 +1,4 @@
--- What finding the edges asks and gives. Definitions only.
+-- What finding the edges asks and gives.
 use Prim.Native.Nat.{ℕ, _+_, _*_, _≤_, _<_, _^_}
 use mathlib.Core.Path.{_≡_}
 use mathlib.Core.List.{List, map}

@@ -1,4 +1,4 @@
--- All intervals at once: a gate's band is 1 + the number of the interval that holds it, or 0; gates are joined within their band. Definitions only.
+-- All intervals at once: a gate's band is 1 + the number of the interval that holds it, or 0; gates are joined within their band.
 use Prim.Native.Nat.{ℕ, suc, _+_, _-_, _%_, _<_, _^_}
 use mathlib.Core.Path.{_≡_}
 use mathlib.Core.Bool.{Bool, cond, not, _&&_}

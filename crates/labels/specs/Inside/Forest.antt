@@ -1,4 +1,4 @@
--- What the words of a union-find say: words w against the roots rs of the definition. A word is 0 outside, and inside 1 + a gate of the same area, not later. Definitions only.
+-- What the words of a union-find say: words w against the roots rs of the definition. A word is 0 outside, and inside 1 + a gate of the same area, not later.
 use Prim.Native.Nat.{ℕ, suc, _+_, _-_, _≤_, _<_, _^_}
 use mathlib.Core.Path.{_≡_}
 use mathlib.Core.Bool.{Bool, true, false}

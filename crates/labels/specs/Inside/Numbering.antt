@@ -1,4 +1,4 @@
--- The numbering of all bands at once, with a counter for each. Definitions only.
+-- The numbering of all bands at once, with a counter for each.
 use Prim.Native.Nat.{ℕ, zero, suc, _+_, _-_, _≤_, _<_, _^_}
 use mathlib.Core.Path.{_≡_}
 use mathlib.Core.Bool.{cond}

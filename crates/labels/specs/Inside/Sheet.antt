@@ -1,4 +1,4 @@
--- One lent slice of three parts: bands and then labels in the first n words, the union-find in the next n, and the counters of the bands after that. Definitions only.
+-- One lent slice of three parts: bands and then labels in the first n words, the union-find in the next n, and the counters of the bands after that.
 use Prim.Native.Nat.{ℕ, _+_, _*_, _-_, _≤_, _<_, _^_}
 use mathlib.Core.Path.{_≡_}
 use mathlib.Core.List.{List}

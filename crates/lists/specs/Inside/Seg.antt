@@ -1,4 +1,4 @@
--- Parts of a lent slice, as the contracts on memory have them. Definitions only.
+-- Parts of a lent slice, as the contracts on memory have them.
 use Prim.Native.Nat.{ℕ, suc, _+_, _≤_, _<_}
 use mathlib.Core.List.{List, [], _∷_}
 use lib.ListN.{take, drop, set}

@@ -1,4 +1,4 @@
--- Where each part lies in the two work memories: n gates, k regions, m pairs, e edges, v = k + 1 nodes. Definitions only.
+-- Where each part lies in the two work memories: n gates, k regions, m pairs, e edges, v = k + 1 nodes.
 --
 -- The words, from 0 on, stage by stage; a part of one stage is free for the next unless it stands there too:
 --   finding regions    labels n, work of region finding 2n + 64
@@ -128,10 +128,10 @@ mergeParts n k e =
     ∷ part (tablesAt n + nodeSizeAt e (k + 1)) (k + 1) ∷ part (tablesAt n + elenAt e (k + 1)) (k + 1) ∷ part (tablesAt n + rlenAt e (k + 1)) (k + 1)
     ∷ part (tablesAt n + nodeCountAt e (k + 1)) (k + 1) ∷ []
 
--- the parts of every stage lie apart, and fit into what question 4 asks for
+-- the parts of every stage lie apart, and fit into half of the words that question 4 asks for and a quarter of the floats
 pub record Laid (n k m e : ℕ) : Type 0 where
-  pub regions : InTurn 0 (regionParts n) (96 * n + 64)
-  pub sort : InTurn 0 (sortParts n k m) (96 * n + 64)
-  pub gather : InTurn 0 (gatherParts n m e) (96 * n + 64)
-  pub merge : InTurn 0 (mergeParts n k e) (96 * n + 64)
-  pub differences : InTurn 0 (part 0 e ∷ []) (16 * n + 16)
+  pub regions : InTurn 0 (regionParts n) (48 * n + 64)
+  pub sort : InTurn 0 (sortParts n k m) (48 * n + 64)
+  pub gather : InTurn 0 (gatherParts n m e) (48 * n + 64)
+  pub merge : InTurn 0 (mergeParts n k e) (48 * n + 64)
+  pub differences : InTurn 0 (part 0 e ∷ []) (4 * n)

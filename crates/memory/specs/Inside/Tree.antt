@@ -1,4 +1,4 @@
--- A winner tree over the first m words, and what it is when all but the places on one way to the root are played. Definitions only.
+-- A winner tree over the first m words, and what it is when all but the places on one way to the root are played.
 use mathlib.Core.Path.{_≡_}
 use mathlib.Core.Bool.{cond}
 use mathlib.Core.List.{List}

@@ -1,4 +1,4 @@
--- Chains of slots: circles, each led by one of its slots. Definitions only.
+-- Chains of slots: circles, each led by one of its slots.
 use mathlib.Core.Path.{_≡_}
 use mathlib.Core.Bool.{_&&_, cond}
 use mathlib.Core.List.{List}

@@ -1,4 +1,4 @@
--- What a function that changes the tables leaves. Definitions only.
+-- What a function that changes the tables leaves.
 use mathlib.Core.Path.{_≡_}
 use mathlib.Core.Bool.{Bool, true, false}
 use mathlib.Core.List.{List}

@@ -1,4 +1,4 @@
--- What each function of the merging code does to the tables, step by step as the code goes. Definitions only.
+-- What each function of the merging code does to the tables, step by step as the code goes.
 use mathlib.Core.Bool.{Bool, true, false, _&&_, cond}
 use mathlib.Core.Option.{Option, none, some}
 use Prim.Native.Nat.{ℕ, zero, suc, _+_, _*_, _-_, _/_}

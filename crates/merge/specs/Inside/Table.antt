@@ -1,4 +1,4 @@
--- The tables of the merging code by name: where each lies in the lent words, and how long it is. m edges, n nodes. Definitions only.
+-- The tables of the merging code by name: where each lies in the lent words, and how long it is. m edges, n nodes.
 --
 -- A further table: its place in Layout, one line in `tables` here, and its name.
 use mathlib.Core.Bool.{Bool}

@@ -1,4 +1,4 @@
--- The tables of the merging code as lists; Table says where each lies in the lent words. Definitions only.
+-- The tables of the merging code as lists; Table says where each lies in the lent words.
 use mathlib.Core.Path.{_≡_}
 use mathlib.Core.Bool.{_||_, cond}
 use mathlib.Core.List.{List}

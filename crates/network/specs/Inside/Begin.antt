@@ -1,4 +1,4 @@
--- The tables before the first merge, from edges and sizes alone. Definitions only.
+-- The tables before the first merge, from edges and sizes alone.
 use mathlib.Core.Path.{_≡_}
 use mathlib.Core.Bool.{cond}
 use mathlib.Core.List.{List, map}

@@ -1,4 +1,4 @@
--- Finding, from the limits of a plan to merged regions: what it asks, and what it leaves. Definitions only.
+-- Finding, from the limits of a plan to merged regions: what it asks, and what it leaves.
 use Prim.Native.Nat.{ℕ, _+_, _*_, _≤_, _<_}
 use mathlib.Core.Path.{_≡_}
 use mathlib.Core.Bool.{true, false, not}

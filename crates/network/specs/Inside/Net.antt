@@ -1,4 +1,4 @@
--- The network that the tables stand for. Definitions only.
+-- The network that the tables stand for.
 use mathlib.Core.Path.{_≡_}
 use mathlib.Core.Bool.{true, not}
 use mathlib.Core.List.{map}

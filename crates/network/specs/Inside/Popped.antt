@@ -1,4 +1,4 @@
--- The answer of choosing the heaviest edge, by cases. Definitions only.
+-- What the words say of choosing.
 use mathlib.Core.Path.{_≡_}
 use mathlib.Core.List.{List}
 use mathlib.Core.Option.{Option, none, some}
@@ -8,18 +8,13 @@ use lib.ListN.{getD}
 use lib.Ieee.{Float, binary64, div}
 use Rattle.arithmetic.specs.Rounding.{real}
 use Rattle.memory.specs.Inside.Tree.{Best}
-use Rattle.network.specs.Network.{Edge, State, choose}
+use Rattle.network.specs.Network.{popped, Edge, State, choose}
 use Rattle.merge.specs.Inside.Tables.{Tables, view}
 use Rattle.network.specs.Inside.Net.{edgeNow}
 use Rattle.network.specs.Inside.Rep.{Rep}
 use Rattle.network.specs.declared.network.Popped.{Popped}
 use Rattle.network.specs.declared.network.PoppedEdge.{PoppedEdge}
 use Rattle.network.specs.declared.network.Popped.the-variants.{Edge as Taken, Nothing}
-
--- the scope document's choice: the ends, the difference divided by the weight in f64, and the number of the edge chosen, or none live
-unfoldable pub popped : Option Edge → Popped
-popped none = Nothing
-popped (some e) = Taken (record { node1 = e .first; node2 = e .second; diff = div binary64 (e .link .diff) (real (pos (e .link .weight))); «edge_number» = e .num })
 
 -- the answer is the choice of whatever network the tables stand for
 abbrev pub AnyPop : ℕ → ℕ → Tables → Popped → Type 0

@@ -1,4 +1,4 @@
--- From labels to the counts of all regions: what it asks, and what it leaves. Definitions only.
+-- From labels to the counts of all regions: what it asks, and what it leaves.
 use Prim.Native.Nat.{ℕ, _+_, _*_, _≤_, _<_}
 use mathlib.Core.Path.{_≡_}
 use mathlib.Core.Bool.{true, false}

@@ -1,4 +1,4 @@
--- The invariant of the merging code: the tables s stand for the network t. Definitions only.
+-- The invariant of the merging code: the tables s stand for the network t.
 use mathlib.Core.Path.{_≡_}
 use mathlib.Core.Logic.{_⊎_}
 use mathlib.Core.Bool.{true}

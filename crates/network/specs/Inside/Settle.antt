@@ -1,4 +1,4 @@
--- The run of the network until no edge is live or question 9 says no. Definitions only.
+-- The run of the network until no edge is live or question 9 says no.
 use mathlib.Core.Bool.{cond}
 use mathlib.Core.Option.{Option, none, some}
 use Prim.Native.Nat.{ℕ, zero, suc}

@@ -1,4 +1,4 @@
--- A network in which no live edge joins a node to itself and no two live edges join the same two nodes. Definitions only.
+-- A network in which no live edge joins a node to itself and no two live edges join the same two nodes.
 use mathlib.Core.Path.{_≡_}
 use mathlib.Core.Logic.{_⊎_}
 use mathlib.Core.Bool.{true}

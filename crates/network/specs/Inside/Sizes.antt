@@ -1,4 +1,4 @@
--- What counting the sizes of regions asks. Definitions only.
+-- What counting the sizes of regions asks.
 use Prim.Native.Nat.{ℕ, _+_, _≤_, _<_, _^_}
 use mathlib.Core.List.{List}
 use lib.ListN.{length, getD}

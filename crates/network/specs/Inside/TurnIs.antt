@@ -1,4 +1,4 @@
--- What a turn and a run of the code come to. Definitions only.
+-- What a turn and a run of the code come to.
 use mathlib.Core.Path.{_≡_}
 use mathlib.Core.Bool.{true, false}
 use mathlib.Core.List.{List, map}

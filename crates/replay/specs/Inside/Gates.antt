@@ -1,4 +1,4 @@
--- The gates of a recorded sweep: two numbers a gate, its mask byte and its velocity's bits. Definitions only.
+-- The gates of a recorded sweep: two numbers a gate, its mask byte and its velocity's bits.
 use Prim.Native.Nat.{ℕ, _+_, _*_, _<_}
 use mathlib.Core.Path.{_≡_}
 use mathlib.Core.List.{List}

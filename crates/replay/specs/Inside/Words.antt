@@ -1,4 +1,4 @@
--- The words of a recorded list: eight hexadecimal digits, then a space or a line end. Definitions only.
+-- The words of a recorded list: eight hexadecimal digits, then a space or a line end.
 use Prim.Native.Nat.{ℕ, zero, suc, _+_, _-_, _*_, _<_}
 use mathlib.Core.Path.{_≡_}
 use mathlib.Core.Bool.{Bool, cond, _||_}

@@ -1,4 +1,4 @@
--- The offset and the counts of all gates, from the tables of the work memory. Definitions only.
+-- The offset and the counts of all gates, from the tables of the work memory.
 use Prim.Native.Nat.{ℕ, _+_, _*_, _≤_, _<_, _^_}
 use mathlib.Core.Path.{_≡_}
 use mathlib.Core.Bool.{cond}

@@ -1,4 +1,4 @@
--- Sums over the regions' tables in the work memory. Definitions only.
+-- Sums over the regions' tables in the work memory.
 use Prim.Native.Nat.{ℕ, zero, suc, _+_, _*_, _≤_, _<_, _^_}
 use mathlib.Core.Path.{_≡_}
 use mathlib.Core.List.{List}

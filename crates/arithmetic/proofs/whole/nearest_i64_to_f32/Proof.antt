@@ -41,7 +41,7 @@ next z = back z +ℤ pos 1
 abbrev turned : ℤ → ℤ
 turned z = pos 0 -ℤ back (next z)
 
-record Turned (z : ℤ) : Type 0 where
+record Negated (z : ℤ) : Type 0 where
   first : SFits w64 (next z)
   second : SFits w64 (turned z)
   sign : T (nonNeg (back (turned z)))
@@ -52,7 +52,7 @@ minus : (k : ℕ) → neg (ofInt binary32 (pos (suc k))) ≡ ofInt binary32 (neg
 unfolding ofInt
 minus k = neg-round binary32 false (suc k) 1
 
-turn : (z : ℤ) → SFits w64 z → leZ (pos 0) (back z) ≡ false → Turned z
+turn : (z : ℤ) → SFits w64 z → leZ (pos 0) (back z) ≡ false → Negated z
 turn (pos k) f h = absurd (true≢false (sym (leb·zero k) ∙ sym (ap (λ (y : ℤ). leZ (pos 0) y) (toZ-ofZ w64 (pos k) f)) ∙ h))
 turn (negsuc k) f h =
     let z = negsuc k in
@@ -81,7 +81,7 @@ turn (negsuc k) f h =
         less : (k : ℕ) → suc k < 2 ^ 63 → k < 2 ^ 63
         less k h = omega arith
 
-turned-at : (c : tie.Else1) → Turned (c .before .args .n)
+turned-at : (c : tie.Else1) → Negated (c .before .args .n)
 turned-at c = turn (c .before .args .n) (c .before .fits .n) (c .if1 .left)
 
 plain-at : (c : tie.Then1) → Plain (back (c .before .args .n)) (c .before .args .n)

@@ -55,7 +55,9 @@ returns-2 c =
     let p″ = c .before .before .before .before .before .before .pair-one3 in
     let a = c .before .before .before .before .before .before .before .before .before .before .before .before .before .before .before .before .before .before .before .args in
     four (a .f) (a .n) (a .g) (a .w .now) (p .last .0) (p′ .last .0) (p″ .last .0) (c .before .before .pair-one4 .last .0) (a .c) (p .result) (p′ .result) (p″ .result)
-    (c .before .before .pair-one4 .result) (c .before .before .before .before .before .before .before .before .before .before .before .before .before .before .before .before .before .before .before .pre) (c .before .before .before .before .before .before .before .before .before .before .before .before .before .before .before .before .if1 .left) (p .ensures) (p′ .ensures) (p″ .ensures) (c .before .before .pair-one4 .ensures)
+    (c .before .before .pair-one4 .result) (c .before .before .before .before .before .before .before .before .before .before .before .before .before .before .before .before .before .before .before .pre)
+    (c .before .before .before .before .before .before .before .before .before .before .before .before .before .before .before .before .if1 .left) (p .ensures) (p′ .ensures)
+    (p″ .ensures) (c .before .before .pair-one4 .ensures)
 
 pub pair-gate-spec : {M : Type 1} → statement M
 pair-gate-spec =

@@ -28,7 +28,9 @@ same-length-2 c = search needs
 returns-2 : tie.Need-returns-2
 returns-2 c = let a = c .before .before .before .before .before .before .before .before .before .before .before .before .before .before .before .before .before .args in
     let z = c .before .before .before .before .before .before .before .before .before .before .before .face in
-    take-does (a .m) (a .n) (a .w .now) (a .d .now) (c .before .before .before .before .before .before .before .before .before .before .before .before .before .before .before .before .before .pre .0) (a .b) (a .v) (a .g) (a .f) (c .before .before .before .before .before .before .before .before .before .before .before .before .before .before .if1 .left) (z .last .0) (z .last .1 .0) (z .ensures) _ _ (c .before .before .before .before .moved-edge .ensures)
+    take-does (a .m) (a .n) (a .w .now) (a .d .now) (c .before .before .before .before .before .before .before .before .before .before .before .before .before .before .before .before .before .pre .0)
+    (a .b) (a .v) (a .g) (a .f) (c .before .before .before .before .before .before .before .before .before .before .before .before .before .before .if1 .left) (z .last .0)
+    (z .last .1 .0) (z .ensures) _ _ (c .before .before .before .before .moved-edge .ensures)
 
 pub take-edge-spec : {M : Type 1} → statement M
 take-edge-spec =

@@ -71,7 +71,14 @@ loop-less : tie.Need-loop-less Inv-loop μ-loop
 loop-less c = omega (arith, c .before .before .before .before .before .before .before .before .before .before .before .before .before .before .before .before .loop-test .taken)
 
 loop-again : tie.Need-loop-again Inv-loop μ-loop
-loop-again c = let a = c .before .before .before .before .before .before .before .before .before .before .before .before .before .before .before .before .before .before .before .before .args in let k = c .before .before .before .before .before .before .before .before .before .before .before .before .before .before .before .before .before .loop in let z = c .before .before .before .before .before .before .before .before .before .before .before .link in let u = c .before .before .before .before .link2 in link-turn (a .m) (a .n) (a .w .now) (a .d .now) (k .w) (k .d) (k .j) _ (k .inv) (c .before .before .before .before .before .before .before .before .before .before .before .before .before .before .before .before .loop-test .taken) (z .last .0) (z .last .1 .0) (z .kept .0) (z .kept .1 .0) (z .ensures) (u .last .0) (u .last .1 .0) (u .kept .0) (u .kept .1 .0) (u .ensures)
+loop-again c =
+    let a = c .before .before .before .before .before .before .before .before .before .before .before .before .before .before .before .before .before .before .before .before .args in
+    let k = c .before .before .before .before .before .before .before .before .before .before .before .before .before .before .before .before .before .loop in
+    let z = c .before .before .before .before .before .before .before .before .before .before .before .link in
+    let u = c .before .before .before .before .link2 in
+    link-turn (a .m) (a .n) (a .w .now) (a .d .now) (k .w) (k .d) (k .j) _ (k .inv)
+    (c .before .before .before .before .before .before .before .before .before .before .before .before .before .before .before .before .loop-test .taken) (z .last .0) (z .last .1 .0)
+    (z .kept .0) (z .kept .1 .0) (z .ensures) (u .last .0) (u .last .1 .0) (u .kept .0) (u .kept .1 .0) (u .ensures)
 
 same-length : tie.Need-same-length Inv-loop μ-loop
 same-length c = c .before .loop .inv .same-w

@@ -1,9 +1,9 @@
 -- `replay::lines::size_of` meets its contract, by the count's sign. Assumes nothing.
-use Rattle.replay.proofs.Laws.{Turned, Plain, turn-count, plain-count}
+use Rattle.replay.proofs.Laws.{Negated, Plain, turn-count, plain-count}
 use Rattle.replay.proofs.lines.size_of.Statement.{statement}
 use Rattle.replay.proofs.lines.size_of.Tie as tie
 
-below : (c : tie.Then1) → Turned (c .before .args .count)
+below : (c : tie.Then1) → Negated (c .before .args .count)
 below c = turn-count (c .before .args .count) (c .before .fits .count) (c .if1 .taken)
 
 other : (c : tie.Else1) → Plain (c .before .args .count)

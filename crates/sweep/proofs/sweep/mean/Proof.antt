@@ -50,7 +50,8 @@ returns c =
     let n′ = c .before .before .before .before .nearest-u64-to-f64 in
     let p = c .before .before .before .before .before .before .before .before .pre in
     let a = c .before .before .before .before .before .before .before .before .args .s in let f = c .before .before .before .round-even in let k = c .before .z .given in
-    mean-whole (div binary64 (real (subℕ (a .held) (1000 * a .gates))) (real (pos (a .gates)))) (f .result) (k .0 .0) (f .ensures ∙ ap roundEven (quotient (n .result) (n′ .result) (toZ w64 (ofZ w64 (toZ w64 (a .held) -ℤ toZ w64 (1000 * a .gates)))) (subℕ (a .held) (1000 * a .gates)) (a .gates) (n .ensures) (total-back (a .held) (a .gates) (p .0) (p .1)) (n′ .ensures))) (k .1) (record { sfits = c .known-told .given .0 .1 })
+    mean-whole (div binary64 (real (subℕ (a .held) (1000 * a .gates))) (real (pos (a .gates)))) (f .result) (k .0 .0) (f .ensures ∙ ap roundEven (quotient (n .result) (n′ .result) (toZ w64 (ofZ w64 (toZ w64 (a .held) -ℤ toZ w64 (1000 * a .gates)))) (subℕ (a .held) (1000 * a .gates)) (a .gates) (n .ensures) (total-back (a .held) (a .gates) (p .0) (p .1)) (n′ .ensures)))
+    (k .1) (record { sfits = c .known-told .given .0 .1 })
 
 returns-2 : tie.Need-returns-2
 returns-2 c =

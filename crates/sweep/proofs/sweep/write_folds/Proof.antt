@@ -76,8 +76,15 @@ loop-again : tie.Need-loop-again Inv-loop μ-loop
 unfolding countsAt
 loop-again c =
     let a = c .before .before .before .before .before .before .before .before .args in
-    let l = c .before .before .before .before .before .loop in
-    (omega (arith, c .before .before .before .before .loop-test .taken), (fill-on (λ g. gateCount (toZ w32 (ofZ w32 (a .offset))) (getD (a .valid .now) g 0) (unbias (getD (a .w .now) (countsAt (a .n) (a .k) + getD (a .w .now) g 0) 0))) (a .folds .now) (l .folds) (l .g) (toZ w32 (ofZ w32 (c .fold-of .result))) (l .inv .1 .0) (toZ-ofZ w32 (c .fold-of .result) (record { sfits = c .fold-of .ok }) ∙ c .fold-of .ensures), simp length-set (l .inv .1 .1)))
+    let l = c .before .before .before .before .before .loop in (
+      omega (arith, c .before .before .before .before .loop-test .taken),
+      (
+        fill-on (λ g. gateCount (toZ w32 (ofZ w32 (a .offset))) (getD (a .valid .now) g 0) (unbias (getD (a .w .now) (countsAt (a .n) (a .k) + getD (a .w .now) g 0) 0)))
+            (a .folds .now) (l .folds) (l .g) (toZ w32 (ofZ w32 (c .fold-of .result))) (l .inv .1 .0) (toZ-ofZ w32 (c .fold-of .result) (record { sfits = c .fold-of .ok })
+            ∙ c .fold-of .ensures),
+        simp length-set (l .inv .1 .1),
+      ),
+    )
 
 same-length : tie.Need-same-length Inv-loop μ-loop
 same-length c = c .before .loop .inv .1 .1
