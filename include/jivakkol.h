@@ -1,6 +1,8 @@
 /* The exported entries of Jivakkol: fold counts of a radar sweep, and its unfolded velocities.
  *
- * Every slice is a pointer and a length. No slice that a call writes may overlap another that it is given.
+ * Every slice is a pointer and a length. What a host must see to: no slice that a call writes overlaps another that it is given; memory is
+ * initialised, and no other thread uses it while the call lasts (calls on different memory may run at once); the thread has about 80 KB of stack
+ * left; the processor rounds to nearest and does not flush subnormals.
  * For each input the answer and all memory lent are what crates/sweep/specs/Call.antt (`call`) and Velocity.antt (`callVelocity`) say.
  */
 #ifndef JIVAKKOL_H
@@ -24,7 +26,7 @@ extern "C" {
  * Answers 0, or the number of the first question that got a no, with folds and pair unchanged:
  *   1 rays above 720 or gates above 2,000      2 a slice of another length      3 a mask byte other than 0 and 1
  *   4 too little work memory                   5 Nyquist not 0.125 to 1,024     6 an option out of its range
- *   7 a valid velocity not -16,384 to 16,384   8 more than 10,000 limits        9 a count beyond 1,000 in a merge
+ *   7 a valid velocity not -16,384 to 16,384   8 more than 10,000 limits        9 a merge whose rounded difference, or a count, is beyond 1,000
  * After 0 and 9 the asked words of work memory are zero and any further ones unchanged; after 1 to 8 all are unchanged. */
 uint32_t jivakkol_dealias_sweep(
     uint32_t rays, uint32_t gates, float nyquist,
