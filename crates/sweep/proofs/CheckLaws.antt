@@ -11,6 +11,7 @@ use lib.ListN.{length, getD}
 use lib.IntN.{pos, negsuc}
 use lib.Ieee.{Float, fin, le}
 use borrow.Author.Tests.{leb-true, eqb-true, not-true, not-false}
+use Rattle.memory.specs.Inside.Layout.{mostGates}
 use Rattle.lists.specs.Seq.{all}
 use Rattle.arithmetic.specs.Intervals.{valid, nyquistInRange, velocityInRange}
 use Rattle.arithmetic.specs.Inside.Asked.{Asked}
@@ -85,10 +86,10 @@ size-gates : (a b : ℕ) → sizeInRange a b ≡ true → b ≤ 2000
 unfolding sizeInRange
 size-gates a b h = leb-true b 2000 (and-right (leb a 720) (leb b 2000) h)
 
-pub size-product : (a b n : ℕ) → n ≡ a * b → sizeInRange a b ≡ true → n ≤ 1440000
+pub size-product : (a b n : ℕ) → n ≡ a * b → sizeInRange a b ≡ true → n ≤ mostGates
 size-product a b n e h = most n (a * b) e (mul-le-mul (size-rays a b h) (size-gates a b h))
   where
-    most : (n m : ℕ) → n ≡ m → m ≤ 720 * 2000 → n ≤ 1440000
+    most : (n m : ℕ) → n ≡ m → m ≤ 720 * 2000 → n ≤ mostGates
     most n m e h = omega arith
 
 mask-bytes : (l : List ℕ) (g : ℕ) → maskIsBits l ≡ true → getD l g 0 ≤ 1

@@ -8,6 +8,7 @@ use mathlib.Core.Option.{none}
 use lib.IntN.{pos}
 use lib.ListN.{length, take, drop, replicate}
 use lib.Ieee.{Float}
+use Rattle.memory.specs.Inside.Layout.{mostGates}
 use Rattle.arithmetic.specs.Inside.Asked.{Rising}
 use Rattle.arithmetic.specs.Rounding.{real}
 use Rattle.arithmetic.specs.Intervals.{atLeast0}
@@ -44,10 +45,10 @@ module _ (s : Sweep) (m : Memory) (h : firstNo (sevenOf s (lengths m)) ≡ none)
   known : Passed s (lengths m)
   known = passed s (lengths m) h
 
-  product : s .shape .rays * s .shape .gates ≤ 1440000
+  product : s .shape .rays * s .shape .gates ≤ mostGates
   product = mul-le-mul (known .rays) (known .gates)
 
-  pub small : length (s .vel) ≤ 1440000
+  pub small : length (s .vel) ≤ mostGates
   small = omega (arith, known .vel, product)
 
   pub words-room : 96 * length (s .vel) + 64 ≤ length (m .words)

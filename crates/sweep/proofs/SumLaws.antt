@@ -5,7 +5,7 @@ use native.Mathlib.Nat.{mul-le-mul-left}
 use mathlib.Core.Path.{_≡_, refl, sym, ap, _∙_}
 use mathlib.Core.List.{List}
 use lib.ListN.{length, getD}
-use Rattle.memory.specs.Inside.Layout.{sizesAt, countsAt}
+use Rattle.memory.specs.Inside.Layout.{sizesAt, countsAt, mostGates}
 use Rattle.sweep.specs.Inside.Mean.{sumFrom, sizeAt, heldAt, Tabled}
 
 -- the sum from l on is f l and the sum after it
@@ -40,10 +40,10 @@ module _ (w : List ℕ) (n k : ℕ) (q : Tabled w n k) where
   pub record Turn (gates held l : ℕ) : Type 0 where
     pub size-in : n + l < length w
     pub count-in : n + (k + 1) + l < length w
-    pub size-small : getD w (n + l) 0 ≤ 1440000
+    pub size-small : getD w (n + l) 0 ≤ mostGates
     pub count-small : getD w (n + (k + 1) + l) 0 ≤ 2000
     pub product : getD w (n + l) 0 * getD w (n + (k + 1) + l) 0 ≤ 2880000000
-    pub gates-small : getD w (n + l) 0 + gates ≤ 1440000
+    pub gates-small : getD w (n + l) 0 + gates ≤ mostGates
     pub held-small : getD w (n + l) 0 * getD w (n + (k + 1) + l) 0 + held ≤ 2880000000
     pub gates-next : getD w (n + l) 0 + gates ≡ sumFrom (sizeAt w n) (l - 1 + 1) (k - (l - 1))
     pub held-next : getD w (n + l) 0 * getD w (n + (k + 1) + l) 0 + held ≡ sumFrom (heldAt w n k) (l - 1 + 1) (k - (l - 1))

@@ -6,6 +6,7 @@ ghost use Prim.Native.Nat.{_*_, _≤_};
 ghost use lib.Dec.{eqb, leb};
 ghost use lib.ListN.{length, getD};
 ghost use lib.IntN.{pos};
+ghost use Rattle.memory.specs.Inside.Layout.{mostGates};
 ghost use Rattle.lists.specs.Seq.{upto, all};
 ghost use Rattle.arithmetic.specs.Intervals.{nyquistInRange, velocityInRange};
 ghost use Rattle.network.specs.Network.{bounded};
@@ -78,7 +79,7 @@ fn mask_is_bits(valid: &[u8]) -> bool
 
 // Question 4.
 fn work_suffices(n: usize, words: usize, floats: usize) -> bool
-    requires { ⌜ n ≤ 1440000 ⌝ }
+    requires { ⌜ n ≤ mostGates ⌝ }
     ensures { λ r. ⌜ r ≡ (leb (wordsFor n) words && leb (floatsFor n) floats) ⌝ }
 {
     layout::WORDS * n + layout::WORDS_MORE <= words
