@@ -8,7 +8,7 @@ use lib.Ieee.{binary32, ofInt}
 use Rattle.arithmetic.specs.Rounding.{real}
 use Rattle.sweep.specs.Evaluating.{evaluating}
 use Rattle.sweep.specs.Sweep.{Sweep}
-use Rattle.sweep.specs.Checks.{gatesIn, wordsFor, floatsFor}
+use Rattle.sweep.specs.Checks.{gatesIn, wordsFor, floatsFor, ownLimits}
 use Rattle.sweep.specs.Call.{Memory, Answer, call}
 
 -- one ray, all valid, Nyquist 10, splits 3, skips 100, no wrap, uncentred
@@ -93,3 +93,8 @@ starred =
 pub starred-hold : map (λ (r : Row). call (r .sweep) (lent (r .sweep))) starred ≡ map answer starred
 unfolding evaluating
 starred-hold = refl
+
+-- 12, 12: two limits, and neither interval holds the velocity
+pub two-limits : length (ownLimits (ray (pos 12 ∷ pos 12 ∷ []))) ≡ 2
+unfolding evaluating
+two-limits = refl

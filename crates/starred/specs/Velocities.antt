@@ -1,0 +1,52 @@
+-- Calls of the second entry as one list under one theorem: each answer number and the slice lent afterwards, computed.
+use Prim.Native.Nat.{ℕ}
+use mathlib.Core.Path.{_≡_, refl}
+use mathlib.Core.List.{List, [], _∷_, map}
+use lib.IntN.{ℤ, pos, negsuc}
+use lib.ListN.{replicate}
+use lib.Ieee.{Float, binary32, ofInt}
+use Rattle.arithmetic.specs.Rounding.{real}
+use Rattle.sweep.specs.Evaluating.{evaluating}
+use Rattle.sweep.specs.Velocity.{Counted, counted, VelocityAnswer, velocityAnswerBy, callVelocity}
+
+-- one ray of three gates
+abbrev three : ℤ → List ℤ → List ℕ → List ℤ → Counted
+three nyq vs m cs = counted 1 3 (ofInt binary32 nyq) (map (ofInt binary32) vs) m cs
+
+-- a call's inputs, its answer number, and the slice before and after
+pub record Row : Type 0 where
+  pub inputs : Counted
+  pub before : List ℤ
+  pub number : ℕ
+  pub after : List ℤ
+
+abbrev row : Counted → List ℤ → ℕ → List ℤ → Row
+row u b k a = record { inputs = u; before = b; number = k; after = a }
+
+-- a slice of k places, 5 in each
+abbrev fives : ℕ → List ℤ
+fives k = replicate k (pos 5)
+
+abbrev pub rows : List Row
+rows =
+    row (three (pos 10) (pos 9 ∷ pos 9 ∷ negsuc 8 ∷ []) (1 ∷ 1 ∷ 1 ∷ []) (pos 0 ∷ pos 0 ∷ pos 1 ∷ [])) (fives 3) 0 (pos 9 ∷ pos 9 ∷ pos 11 ∷ [])
+    ∷ row (three (pos 10) (pos 9 ∷ pos 9 ∷ negsuc 8 ∷ []) (1 ∷ 0 ∷ 1 ∷ []) (negsuc 0 ∷ pos 3 ∷ pos 2 ∷ [])) (fives 3) 0 (negsuc 10 ∷ pos 0 ∷ pos 31 ∷ [])
+    -- 1: 721 rays
+    ∷ row (counted 721 0 (ofInt binary32 (pos 10)) [] [] []) [] 1 []
+    -- 2: the slice is one too long, or the counts one too short
+    ∷ row (three (pos 10) (pos 9 ∷ pos 9 ∷ negsuc 8 ∷ []) (1 ∷ 1 ∷ 1 ∷ []) (pos 0 ∷ pos 0 ∷ pos 1 ∷ [])) (fives 4) 2 (fives 4)
+    ∷ row (three (pos 10) (pos 9 ∷ pos 9 ∷ negsuc 8 ∷ []) (1 ∷ 1 ∷ 1 ∷ []) (pos 0 ∷ pos 0 ∷ [])) (fives 3) 2 (fives 3)
+    -- 3: a mask byte of 2
+    ∷ row (three (pos 10) (pos 9 ∷ pos 9 ∷ negsuc 8 ∷ []) (1 ∷ 2 ∷ 1 ∷ []) (pos 0 ∷ pos 0 ∷ pos 1 ∷ [])) (fives 3) 3 (fives 3)
+    -- 5: Nyquist 0
+    ∷ row (three (pos 0) (pos 9 ∷ pos 9 ∷ negsuc 8 ∷ []) (1 ∷ 1 ∷ 1 ∷ []) (pos 0 ∷ pos 0 ∷ pos 1 ∷ [])) (fives 3) 5 (fives 3)
+    -- 7: a valid velocity of 16,385
+    ∷ row (three (pos 10) (pos 9 ∷ pos 16385 ∷ negsuc 8 ∷ []) (1 ∷ 1 ∷ 1 ∷ []) (pos 0 ∷ pos 0 ∷ pos 1 ∷ [])) (fives 3) 7 (fives 3)
+    -- 10: a count of 2,001 at a valid gate
+    ∷ row (three (pos 10) (pos 9 ∷ pos 9 ∷ negsuc 8 ∷ []) (1 ∷ 1 ∷ 1 ∷ []) (pos 0 ∷ pos 0 ∷ pos 2001 ∷ [])) (fives 3) 10 (fives 3)
+    ∷ []
+
+-- each call gives its answer
+pub velocities-hold : map (λ (r : Row). callVelocity (r .inputs) (map real (r .before))) rows ≡ map (λ (r : Row). velocityAnswerBy (r .number) (map real (r .after))) rows
+unfolding evaluating
+velocities-hold = refl
