@@ -15,6 +15,7 @@ pub mod Question9
 pub mod ApartTest
 pub mod Demand3Laws
 pub mod EntryTheorems
+pub mod VelocityTheorems
 pub mod Spot
 pub mod RootsEcho
 pub mod LabelEcho

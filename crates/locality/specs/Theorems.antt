@@ -1,5 +1,5 @@
--- What a caller of `jivakkol_dealias_sweep` may rely on, from its contract alone: s is the sweep that the call's parameters are, m all memory
--- lent at entry, a the answer and all memory lent at exit. EntryTheorems proves each.
+-- What a caller of the entries may rely on, from their contracts alone. Of `jivakkol_dealias_sweep`: s is the sweep that the call's parameters are,
+-- m all memory lent at entry, a the answer and all memory lent at exit. EntryTheorems proves each, VelocityTheorems those of the second entry.
 use Prim.Native.Nat.{ℕ, _<_}
 use mathlib.Core.Path.{_≡_}
 use mathlib.Core.Bool.{Bool, true, false}
@@ -7,11 +7,13 @@ use mathlib.Core.List.{List, [], _∷_}
 use mathlib.Core.Option.{none, some}
 use lib.ListN.{length, getD}
 use lib.IntN.{pos, _+ℤ_}
+use lib.Ieee.{Float}
 use Rattle.network.specs.Network.{replay}
 use Rattle.sweep.specs.Sweep.{Sweep, unfolded}
 use Rattle.sweep.specs.Checks.{gatesIn, asked, firstMissed, ownLimits}
 use Rattle.sweep.specs.Call.{Memory, Answer, lengths, clearedFor, call}
 use Rattle.sweep.specs.Entry.{answerOf}
+use Rattle.sweep.specs.Velocity.{Counted, VelocityAnswer, velocities, askedVelocity, callVelocity}
 use Rattle.locality.specs.Demand3.{Apart, MergeList, Does, first, countAt, Alike, offset, Agree}
 
 -- the contract of the entry
@@ -62,3 +64,21 @@ abbrev pub EchoLists : Type 0
 EchoLists =
     (E : ℕ → Bool) (s : Sweep) (m : Memory) (a : Answer) → Called s m a → a .number ≡ 0 → Apart E s (ownLimits s)
     → (l : List ℕ) → MergeList E s (ownLimits s) l → ListGives s a l
+
+-- ---- of `jivakkol_unfold_velocity`: u is what the call's parameters are, out the slice lent at entry, a the answer and the slice at exit
+
+-- the contract of the entry
+abbrev pub CalledVelocity : Counted → List Float → VelocityAnswer → Type 0
+CalledVelocity u out a = a ≡ callVelocity u out
+
+-- `velocity-answer-is`: the answer is the number of the first question that gets a no, and 0 where none does
+abbrev pub VelocityAnswerIs : Type 0
+VelocityAnswerIs = (u : Counted) (out : List Float) (a : VelocityAnswer) → CalledVelocity u out a → a .number ≡ answerOf (askedVelocity u (length out))
+
+-- `velocity-refusal-keeps`: a refusal leaves the slice as it was
+abbrev pub VelocityRefusalKeeps : Type 0
+VelocityRefusalKeeps = (u : Counted) (out : List Float) (a : VelocityAnswer) → CalledVelocity u out a → 0 < a .number → a .unfolded ≡ out
+
+-- `velocities-are`: a call that answers 0 leaves the definition's velocities
+abbrev pub VelocitiesAre : Type 0
+VelocitiesAre = (u : Counted) (out : List Float) (a : VelocityAnswer) → CalledVelocity u out a → a .number ≡ 0 → a .unfolded ≡ velocities u
