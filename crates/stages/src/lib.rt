@@ -1,17 +1,31 @@
 // The stages of a sweep call, exported one by one so that bench/ can time them. Each is a call of the function that the entry uses, and asks
-// of its caller what that function asks: bench/ gets there by the stages before, on sweeps that the entry accepts. For measuring alone.
+// of its caller what that function asks, and promises what it promises: bench/ gets there by the stages before, on sweeps that the entry accepts.
 ghost use mathlib.Core.Path.{_≡_};
-ghost use Prim.Native.Nat.{_+_, _≤_};
-ghost use lib.ListN.{length};
-ghost use Rattle.lists.specs.Inside.Seg.{Disjoint};
+ghost use mathlib.Core.List.{List, _++_};
+ghost use Prim.Native.Nat.{_+_, _*_, _≤_};
+ghost use lib.IntN.{pos};
+ghost use lib.ListN.{length, replicate};
+ghost use lib.Ieee.{Float};
+ghost use Rattle.lists.specs.Inside.Seg.{seg, put, Disjoint};
+ghost use Rattle.lists.specs.Seq.{tabulate};
+ghost use Rattle.arithmetic.specs.Rounding.{real};
+ghost use Rattle.arithmetic.specs.Intervals as I;
+ghost use Rattle.labels.specs.Regions.{regions};
 ghost use Rattle.labels.specs.Inside.Sheet.{FindsRegions};
-ghost use Rattle.edges.specs.Inside.GatePairs.{Sheet};
-ghost use Rattle.edges.specs.Inside.Sorts.{Sorts};
-ghost use Rattle.edges.specs.Inside.Gather.{Legible, Gathers};
+ghost use Rattle.edges.specs.declared.edges.Shape.{Shape};
+ghost use Rattle.edges.specs.Inside.GatePairs.{gatePairs, AddsPairs, Sheet};
+ghost use Rattle.edges.specs.Inside.Sorts.{Sorts, Sorted};
+ghost use Rattle.edges.specs.Inside.Gather.{later, Legible, Gathers, Gathered};
+ghost use Rattle.edges.specs.Inside.Order.{runs};
 ghost use Rattle.merge.specs.Inside.Tables.{view};
+ghost use Rattle.network.specs.Network.{sizeIn};
 ghost use Rattle.network.specs.Inside.Sizes.{Sizes};
-ghost use Rattle.network.specs.Inside.Begin.{Space, Raw};
-ghost use Rattle.sweep.specs.Inside.Finish.{Finishes};
+ghost use Rattle.network.specs.Inside.Begin.{Space, Raw, AllIs};
+ghost use Rattle.network.specs.declared.network.Ran.{Ran};
+ghost use Rattle.sweep.specs.Checks.{firstNo, sevenOf};
+ghost use Rattle.sweep.specs.Entry.{sweepOf, answerOf};
+ghost use Rattle.sweep.specs.Inside.Finish.{countsBy, Finishes};
+ghost use Rattle.stages.specs.Answers.{rangeNumber, ranNumber};
 
 // Questions 1 to 7.
 #[no_mangle]
@@ -28,7 +42,12 @@ pub extern "C" fn stage_questions(
     valid: &[u8],
     words: usize,
     floats: usize,
-) -> u32 {
+) -> u32
+    ensures { λ r. ⌜ (
+        let s = sweepOf rays gates nyquist splits «skip_between_rays» «skip_along_ray» centred wrap (now (velocity .entry)) (now (valid .entry)) in
+        r ≡ answerOf (firstNo (sevenOf s (record { counts = length (now (velocity .entry)); pair = 2; words = words; floats = floats })))
+        ) ⌝ }
+{
     let o = network::options::Options {
         rays: rays,
         gates: gates,
@@ -48,6 +67,7 @@ pub extern "C" fn stage_questions(
 #[no_mangle]
 pub extern "C" fn stage_range(velocity: &[f32], valid: &[u8]) -> u32
     requires { ⌜ length (now valid) ≡ length (now velocity) ⌝ }
+    ensures { λ r. ⌜ r ≡ rangeNumber (I.range (I.valid (now (velocity .entry)) (now (valid .entry)))) ⌝ }
 {
     match arithmetic::intervals::least_and_greatest(velocity, valid) {
         arithmetic::intervals::Extremes::Both(lo, hi) => {
@@ -70,6 +90,11 @@ pub extern "C" fn stage_labels(
     work: &mut [u32],
 ) -> u32
     requires { ⌜ FindsRegions gates (now velocity) (now valid) (now limits) (now work) ⌝ }
+    ensures { λ r. ⌜ r ≡ (regions gates (now (velocity .entry)) (now (valid .entry)) (now (limits .entry))) .number ⌝ }
+    ensures { λ _. ⌜ (
+        let f = regions gates (now (velocity .entry)) (now (valid .entry)) (now (limits .entry)) in
+        now (work .exit) ≡ f .labels ++ replicate (2 * length (now (velocity .entry)) + 64) 0
+        ) ⌝ }
 {
     labels::regions::find_regions(gates, velocity, valid, limits, work)
 }
@@ -86,6 +111,11 @@ pub extern "C" fn stage_looks(
     n: usize,
 ) -> usize
     requires { ⌜ Sheet (record { rays = rays; gates = gates; «skip_between_rays» = «skip_between_rays»; «skip_along_ray» = «skip_along_ray»; wrap = wrap }) n (now work) ⌝ }
+    ensures { λ r. ⌜ (
+        let f : Shape = record { rays = rays; gates = gates; «skip_between_rays» = «skip_between_rays»; «skip_along_ray» = «skip_along_ray»; wrap = wrap } in
+        AddsPairs n (now (work .entry)) (now (work .exit)) 0 r (gatePairs f (seg (now (work .entry)) 0 n))
+        ) ⌝ }
+    ensures { λ r. ⌜ r ≤ 4 * n ⌝ }
 {
     let f = edges::edges::Shape {
         rays: rays,
@@ -101,6 +131,7 @@ pub extern "C" fn stage_looks(
 #[no_mangle]
 pub extern "C" fn stage_sort(work: &mut [u32], n: usize, m: usize, k: usize)
     requires { ⌜ Sorts (now work) n m k ⌝ }
+    ensures { λ _. ⌜ Sorted (now (work .entry)) (now (work .exit)) n m k ⌝ }
 {
     edges::edges::sort_pairs(work, n, m, k);
 }
@@ -109,6 +140,7 @@ pub extern "C" fn stage_sort(work: &mut [u32], n: usize, m: usize, k: usize)
 #[no_mangle]
 pub extern "C" fn stage_count(work: &[u32], n: usize, m: usize) -> usize
     requires { ⌜ Legible (now work) n m ⌝ }
+    ensures { λ r. ⌜ ((vel : List Float) → r ≡ length (runs (later (now (work .entry)) vel n m 0))) ⌝ }
 {
     edges::edges::count_runs(work, n, m)
 }
@@ -126,6 +158,10 @@ pub extern "C" fn stage_edges(
     two_nyquist: f64,
 ) -> usize
     requires { ⌜ Gathers (now work) (now floats) (now velocity) n m t c ⌝ }
+    ensures { λ r. ⌜ (
+        let rs = runs (later (now (work .entry)) (now (velocity .entry)) n m 0) in
+        Gathered «two_nyquist» (now (work .entry)) (now (work .exit)) (now (floats .entry)) (now (floats .exit)) t c r rs
+        ) ⌝ }
 {
     edges::edges::gather(work, floats, velocity, n, m, t, c, two_nyquist)
 }
@@ -134,6 +170,7 @@ pub extern "C" fn stage_edges(
 #[no_mangle]
 pub extern "C" fn stage_sizes(work: &mut [u32], n: usize, at: usize, k: usize)
     requires { ⌜ Sizes (now work) n at k ⌝ }
+    ensures { λ _. ⌜ now (work .exit) ≡ put (now (work .entry)) at (tabulate k (sizeIn (seg (now (work .entry)) 0 n))) ⌝ }
 {
     network::sizes::count_sizes(work, n, at, k);
 }
@@ -142,6 +179,7 @@ pub extern "C" fn stage_sizes(work: &mut [u32], n: usize, at: usize, k: usize)
 #[no_mangle]
 pub extern "C" fn stage_copy(work: &mut [u32], src: usize, dst: usize, len: usize)
     requires { ⌜ (src + len ≤ length (now work)) × (dst + len ≤ length (now work)) × Disjoint src len dst len ⌝ }
+    ensures { λ _. ⌜ now (work .exit) ≡ put (now (work .entry)) dst (seg (now (work .entry)) src len) ⌝ }
 {
     memory::words::copy(work, src, dst, len);
 }
@@ -151,6 +189,7 @@ pub extern "C" fn stage_copy(work: &mut [u32], src: usize, dst: usize, len: usiz
 pub extern "C" fn stage_merges(tables: &mut [u32], floats: &mut [f64], e: usize, v: usize) -> u32
     requires { ⌜ Space e v (now tables) (now floats) ⌝ }
     requires { ⌜ Raw e v (view e v (now tables) (now floats)) ⌝ }
+    ensures { λ r. ⌜ ((a : Ran) × AllIs e v (view e v (now (tables .entry)) (now (floats .entry))) (now (tables .exit)) (now (floats .exit)) a × (r ≡ ranNumber a)) ⌝ }
 {
     match network::network::merge_all(tables, floats, e, v) {
         network::network::Ran::Settled(k) => 1,
@@ -169,12 +208,16 @@ pub extern "C" fn stage_output(
     folds: &mut [i32],
 )
     requires { ⌜ Finishes (now work) n k (now valid) (length (now folds)) ⌝ }
+    ensures { λ _. ⌜ now (folds .exit) ≡ countsBy (now (work .entry)) n k (now (valid .entry)) centred ⌝ }
 {
     sweep::sweep::settle(work, n, k, valid, centred, folds);
 }
 
 // All of both work memories zero.
 #[no_mangle]
-pub extern "C" fn stage_clear(work: &mut [u32], floats: &mut [f64]) {
+pub extern "C" fn stage_clear(work: &mut [u32], floats: &mut [f64])
+    ensures { λ _. ⌜ now (work .exit) ≡ replicate (length (now (work .entry))) 0 ⌝ }
+    ensures { λ _. ⌜ now (floats .exit) ≡ replicate (length (now (floats .entry))) (real (pos 0)) ⌝ }
+{
     sweep::sweep::clear(work, floats);
 }
