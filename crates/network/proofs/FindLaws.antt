@@ -2,7 +2,6 @@
 use Prim.Native.Nat.{ℕ, zero, suc, _+_, _≤_, _<_}
 use native.Mathlib.Omega.{arith}
 use mathlib.Core.Path.{_≡_, refl, sym, ap, _∙_, subst}
-use mathlib.Core.Bool.{true≢false}
 use mathlib.Core.List.{List, []}
 use lib.IntN.{pos}
 use lib.ListN.{length, getD, replicate, length-replicate}
@@ -22,12 +21,12 @@ use Rattle.edges.specs.Edges.{pairs, used}
 use Rattle.edges.specs.declared.edges.Shape.{Shape}
 use Rattle.network.specs.Network.{sizeIn, merges, networkBy}
 use Rattle.network.specs.Inside.Reduce.{Reduces, Reduced, TablesLeft}
-use Rattle.network.specs.Inside.Find.{shapeOf, limitsBy, regionsBy, networkFor, Labelled, Few, Finds, Leaves}
+use Rattle.network.proofs.Settles.{ran-yes}
+use Rattle.network.specs.Inside.Find.{shapeOf, limitsBy, regionsBy, networkFor, Labelled, Few, Finds, findingOf, Leaves}
 use Rattle.network.specs.declared.options.Options.{Options}
 use Rattle.network.specs.declared.network.Ran.{Ran}
-use Rattle.network.specs.declared.network.Ran.the-variants.{Settled, Denied}
 use Rattle.network.specs.declared.find.Finding.{Finding}
-use Rattle.network.specs.declared.find.Finding.the-variants.{Regions, Refused}
+use Rattle.network.specs.declared.find.Finding.the-variants.{Regions}
 use Rattle.network.proofs.FewRegions.{used-few, no-merges, no-refusal, no-counts}
 
 -- the same value at each place of a part
@@ -43,11 +42,6 @@ width-is x = ap (λ (y : Float). mul binary64 y x) two-is
   where
     two-is : ofBits binary64 4611686018427387904 ≡ real (pos 2)
     two-is = unfold ofBits real ofInt in refl
-
--- the answer of finding k regions by the answer of the run
-abbrev pub answered : ℕ → Ran → Finding
-answered k (Settled j) = Regions (record { regions = k; merges = j })
-answered k Denied = Refused
 
 module _ (o : Options) (p : Plan) (vel : List Float) (mask w : List ℕ) (d : List Float) (q : Finds o p vel mask w d) (k : ℕ) (v : List ℕ) (same : length v ≡ length w) (L : Labelled (regionsBy o p vel mask) (length vel) k v) where
   abbrev F : Found
@@ -121,8 +115,8 @@ module _ (o : Options) (p : Plan) (vel : List Float) (mask w : List ℕ) (d : Li
     few-left =
         let t = networkBy (twoNyquist (o .nyquist)) (shapeOf o) k (seg v 0 n) vel in
         by-found u (Regions (record { regions = k; merges = 0 })) (record {
-          refused = λ g. absurd (true≢false (sym (no-refusal (twoNyquist (o .nyquist)) (shapeOf o) k (seg v 0 n) vel no-edges) ∙ g));
-          settled = λ g. ap (λ (l : List ℕ). Regions (record { regions = k; merges = length l })) (sym (no-merges (twoNyquist (o .nyquist)) (shapeOf o) k (seg v 0 n) vel no-edges));
+          answer = ap (λ (l : List ℕ). Regions (record { regions = k; merges = length l })) (sym (no-merges (twoNyquist (o .nyquist)) (shapeOf o) k (seg v 0 n) vel no-edges))
+              ∙ sym (ap (findingOf k) (ran-yes t (no-refusal (twoNyquist (o .nyquist)) (shapeOf o) k (seg v 0 n) vel no-edges)));
           tables = tables;
         })
 
@@ -140,10 +134,10 @@ module _ (o : Options) (p : Plan) (vel : List Float) (mask w : List ℕ) (d : Li
     floats = q .floats;
   })
 
-  pub reduced-left : (u : List ℕ) (x : Ran) (f : Shape) (x2 : Float) → f ≡ shapeOf o → x2 ≡ twoNyquist (o .nyquist) → Reduced (networkBy x2 f k (seg v 0 n) vel) n k v u x → (r : Finding) → r ≡ answered k x
+  pub reduced-left : (u : List ℕ) (x : Ran) (f : Shape) (x2 : Float) → f ≡ shapeOf o → x2 ≡ twoNyquist (o .nyquist) → Reduced (networkBy x2 f k (seg v 0 n) vel) n k v u x → (r : Finding) → r ≡ findingOf k x
       → Leaves (regionsBy o p vel mask) (networkFor o (regionsBy o p vel mask) vel) (length vel) u r
   reduced-left u x f x2 ef ew R r e =
       let R′ : Reduced (networkBy (twoNyquist (o .nyquist)) (shapeOf o) k (seg v 0 n) vel) n k v u x =
       subst (λ (y : Shape). Reduced (networkBy (twoNyquist (o .nyquist)) y k (seg v 0 n) vel) n k v u x) ef
       (subst (λ (y : Float). Reduced (networkBy y f k (seg v 0 n) vel) n k v u x) ew R) in
-      by-found u r (record { refused = λ g. e ∙ ap (answered k) (R′ .refused g); settled = λ g. e ∙ ap (answered k) (R′ .settled g); tables = R′ .tables })
+      by-found u r (record { answer = e ∙ ap (findingOf k) (R′ .answer); tables = R′ .tables })

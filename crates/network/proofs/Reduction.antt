@@ -27,7 +27,7 @@ use Rattle.network.specs.Inside.Reduce.{Reduces, Reduced}
 use Rattle.edges.specs.declared.edges.Shape.{Shape}
 use Rattle.network.specs.declared.network.Ran.{Ran}
 use Rattle.network.proofs.Joint.{Filled, raw}
-use Rattle.network.proofs.Started.{network, Left, refused, left, no-region-0}
+use Rattle.network.proofs.Started.{network, Left, answer, left, no-region-0}
 
 module _ (f : Shape) (u : List ℕ) (d vel : List Float) (n k : ℕ) (twoNyquist : Float) (q : Reduces f u d vel n k) where
   abbrev L : List ℕ
@@ -180,8 +180,7 @@ module _ (f : Shape) (u : List ℕ) (d vel : List Float) (n k : ℕ) (twoNyquist
 
               pub reduced : Reduced (networkBy twoNyquist f k (seg u 0 n) vel) n k u v6 r
               reduced = rw net (record {
-                refused = λ g. unfold mergesInRange in refused twoNyquist k e (seg u 0 n) ps (view e (k + 1) (seg v3 (13 * n) c) d1) filled y d2 r A g;
-                settled = λ g. leaves g .settled;
+                answer = answer twoNyquist k e (seg u 0 n) ps (view e (k + 1) (seg v3 (13 * n) c) d1) filled y d2 r A;
                 tables = record {
                   counts = λ g l h. ⊎-elim
                       (λ z. ap (λ (i : ℕ). unbias (getD v6 (countsAt n k + i) 0)) z ∙ ap unbias count-0′ ∙ zero-count ∙ ap (countOf _) (sym z))
@@ -196,7 +195,7 @@ module _ (f : Shape) (u : List ℕ) (d vel : List Float) (n k : ℕ) (twoNyquist
                 };
               })
                 where
-                  leaves : mergesInRange (network twoNyquist k e (seg u 0 n) ps (view e (k + 1) (seg v3 (13 * n) c) d1) filled) ≡ true → Left twoNyquist k e (seg u 0 n) ps (view e (k + 1) (seg v3 (13 * n) c) d1) filled y d2 r
+                  leaves : mergesInRange (network twoNyquist k e (seg u 0 n) ps (view e (k + 1) (seg v3 (13 * n) c) d1) filled) ≡ true → Left twoNyquist k e (seg u 0 n) ps (view e (k + 1) (seg v3 (13 * n) c) d1) filled y d2
                   leaves g = unfold mergesInRange in left twoNyquist k e (seg u 0 n) ps (view e (k + 1) (seg v3 (13 * n) c) d1) filled y d2 r A g
 
                   no-turn : unbias 1000 ≡ pos 0

@@ -7,14 +7,12 @@ use Prim.Native.Nat.{ℕ, zero, suc, _+_}
 use native.Mathlib.Omega.{arith}
 use lib.ListN.{length}
 use Rattle.lists.proofs.SeqLaws.{map-upto-length}
-use Rattle.network.specs.Network.{Edge, State, event, step, choose, follow, run, merges, trace, replay, inRange}
+use Rattle.network.specs.Network.{Edge, State, event, step, choose, follow, run, merges, mergesInRange, trace, replay, inRange}
 use Rattle.network.specs.Inside.Net.{stateOf}
-use Rattle.network.specs.Inside.Settle.{Done, onward, settle}
+use Rattle.network.specs.Inside.Settle.{Done, onward, settle, outcome, ranOf}
+use Rattle.network.specs.declared.network.Ran.{Ran}
+use Rattle.network.specs.declared.network.Ran.the-variants.{Settled, Refused}
 use Rattle.lists.specs.Seq.{all}
-
--- accepted exactly if every event of the merge list is, with the replay's last state
-unfoldable pub outcome : State → List ℕ → ℕ → Option Done
-outcome t l k = cond (all inRange (trace t l)) (some (record { last = replay t l; merges = k + length l })) none
 
 pub settle-run : (f : ℕ) (t : State) (k : ℕ) → settle f t k ≡ outcome t (run f t) k
 unfolding settle outcome run trace replay all onward follow
@@ -34,3 +32,16 @@ settle-run (suc f) t k = go (choose (t .edges)) (settle-run f)
         test false h = refl
         test true h = let z : suc k + length (run f u) ≡ k + suc (length (run f u)) = omega arith in
             h ∙ ap (λ (x : ℕ). cond (all inRange (trace u (run f u))) (some (record { last = replay u (run f u); merges = x })) none) z
+
+-- the answer by question 9
+module _ (t : State) where
+  abbrev by-test : Bool → Ran
+  by-test b = ranOf (cond b (some (record { last = replay t (merges t); merges = 0 + length (merges t) })) none)
+
+  pub ran-no : mergesInRange t ≡ false → ranOf (outcome t (merges t) 0) ≡ Refused
+  unfolding mergesInRange outcome ranOf
+  ran-no = ap by-test
+
+  pub ran-yes : mergesInRange t ≡ true → ranOf (outcome t (merges t) 0) ≡ Settled (length (merges t))
+  unfolding mergesInRange outcome ranOf
+  ran-yes h = let z : 0 + length (merges t) ≡ length (merges t) = omega arith in ap by-test h ∙ ap Settled z

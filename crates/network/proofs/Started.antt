@@ -21,14 +21,14 @@ use Rattle.merge.specs.Inside.Tables.{Tables, view}
 use Rattle.merge.specs.Inside.Table.{count, first, second}
 use Rattle.merge.specs.Inside.Steps.{unbias}
 use Rattle.network.specs.Inside.Net.{edgeOf, regionOf}
-use Rattle.network.specs.Inside.Settle.{Done, settle}
-use Rattle.network.specs.Inside.TurnIs.{gatesIn, RanIs}
+use Rattle.network.specs.Inside.Settle.{Done, settle, outcome, ranOf}
+use Rattle.network.specs.Inside.TurnIs.{gatesIn, RunLeaves, RanIs}
 use Rattle.network.specs.Inside.Begin.{rawRegion, rawNet, AllIs}
 use Rattle.network.specs.declared.network.Ran.{Ran}
-use Rattle.network.specs.declared.network.Ran.the-variants.{Settled, Denied}
+use Rattle.network.specs.declared.network.Ran.the-variants.{Settled}
 use Rattle.network.proofs.Restrict.{edgeIn, regionIn, restrict, OkE, OkR, Closed, eventIn, trace-in}
 use Rattle.network.proofs.Own.{merges-in, final-in}
-use Rattle.network.proofs.Settles.{outcome, settle-run}
+use Rattle.network.proofs.Settles.{settle-run}
 use Rattle.network.proofs.Joint.{Filled, good, first-of, second-of, edges-are, region, regions-are}
 
 -- the count of region l
@@ -145,8 +145,7 @@ module _ (twoNyquist : Float) (k m : ℕ) (L : List ℕ) (ps : List Pair) (s : T
 
   -- ---- what the run of the tables leaves
 
-  pub record Left (w : List ℕ) (d : List Float) (r : Ran) : Type 0 where
-    pub settled : r ≡ Settled (length (merges network))
+  pub record Left (w : List ℕ) (d : List Float) : Type 0 where
     pub counts : (l : ℕ) → 1 ≤ l → l ≤ k → unbias (getD (view m (k + 1) w d .at count) l 0) ≡ countOf (replay network (merges network) .regions) l
     pub most : (l : ℕ) → l ≤ k → getD (view m (k + 1) w d .at count) l 0 ≤ 2000
 
@@ -155,9 +154,13 @@ module _ (twoNyquist : Float) (k m : ℕ) (L : List ℕ) (ps : List Pair) (s : T
     unfolding AllIs tables
     ran b e = subst (λ (o : Option Done). RanIs m (k + 1) (gatesIn s) o w d r) (settle-is ∙ ap ending e) h
 
-    pub refused : all inRange (trace network (merges network)) ≡ false → r ≡ Denied
-    unfolding RanIs ending
-    refused e = ran false e
+    pub answer : r ≡ ranOf (outcome network (merges network) 0)
+    unfolding AllIs tables outcome
+    answer = h .answer ∙ ap ranOf settle-is ∙ go (all inRange (trace network (merges network)))
+      where
+        go : (b : Bool) → ranOf (ending b) ≡ ranOf (cond b (some (record { last = replay network (merges network); merges = 0 + length (merges network) })) none)
+        go true = unfold ending ranOf in ap Settled (omega arith)
+        go false = unfold ending ranOf in refl
 
     named : (node : ℕ → ℕ) (i : ℕ) → 1 ≤ i → regionIn some-label any-edge (regionOf (gatesIn s) node (view m (k + 1) w d) i) ≡ true
     unfolding regionIn regionOf
@@ -182,15 +185,14 @@ module _ (twoNyquist : Float) (k m : ℕ) (L : List ℕ) (ps : List Pair) (s : T
     unfolding regionOf
     count-of node l = refl
 
-    pub left : all inRange (trace network (merges network)) ≡ true → Left w d r
-    unfolding RanIs ending
+    pub left : all inRange (trace network (merges network)) ≡ true → Left w d
+    unfolding RunLeaves ending
     left e =
-        let R = ran true e in
+        let R = ran true e .leaves in
         record {
-          settled = R .0;
           counts = λ l a b.
-              sym (ap (λ (x : List Region). countOf x l) (last-regions (R .1) (R .2))
-              ∙ count-upto (regionOf (gatesIn s) (R .1) (view m (k + 1) w d)) 1 k l (λ i. unfold regionOf in refl) a (omega arith)
-              ∙ count-of (R .1) l);
-          most = λ l b. R .3 l (omega arith);
+              sym (ap (λ (x : List Region). countOf x l) (last-regions (R .0) (R .1))
+              ∙ count-upto (regionOf (gatesIn s) (R .0) (view m (k + 1) w d)) 1 k l (λ i. unfold regionOf in refl) a (omega arith)
+              ∙ count-of (R .0) l);
+          most = λ l b. R .2 l (omega arith);
         }

@@ -1,6 +1,6 @@
 -- `choose_base`, `turn` and `run` over plain values. Assumes nothing.
 use mathlib.Core.Path.{_≡_, refl, sym, ap, _∙_, subst}
-use mathlib.Core.Bool.{Bool, true, false, _&&_, cond}
+use mathlib.Core.Bool.{Bool, true, false, _&&_, cond, true≢false}
 use mathlib.Core.List.{List, map}
 use mathlib.Core.Option.{Option, none, some}
 use Prim.Native.Nat.{ℕ, zero, suc, _+_, _*_, _-_, _≤_, _<_}
@@ -20,11 +20,11 @@ use Rattle.merge.specs.Inside.Steps.{unbias, turned, merged, numberOf}
 use Rattle.merge.specs.Inside.Leaves.{LeavesTables, Raised, Gains, Fit}
 use Rattle.network.specs.Inside.Net.{edgeOf, edgeNow, regionOf}
 use Rattle.network.specs.Inside.Rep.{Rep}
-use Rattle.network.specs.Inside.Settle.{Done, onward, settle}
-use Rattle.network.specs.Inside.TurnIs.{TurnIs, Chosen, PickIs, gatesIn, firstOf, RanIs}
+use Rattle.network.specs.Inside.Settle.{Done, onward, settle, ranOf, mergedBy, turnedBy}
+use Rattle.network.specs.Inside.TurnIs.{TurnLeaves, TurnIs, Chosen, PickIs, gatesIn, firstOf, RunLeaves, RanIs}
 use Rattle.network.specs.declared.network.Turned.{Turned}
 use Rattle.network.specs.declared.network.Turned.the-variants.{Merged, Ended, Refused}
-use Rattle.network.specs.declared.network.Ran.the-variants.{Settled, Denied}
+use Rattle.network.specs.declared.network.Ran.the-variants.{Settled, Refused as RunRefused}
 use Rattle.merge.proofs.View.{weight-at, read}
 use Rattle.merge.proofs.Leaf.{turned-words}
 use Rattle.network.proofs.TableEdges.{word-live}
@@ -153,17 +153,19 @@ module _ (m n : ℕ) (gates : ℕ → ℕ) (past : ℕ) (w : List ℕ) (d : List
           outcome = subst (λ (x : ℕ). MergeIs m n gates past s t R e lt l (merged m (past + 1) e x v g' s)) is-b (subst (λ (x : ℕ). MergeIs m n gates past s t R e lt l (merged m (past + 1) e (plan rs (R .E e) .base) x g' s)) is-v (merge-is m n gates past s t R e lt l g' is-g most'))
 
           merged-yes : (w' : List ℕ) (d' : List Float) (z : Bool) → Raised m n w' d' (merged m (past + 1) e b v g' s) z → z ≡ true → PickIs m n gates past t e w' d' Merged
-          unfolding PickIs MergeIs
+          unfolding MergeIs mergedBy
           merged-yes w' d' z h f =
               let r : (s' : Tables) × (merged m (past + 1) e b v g' s ≡ some s') × LeavesTables m n w' d' s' = raised-true m n w' d' _ z h f in
               let o : (all (bounded 1000) (raised (plan rs (R .E e) .gain) rs (plan rs (R .E e) .moved)) ≡ true) × Rep m n gates (past + 1) (r .0) (step t e) = subst (MergeIs m n gates past s t R e lt l) (r .1) outcome in
-              (range-is ∙ (rw (N .bound, o .0) refl), subst (λ (u : Tables). Rep m n gates (past + 1) u (step t e)) (sym (r .2 .tables)) (o .1), r .2 .tree)
+              let in-range : inRange (event t e) ≡ true = range-is ∙ (rw (N .bound, o .0) refl) in
+              record { answer = sym (ap mergedBy in-range); leaves = λ q. (subst (λ (u : Tables). Rep m n gates (past + 1) u (step t e)) (sym (r .2 .tables)) (o .1), r .2 .tree) }
 
           merged-no : (w' : List ℕ) (d' : List Float) (z : Bool) → Raised m n w' d' (merged m (past + 1) e b v g' s) z → z ≡ false → (w'' : List ℕ) (d'' : List Float) → PickIs m n gates past t e w'' d'' Refused
-          unfolding PickIs MergeIs
+          unfolding MergeIs mergedBy
           merged-no w' d' z h f w'' d'' =
               let o : all (bounded 1000) (raised (plan rs (R .E e) .gain) rs (plan rs (R .E e) .moved)) ≡ false = subst (MergeIs m n gates past s t R e lt l) (raised-false m n w' d' _ z h f) outcome in
-              range-is ∙ (rw (N .bound, o) refl)
+              let out : inRange (event t e) ≡ false = range-is ∙ (rw (N .bound, o) refl) in
+              record { answer = sym (ap mergedBy out); leaves = λ h. absurd (true≢false (sym h ∙ out)) }
 
         -- the first end is the base
         module _ (more : getD w (7 * m + 3 * n + q) 0 < getD w (7 * m + 3 * n + p) 0) where
@@ -248,8 +250,8 @@ module _ (m n : ℕ) (gates : ℕ → ℕ) (past : ℕ) (w : List ℕ) (d : List
   -- ---- a turn
   module _ (e g : ℕ) (B : Best m w e) where
     pub turn-ended : getD w e 0 ≡ 0 → TurnIs m n gates past t w d Ended
-    unfolding TurnIs
-    turn-ended z = (choose-none e B z, R)
+    unfolding TurnLeaves turnedBy
+    turn-ended z = let c = choose-none e B z in record { answer = sym (ap (turnedBy t) c); leaves = subst (λ (o : Option Edge). TurnLeaves m n gates past t o w d) (sym c) R }
 
     module _ (live : getD w e 0 ≡ 0 → ⊥) (is : g ≡ numberOf (quot (edgeNow s e .link .diff) (getD w e 0))) where
       l : R .E e .live ≡ true
@@ -261,15 +263,21 @@ module _ (m n : ℕ) (gates : ℕ → ℕ) (past : ℕ) (w : List ℕ) (d : List
       num : R .E e .num ≡ e
       num = R .number e
 
-      pub turn-refused : 2000 < g → (w' : List ℕ) (d' : List Float) → TurnIs m n gates past t w' d' Refused
-      unfolding TurnIs
-      turn-refused h w' d' = (R .E e, choose-some e B live, ap (λ (i : ℕ). inRange (event t i)) num ∙ number-refused e (B .within) l (number-out (quot (R .E e .link .diff) (R .E e .link .weight)) g in-words h))
-
       pub turn-picked : (w' : List ℕ) (d' : List Float) (r : Turned) → PickIs m n gates past t e w' d' r → TurnIs m n gates past t w' d' r
-      unfolding TurnIs PickIs
-      turn-picked w' d' Merged h = (R .E e, choose-some e B live, ap (λ (i : ℕ). inRange (event t i)) num ∙ h .0, subst (λ (i : ℕ). Rep m n gates (past + 1) (view m n w' d') (step t i)) (sym num) (h .1), h .2)
-      turn-picked w' d' Ended h = absurd h
-      turn-picked w' d' Refused h = (R .E e, choose-some e B live, ap (λ (i : ℕ). inRange (event t i)) num ∙ h)
+      unfolding TurnLeaves turnedBy
+      turn-picked w' d' r h =
+          let c = choose-some e B live in
+          let leaves : TurnLeaves m n gates past t (some (R .E e)) w' d' = subst (λ (i : ℕ). inRange (event t i) ≡ true → Rep m n gates (past + 1) (view m n w' d') (step t i) × Tree m w') (sym num) (h .leaves) in
+          record {
+            answer = h .answer ∙ ap (λ (i : ℕ). mergedBy (inRange (event t i))) (sym num) ∙ sym (ap (turnedBy t) c);
+            leaves = subst (λ (o : Option Edge). TurnLeaves m n gates past t o w' d') (sym c) leaves;
+          }
+
+      pub turn-refused : 2000 < g → (w' : List ℕ) (d' : List Float) → TurnIs m n gates past t w' d' Refused
+      unfolding mergedBy
+      turn-refused h w' d' =
+          let out = number-refused e (B .within) l (number-out (quot (R .E e .link .diff) (R .E e .link .weight)) g in-words h) in
+          turn-picked w' d' Refused (record { answer = sym (ap mergedBy out); leaves = λ h. absurd (true≢false (sym h ∙ out)) })
 
 -- ---- what `pop_edge` leaves where an edge is live
 module _ (m n : ℕ) (w : List ℕ) (d : List Float) (r : HoldsTables m n w d) (h : Sound m n (view m n w d)) (e : ℕ) (B : Best m w e) (live : getD w e 0 ≡ 0 → ⊥) where
@@ -327,6 +335,25 @@ module _ (m n : ℕ) (w : List ℕ) (d : List Float) (p : PoppedEdge) (k : Takes
   }
 
 -- ---- the run
+
+-- a turn by the cases of its answer
+unfoldable TurnCase : ℕ → ℕ → (ℕ → ℕ) → ℕ → State → List ℕ → List Float → Turned → Type 0
+TurnCase m n gates k t w d Merged = (e : Edge) × (choose (t .edges) ≡ some e) × (inRange (event t (e .num)) ≡ true) × Rep m n gates (k + 1) (view m n w d) (step t (e .num)) × Tree m w
+TurnCase m n gates k t w d Ended = (choose (t .edges) ≡ none) × Rep m n gates k (view m n w d) t
+TurnCase m n gates k t w d Refused = (e : Edge) × (choose (t .edges) ≡ some e) × (inRange (event t (e .num)) ≡ false)
+
+turn-case : (m n : ℕ) (gates : ℕ → ℕ) (k : ℕ) (t : State) (w : List ℕ) (d : List Float) (r : Turned) → TurnIs m n gates k t w d r → TurnCase m n gates k t w d r
+unfolding TurnCase TurnLeaves turnedBy mergedBy
+turn-case m n gates k t w d r h = go (choose (t .edges)) refl (h .answer) (h .leaves)
+  where
+    test : (e : Edge) (b : Bool) → choose (t .edges) ≡ some e → inRange (event t (e .num)) ≡ b → r ≡ cond b Merged Refused → (b ≡ true → Rep m n gates (k + 1) (view m n w d) (step t (e .num)) × Tree m w) → TurnCase m n gates k t w d r
+    test e true c i a l = subst (TurnCase m n gates k t w d) (sym a) (e, c, i, l refl .0, l refl .1)
+    test e false c i a l = subst (TurnCase m n gates k t w d) (sym a) (e, c, i)
+
+    go : (o : Option Edge) → choose (t .edges) ≡ o → r ≡ turnedBy t o → TurnLeaves m n gates k t o w d → TurnCase m n gates k t w d r
+    go none c a l = subst (TurnCase m n gates k t w d) (sym a) (c, l)
+    go (some e) c a l = test e (inRange (event t (e .num))) c refl a l
+
 pub record Running (m n : ℕ) (w₀ : List ℕ) (d₀ : List Float) (w : List ℕ) (d : List Float) (k : ℕ) : Type 0 where
   pub room : HoldsTables m n w d
   pub net : State
@@ -342,8 +369,8 @@ run-start m n w d r R = let z : m - 0 ≡ m = omega arith in
 
 module _ (m n : ℕ) (w₀ : List ℕ) (d₀ : List Float) (w : List ℕ) (d : List Float) (k : ℕ) (I : Running m n w₀ d₀ w d k) where
   finished : settle m (firstOf m n (view m n w₀ d₀)) 0 ≡ some (record { last = I .net; merges = k }) → (w' : List ℕ) (d' : List Float) → Rep m n (gatesIn (view m n w₀ d₀)) k (view m n w' d') (I .net) → RanIs m n (gatesIn (view m n w₀ d₀)) (settle m (firstOf m n (view m n w₀ d₀)) 0) w' d' (Settled k)
-  unfolding RanIs
-  finished e w' d' R = subst (λ (o : Option Done). RanIs m n (gatesIn (view m n w₀ d₀)) o w' d' (Settled k)) (sym e) (refl, R .node, R .regions, λ j h. omega (arith, R .sound .within count j h))
+  unfolding RunLeaves ranOf
+  finished e w' d' R = subst (λ (o : Option Done). RanIs m n (gatesIn (view m n w₀ d₀)) o w' d' (Settled k)) (sym e) (record { answer = refl; leaves = (R .node, R .regions, λ j h. omega (arith, R .sound .within count j h)) })
 
   pub run-out : m ≤ k → RanIs m n (gatesIn (view m n w₀ d₀)) (settle m (firstOf m n (view m n w₀ d₀)) 0) w d (Settled k)
   unfolding settle
@@ -358,9 +385,9 @@ module _ (m n : ℕ) (w₀ : List ℕ) (d₀ : List Float) (w : List ℕ) (d : L
     step-is = sym (I .left) ∙ ap (λ (x : ℕ). settle x (I .net) k) more
 
     pub run-merged : (r : Turned) → r ≡ Merged → TurnIs m n (gatesIn (view m n w₀ d₀)) k (I .net) w' d' r → Running m n w₀ d₀ w' d' (k + 1)
-    unfolding TurnIs onward
+    unfolding TurnCase onward
     run-merged r e h =
-        let u : (f : Edge) × (choose (I .net .edges) ≡ some f) × (inRange (event (I .net) (f .num)) ≡ true) × Rep m n (gatesIn (view m n w₀ d₀)) (k + 1) (view m n w' d') (step (I .net) (f .num)) × Tree m w' = subst (TurnIs m n (gatesIn (view m n w₀ d₀)) k (I .net) w' d') e h in
+        let u : (f : Edge) × (choose (I .net .edges) ≡ some f) × (inRange (event (I .net) (f .num)) ≡ true) × Rep m n (gatesIn (view m n w₀ d₀)) (k + 1) (view m n w' d') (step (I .net) (f .num)) × Tree m w' = subst (TurnCase m n (gatesIn (view m n w₀ d₀)) k (I .net) w' d') e (turn-case m n (gatesIn (view m n w₀ d₀)) k (I .net) w' d' r h) in
         let z : k + 1 ≡ suc k = omega arith in
         record {
           room = record { words = omega (arith, I .room .words); diffs = omega (arith, I .room .diffs); small = I .room .small; tree = u .4 };
@@ -373,15 +400,15 @@ module _ (m n : ℕ) (w₀ : List ℕ) (d₀ : List Float) (w : List ℕ) (d : L
           same-d = ld ∙ I .same-d;
         }
 
-    pub run-denied : (r : Turned) → r ≡ Refused → TurnIs m n (gatesIn (view m n w₀ d₀)) k (I .net) w' d' r → RanIs m n (gatesIn (view m n w₀ d₀)) (settle m (firstOf m n (view m n w₀ d₀)) 0) w' d' Denied
-    unfolding TurnIs onward RanIs
-    run-denied r e h =
-        let u : (f : Edge) × (choose (I .net .edges) ≡ some f) × (inRange (event (I .net) (f .num)) ≡ false) = subst (TurnIs m n (gatesIn (view m n w₀ d₀)) k (I .net) w' d') e h in
+    pub run-refused : (r : Turned) → r ≡ Refused → TurnIs m n (gatesIn (view m n w₀ d₀)) k (I .net) w' d' r → RanIs m n (gatesIn (view m n w₀ d₀)) (settle m (firstOf m n (view m n w₀ d₀)) 0) w' d' RunRefused
+    unfolding TurnCase onward RunLeaves ranOf
+    run-refused r e h =
+        let u : (f : Edge) × (choose (I .net .edges) ≡ some f) × (inRange (event (I .net) (f .num)) ≡ false) = subst (TurnCase m n (gatesIn (view m n w₀ d₀)) k (I .net) w' d') e (turn-case m n (gatesIn (view m n w₀ d₀)) k (I .net) w' d' r h) in
         let no : settle m (firstOf m n (view m n w₀ d₀)) 0 ≡ none = step-is ∙ ap (λ (o : Option Edge). onward o (I .net) k (settle (m - (k + 1)))) (u .1) ∙ ap (λ (x : Bool). cond x (settle (m - (k + 1)) (step (I .net) (u .0 .num)) (suc k)) none) (u .2) in
-        subst (λ (o : Option Done). RanIs m n (gatesIn (view m n w₀ d₀)) o w' d' Denied) (sym no) refl
+        subst (λ (o : Option Done). RanIs m n (gatesIn (view m n w₀ d₀)) o w' d' RunRefused) (sym no) (record { answer = refl; leaves = tt })
 
     pub run-ended : (r : Turned) → r ≡ Ended → TurnIs m n (gatesIn (view m n w₀ d₀)) k (I .net) w' d' r → RanIs m n (gatesIn (view m n w₀ d₀)) (settle m (firstOf m n (view m n w₀ d₀)) 0) w' d' (Settled k)
-    unfolding TurnIs onward
+    unfolding TurnCase onward
     run-ended r e h =
-        let u : (choose (I .net .edges) ≡ none) × Rep m n (gatesIn (view m n w₀ d₀)) k (view m n w' d') (I .net) = subst (TurnIs m n (gatesIn (view m n w₀ d₀)) k (I .net) w' d') e h in
+        let u : (choose (I .net .edges) ≡ none) × Rep m n (gatesIn (view m n w₀ d₀)) k (view m n w' d') (I .net) = subst (TurnCase m n (gatesIn (view m n w₀ d₀)) k (I .net) w' d') e (turn-case m n (gatesIn (view m n w₀ d₀)) k (I .net) w' d' r h) in
         finished (step-is ∙ ap (λ (o : Option Edge). onward o (I .net) k (settle (m - (k + 1)))) (u .0)) w' d' (u .1)

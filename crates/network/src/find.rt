@@ -119,6 +119,6 @@ pub fn find(
             regions: k,
             merges: j,
         }),
-        crate::network::Ran::Denied => Finding::Refused,
+        crate::network::Ran::Refused => Finding::Refused,
     }
 }

@@ -148,7 +148,7 @@ fn turn(w: &mut [u32], d: &mut [f64], m: usize, n: usize, k: usize) -> Turned
 // The run: how many merges there were, or a refusal.
 pub enum Ran {
     Settled(usize),
-    Denied,
+    Refused,
 }
 
 fn run(w: &mut [u32], d: &mut [f64], m: usize, n: usize) -> Ran
@@ -166,7 +166,7 @@ fn run(w: &mut [u32], d: &mut [f64], m: usize, n: usize) -> Ran
                 return Ran::Settled(k);
             }
             Turned::Refused => {
-                return Ran::Denied;
+                return Ran::Refused;
             }
         }
     }

@@ -5,7 +5,7 @@ use lib.Ieee.{le}
 use Rattle.arithmetic.specs.declared.intervals.Extremes.{Extremes}
 use Rattle.arithmetic.specs.declared.intervals.Extremes.the-variants.{Both, NoneValid}
 use Rattle.network.specs.declared.network.Ran.{Ran}
-use Rattle.network.specs.declared.network.Ran.the-variants.{Settled, Denied}
+use Rattle.network.specs.declared.network.Ran.the-variants.{Settled, Refused}
 
 -- 1 where there is a least and a greatest velocity
 abbrev pub rangeNumber : Extremes → ℕ
@@ -15,4 +15,4 @@ rangeNumber NoneValid = 0
 -- 1 where question 9 got a yes at each merge
 abbrev pub ranNumber : Ran → ℕ
 ranNumber (Settled k) = 1
-ranNumber Denied = 0
+ranNumber Refused = 0

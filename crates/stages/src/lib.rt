@@ -20,8 +20,9 @@ ghost use Rattle.edges.specs.Inside.Order.{runs};
 ghost use Rattle.merge.specs.Inside.Tables.{view};
 ghost use Rattle.network.specs.Network.{sizeIn};
 ghost use Rattle.network.specs.Inside.Sizes.{Sizes};
-ghost use Rattle.network.specs.Inside.Begin.{Space, Raw, AllIs};
-ghost use Rattle.network.specs.declared.network.Ran.{Ran};
+ghost use Rattle.network.specs.Inside.Begin.{rawNet, Space, Raw};
+ghost use Rattle.network.specs.Inside.Settle.{settle, ranOf};
+ghost use Rattle.network.specs.Inside.TurnIs.{gatesIn, RunLeaves};
 ghost use Rattle.sweep.specs.Checks.{firstNo, sevenOf};
 ghost use Rattle.sweep.specs.Entry.{sweepOf, answerOf};
 ghost use Rattle.sweep.specs.Inside.Finish.{countsBy, Finishes};
@@ -189,11 +190,15 @@ pub extern "C" fn stage_copy(work: &mut [u32], src: usize, dst: usize, len: usiz
 pub extern "C" fn stage_merges(tables: &mut [u32], floats: &mut [f64], e: usize, v: usize) -> u32
     requires { ⌜ Space e v (now tables) (now floats) ⌝ }
     requires { ⌜ Raw e v (view e v (now tables) (now floats)) ⌝ }
-    ensures { λ r. ⌜ ((a : Ran) × AllIs e v (view e v (now (tables .entry)) (now (floats .entry))) (now (tables .exit)) (now (floats .exit)) a × (r ≡ ranNumber a)) ⌝ }
+    ensures { λ r. ⌜ r ≡ ranNumber (ranOf (settle e (rawNet e v (view e v (now (tables .entry)) (now (floats .entry)))) 0)) ⌝ }
+    ensures { λ _. ⌜ (
+        let s = view e v (now (tables .entry)) (now (floats .entry)) in
+        RunLeaves e v (gatesIn s) (settle e (rawNet e v s) 0) (now (tables .exit)) (now (floats .exit))
+        ) ⌝ }
 {
     match network::network::merge_all(tables, floats, e, v) {
         network::network::Ran::Settled(k) => 1,
-        network::network::Ran::Denied => 0,
+        network::network::Ran::Refused => 0,
     }
 }
 

@@ -19,7 +19,8 @@ use Rattle.network.specs.Network.{State, sizeIn, replay, merges, countOf, gates
 use Rattle.edges.specs.Edges.{pairs, used}
 use Rattle.merge.specs.Inside.Steps.{unbias}
 use Rattle.memory.specs.Inside.Layout.{sizesAt, countsAt, mostGates}
-use Rattle.network.specs.Inside.Find.{shapeOf, networkFor, Leaves}
+use Rattle.network.specs.Inside.Find.{shapeOf, networkFor, findingOf, Leaves}
+use Rattle.network.proofs.Settles.{ran-no, ran-yes}
 use Rattle.network.specs.declared.options.Options.{Options}
 use Rattle.network.specs.declared.find.Run.{Run}
 use Rattle.network.specs.declared.find.Finding.{Finding}
@@ -93,6 +94,14 @@ module _ (o : Options) (vel : List Float) (mask : List ℕ) (F : Found) (n : ℕ
   label-most : (g : ℕ) → g < n → getD v g 0 ≤ k
   label-most g h = omega (arith, label-at g h, low g)
 
+  -- ---- what was found, by question 9
+
+  found-no : mergesInRange t ≡ false → x ≡ Refused
+  found-no g = R .answer ∙ ap (findingOf k) (ran-no t g)
+
+  found-yes : mergesInRange t ≡ true → x ≡ Regions (record { regions = k; merges = length (merges t) })
+  found-yes g = R .answer ∙ ap (findingOf k) (ran-yes t g)
+
   -- ---- what writing asks
 
   good-if : (r : Run) → x ≡ Regions r → mergesInRange t ≡ true
@@ -100,10 +109,10 @@ module _ (o : Options) (vel : List Float) (mask : List ℕ) (F : Found) (n : ℕ
     where
       go : (b : Bool) → mergesInRange t ≡ b → mergesInRange t ≡ true
       go true g = g
-      go false g = absurd (true≢false (ap accepts (sym e ∙ R .refused g)))
+      go false g = absurd (true≢false (ap accepts (sym e ∙ found-no g)))
 
   run-is : (r : Run) → x ≡ Regions r → r ≡ record { regions = k; merges = length (merges t) }
-  run-is r e = ap runOf (sym e ∙ R .settled (good-if r e))
+  run-is r e = ap runOf (sym e ∙ found-yes (good-if r e))
 
   finishes : mergesInRange t ≡ true → (m : ℕ) → m ≡ n → (c : ℕ) → c ≡ n → Finishes v m k mask c
   finishes g m em c ec = subst (λ (z : ℕ). Finishes v z k mask c) (sym em) (record {
@@ -167,7 +176,7 @@ module _ (o : Options) (vel : List Float) (mask : List ℕ) (F : Found) (n : ℕ
 
     written-good : (cs : List ℤ) (p : List ℕ) → written x v mask (o .centred) cs p ≡ ending (asked9 (finished s F t)) (lent cs p)
     written-good cs p =
-        ap (λ (y : Finding). written y v mask (o .centred) cs p) (R .settled good)
+        ap (λ (y : Finding). written y v mask (o .centred) cs p) (found-yes good)
         ∙ ap (λ (y : List ℤ). record { number = 0; memory = lent y (k ∷ length (merges t) ∷ []) }) counts-are ∙ sym (accepted-end good)
       where
         accepted-end : mergesInRange t ≡ true
@@ -175,7 +184,7 @@ module _ (o : Options) (vel : List Float) (mask : List ℕ) (F : Found) (n : ℕ
         accepted-end e = unfold ending asked9 answered firstNo finished in rw e refl
 
   written-bad : mergesInRange t ≡ false → (cs : List ℤ) (p : List ℕ) → written x v mask (o .centred) cs p ≡ ending (asked9 (finished s F t)) (lent cs p)
-  written-bad e cs p = ap (λ (y : Finding). written y v mask (o .centred) cs p) (R .refused e) ∙ sym (refused-end e)
+  written-bad e cs p = ap (λ (y : Finding). written y v mask (o .centred) cs p) (found-no e) ∙ sym (refused-end e)
     where
       refused-end : mergesInRange t ≡ false → ending (asked9 (finished s F t)) (lent cs p) ≡ record { number = 9; memory = lent cs p }
       refused-end e = unfold ending asked9 answered firstNo finished in rw e refl

@@ -1,7 +1,7 @@
 -- Finding, from the limits of a plan to merged regions: what it asks, and what it leaves.
 use Prim.Native.Nat.{ℕ, _+_, _*_, _≤_, _<_}
 use mathlib.Core.Path.{_≡_}
-use mathlib.Core.Bool.{true, false, not}
+use mathlib.Core.Bool.{not}
 use mathlib.Core.List.{List}
 use lib.Dec.{T}
 use lib.ListN.{length, getD}
@@ -14,9 +14,12 @@ use Rattle.arithmetic.specs.declared.intervals.Plan.{Plan}
 use Rattle.labels.specs.Label.{Found}
 use Rattle.labels.specs.Regions.{regions}
 use Rattle.edges.specs.declared.edges.Shape.{Shape}
-use Rattle.network.specs.Network.{State, merges, networkBy, mergesInRange}
+use Rattle.network.specs.Network.{State, merges, networkBy}
 use Rattle.network.specs.Inside.Reduce.{TablesLeft}
+use Rattle.network.specs.Inside.Settle.{outcome, ranOf}
 use Rattle.network.specs.declared.options.Options.{Options}
+use Rattle.network.specs.declared.network.Ran.{Ran}
+use Rattle.network.specs.declared.network.Ran.the-variants.{Settled, Refused as RunRefused}
 use Rattle.network.specs.declared.find.Run.{Run}
 use Rattle.network.specs.declared.find.Finding.{Finding}
 use Rattle.network.specs.declared.find.Finding.the-variants.{Regions, Refused}
@@ -70,8 +73,12 @@ pub record Finds (o : Options) (p : Plan) (vel : List Float) (mask w : List ℕ)
   pub words : 96 * length vel + 64 ≤ length w
   pub floats : 16 * length vel + 16 ≤ length d
 
--- what is left of the regions f of n gates, t being their network: a refusal by question 9, or the numbers of regions and merges, and the tables
+-- the answer of finding k regions by the run's
+abbrev pub findingOf : ℕ → Ran → Finding
+findingOf k (Settled j) = Regions (record { regions = k; merges = j })
+findingOf k RunRefused = Refused
+
+-- the answer and what is left of the regions f of n gates, t being their network
 pub record Leaves (f : Found) (t : State) (n : ℕ) (v : List ℕ) (r : Finding) : Type 0 where
-  pub refused : mergesInRange t ≡ false → r ≡ Refused
-  pub settled : mergesInRange t ≡ true → r ≡ Regions (record { regions = f .number; merges = length (merges t) })
+  pub answer : r ≡ findingOf (f .number) (ranOf (outcome t (merges t) 0))
   pub tables : TablesLeft t n (f .number) (f .labels) v

@@ -1,7 +1,7 @@
 -- From labels to the counts of all regions: what it asks, and what it leaves.
 use Prim.Native.Nat.{ℕ, _+_, _*_, _≤_, _<_}
 use mathlib.Core.Path.{_≡_}
-use mathlib.Core.Bool.{true, false}
+use mathlib.Core.Bool.{true}
 use mathlib.Core.List.{List}
 use lib.ListN.{length, getD}
 use lib.Ieee.{Float}
@@ -12,7 +12,7 @@ use Rattle.merge.specs.Inside.Steps.{unbias}
 use Rattle.memory.specs.Inside.Layout.{sizesAt, countsAt, mostGates}
 use Rattle.edges.specs.declared.edges.Shape.{Shape}
 use Rattle.network.specs.declared.network.Ran.{Ran}
-use Rattle.network.specs.declared.network.Ran.the-variants.{Settled, Denied}
+use Rattle.network.specs.Inside.Settle.{outcome, ranOf}
 
 -- what is asked of the sweep and of the memory
 pub record Reduces (f : Shape) (w : List ℕ) (d vel : List Float) (n k : ℕ) : Type 0 where
@@ -32,8 +32,7 @@ pub record TablesLeft (t : State) (n k : ℕ) (L v : List ℕ) : Type 0 where
   pub sizes : seg v (sizesAt n) (k + 1) ≡ tabulate (k + 1) (sizeIn L)
   pub labels : seg v 0 n ≡ L
 
--- what is left, t being the network: a refusal by question 9, or the number of merges, and the tables
+-- the answer and what is left, t being the network
 pub record Reduced (t : State) (n k : ℕ) (w v : List ℕ) (r : Ran) : Type 0 where
-  pub refused : mergesInRange t ≡ false → r ≡ Denied
-  pub settled : mergesInRange t ≡ true → r ≡ Settled (length (merges t))
+  pub answer : r ≡ ranOf (outcome t (merges t) 0)
   pub tables : TablesLeft t n k (seg w 0 n) v

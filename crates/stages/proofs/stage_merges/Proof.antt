@@ -1,6 +1,7 @@
 -- `stages::stage_merges` meets its contract. Assumes nothing.
-use mathlib.Core.Path.{sym, ap}
+use mathlib.Core.Path.{sym, ap, _∙_}
 use borrow.Author.Needs.{needs}
+use Rattle.network.specs.Inside.Begin.{AllIs}
 use Rattle.stages.specs.Answers.{ranNumber}
 use Rattle.stages.proofs.stage_merges.Statement.{statement}
 use Rattle.stages.proofs.stage_merges.Tie as tie
@@ -21,7 +22,8 @@ same-length-2 : tie.Need-same-length-2
 same-length-2 c = search needs
 
 returns : tie.Need-returns
-returns c = let u = c .before .before .before .before .before .before .before .merge-all in (u .result, u .ensures, sym (ap ranNumber (c .before .k .given .1)))
+unfolding AllIs
+returns c = let u = c .before .before .before .before .before .before .before .merge-all in (sym (ap ranNumber (c .before .k .given .1)) ∙ ap ranNumber (u .ensures .answer), u .ensures .leaves)
 
 same-length-3 : tie.Need-same-length-3
 same-length-3 c = search needs
@@ -30,7 +32,8 @@ same-length-4 : tie.Need-same-length-4
 same-length-4 c = search needs
 
 returns-2 : tie.Need-returns-2
-returns-2 c = let u = c .before .before .before .before .before .before .merge-all in (u .result, u .ensures, sym (ap ranNumber (c .enum-told .given .1)))
+unfolding AllIs
+returns-2 c = let u = c .before .before .before .before .before .before .merge-all in (sym (ap ranNumber (c .enum-told .given .1)) ∙ ap ranNumber (u .ensures .answer), u .ensures .leaves)
 
 pub stage-merges-spec : {M : Type 1} → statement M
 stage-merges-spec =

@@ -1,7 +1,8 @@
 -- `network::find::find` meets its contract. Assumes nothing.
 use mathlib.Core.Path.{sym, ap}
 use borrow.Author.Needs.{needs}
-use Rattle.network.proofs.FindLaws.{answered, width-is, few-ask, few-left, reduce-asks, reduced-left}
+use Rattle.network.specs.Inside.Find.{findingOf}
+use Rattle.network.proofs.FindLaws.{width-is, few-ask, few-left, reduce-asks, reduced-left}
 use Rattle.network.proofs.find.find.Statement.{statement}
 use Rattle.network.proofs.find.find.Tie as tie
 
@@ -62,7 +63,7 @@ returns-2 c =
     let l = c .before .before .before .before .before .before .before .before .before .before .before .before .before .before .before .label in
     let f = c .before .before .before .before .before .before .before .before .before .before .before .shape in
     let r = c .before .before .before .before .before .before .before .reduce in
-    reduced-left (a .o) (a .p) (a .velocity .now) (a .valid .now) (a .words .now) (a .floats .now) (s .pre) (l .result) (l .last .1 .1 .1 .1 .0) (l .kept .1 .1 .1 .1 .0) (l .ensures) (r .last .0) (r .result) (f .result) _ (f .ensures) (width-is (a .o .nyquist)) (r .ensures) _ (ap (answered (l .result)) (sym (c .before .j .given .1)))
+    reduced-left (a .o) (a .p) (a .velocity .now) (a .valid .now) (a .words .now) (a .floats .now) (s .pre) (l .result) (l .last .1 .1 .1 .1 .0) (l .kept .1 .1 .1 .1 .0) (l .ensures) (r .last .0) (r .result) (f .result) _ (f .ensures) (width-is (a .o .nyquist)) (r .ensures) _ (ap (findingOf (l .result)) (sym (c .before .j .given .1)))
 
 same-length-4 : tie.Need-same-length-4
 same-length-4 c = search needs
@@ -77,7 +78,7 @@ returns-3 c =
     let l = c .before .before .before .before .before .before .before .before .before .before .before .before .before .before .label in
     let f = c .before .before .before .before .before .before .before .before .before .before .shape in
     let r = c .before .before .before .before .before .before .reduce in
-    reduced-left (a .o) (a .p) (a .velocity .now) (a .valid .now) (a .words .now) (a .floats .now) (s .pre) (l .result) (l .last .1 .1 .1 .1 .0) (l .kept .1 .1 .1 .1 .0) (l .ensures) (r .last .0) (r .result) (f .result) _ (f .ensures) (width-is (a .o .nyquist)) (r .ensures) _ (ap (answered (l .result)) (sym (c .enum-told .given .1)))
+    reduced-left (a .o) (a .p) (a .velocity .now) (a .valid .now) (a .words .now) (a .floats .now) (s .pre) (l .result) (l .last .1 .1 .1 .1 .0) (l .kept .1 .1 .1 .1 .0) (l .ensures) (r .last .0) (r .result) (f .result) _ (f .ensures) (width-is (a .o .nyquist)) (r .ensures) _ (ap (findingOf (l .result)) (sym (c .enum-told .given .1)))
 
 pub find-spec : {M : Type 1} → statement M
 find-spec =

@@ -1,5 +1,5 @@
 -- `network::network::run` meets its contract. Assumes nothing.
-use Rattle.network.proofs.Turns.{Running, run-start, run-out, run-merged, run-denied, run-ended}
+use Rattle.network.proofs.Turns.{Running, run-start, run-out, run-merged, run-refused, run-ended}
 use Rattle.network.specs.Inside.TurnIs.{gatesIn}
 use Rattle.merge.specs.Inside.Tables.{view}
 use borrow.Author.Needs.{needs}
@@ -63,7 +63,7 @@ same-length-4 c = c .before .before .before .before .before .before .turn .kept 
 returns-2 : tie.Need-returns-2 Inv-loop μ-loop
 returns-2 c = let a = c .before .before .before .before .before .before .before .before .before .before .before .before .before .args in
     let k = c .before .before .before .before .before .before .before .before .before .before .loop in let z = c .before .before .before .before .before .before .turn in
-    run-denied (a .m) (a .n) (a .w .now) (a .d .now) (k .w) (k .d) (k .k) (k .inv) (c .before .before .before .before .before .before .before .before .before .loop-test .taken) (z .last .0)
+    run-refused (a .m) (a .n) (a .w .now) (a .d .now) (k .w) (k .d) (k .k) (k .inv) (c .before .before .before .before .before .before .before .before .before .loop-test .taken) (z .last .0)
     (z .last .1 .0) (z .kept .0) (z .kept .1 .0) (z .result) (c .enum-told3 .given .1) (z .ensures (gatesIn (view (a .m) (a .n) (a .w .now) (a .d .now))) (k .inv .net) (k .inv .rep))
 
 same-length-5 : tie.Need-same-length-5 Inv-loop μ-loop
