@@ -44,6 +44,22 @@ pub struct Answer {
     pub offset: i32,
 }
 
+/// How long the counts, the pair and the two work memories lent to a sweep call are.
+#[derive(Debug, Clone, Copy, PartialEq)]
+pub struct Lent {
+    pub counts: usize,
+    pub pair: usize,
+    pub words: usize,
+    pub floats: usize,
+}
+
+/// A recorded call: the memory lent, and what is added to each count before the second entry is called.
+pub struct Call {
+    pub lent: Lent,
+    pub more: i32,
+    pub sweep: Sweep,
+}
+
 /// An edge record: two labels, the number of pairs and two sums.
 pub struct Record(pub i32, pub i32, pub i32, pub f64, pub f64);
 
@@ -77,19 +93,40 @@ impl Sweep {
         self.velocities.iter().zip(&self.mask).filter(|(_, m)| **m == 1).map(|(v, _)| *v).collect()
     }
 
-    /// Questions 1 to 3 and 5 to 8 (4 is about memory that the Rust does not have); 0 where all get a yes.
-    pub fn refused_before_merging(&self) -> u32 {
+    // The questions that both entries put, each by its number in the scope document.
+    fn yes_1(&self) -> bool {
+        self.rays <= 720 && self.gates <= 2000
+    }
+    fn yes_2(&self, own: bool) -> bool {
         let n = self.rays * self.gates;
-        if self.rays > 720 || self.gates > 2000 {
+        self.velocities.len() == n && self.mask.len() == n && own
+    }
+    fn yes_3(&self) -> bool {
+        self.mask.iter().all(|&m| m <= 1)
+    }
+    fn yes_5(&self) -> bool {
+        self.nyquist >= 0.125 && self.nyquist <= 1024.0
+    }
+    fn yes_7(&self) -> bool {
+        self.valid_velocities().iter().all(|v| *v >= -16384.0 && *v <= 16384.0)
+    }
+
+    /// Questions 1 to 8, the memory being as long as the sweep asks where none is given; 0 where all get a yes.
+    pub fn refused(&self, lent: Option<Lent>) -> u32 {
+        let n = self.rays * self.gates;
+        if !self.yes_1() {
             return 1;
         }
-        if self.velocities.len() != n || self.mask.len() != n {
+        if !self.yes_2(lent.map_or(true, |l| l.counts == n && l.pair == 2)) {
             return 2;
         }
-        if self.mask.iter().any(|&m| m > 1) {
+        if !self.yes_3() {
             return 3;
         }
-        if !(self.nyquist >= 0.125 && self.nyquist <= 1024.0) {
+        if !lent.map_or(true, |l| l.words >= 96 * n + 64 && l.floats >= 16 * n + 16) {
+            return 4;
+        }
+        if !self.yes_5() {
             return 5;
         }
         if self.splits < 1
@@ -101,13 +138,35 @@ impl Sweep {
         {
             return 6;
         }
-        if self.valid_velocities().iter().any(|v| !(*v >= -16384.0 && *v <= 16384.0)) {
+        if !self.yes_7() {
             return 7;
         }
         if find_sweep_interval_splits(self.nyquist, self.splits as usize, &self.valid_velocities()).is_err() {
             return 8;
         }
         0
+    }
+    pub fn refused_before_merging(&self) -> u32 {
+        self.refused(None)
+    }
+
+    /// The second entry: questions 1, 2, 3, 5, 7 and 10, and where all get a yes velocity + count * 2 * Nyquist in f64, 0 at a masked gate.
+    pub fn unfold(&self, counts: &[i32]) -> (u32, Vec<f64>) {
+        let in_range = || counts.iter().zip(&self.mask).all(|(c, m)| *m != 1 || (-2000..=2000).contains(c));
+        let questions = [
+            (1, self.yes_1()),
+            (2, self.yes_2(counts.len() == self.rays * self.gates)),
+            (3, self.yes_3()),
+            (5, self.yes_5()),
+            (7, self.yes_7()),
+            (10, in_range()),
+        ];
+        if let Some((number, _)) = questions.iter().find(|(_, yes)| !yes) {
+            return (*number, Vec::new());
+        }
+        let gates = self.velocities.iter().zip(&self.mask).zip(counts);
+        let unfolded = |v: f32, m: u8, c: i32| if m == 1 { v as f64 + c as f64 * (2.0 * self.nyquist as f64) } else { 0.0 };
+        (0, gates.map(|((&v, &m), &c)| unfolded(v, m, c)).collect())
     }
 
     /// The merges one by one, with question 9 put to each. Stops at the first merge that fails it.
@@ -162,8 +221,11 @@ impl Sweep {
     }
 
     pub fn answer(&self) -> Answer {
+        self.answer_lent(None)
+    }
+    pub fn answer_lent(&self, lent: Option<Lent>) -> Answer {
         let none = |number| Answer { number, counts: Vec::new(), regions: 0, merges: 0, offset: 0 };
-        let number = self.refused_before_merging();
+        let number = self.refused(lent);
         if number != 0 {
             return none(number);
         }
@@ -232,5 +294,37 @@ impl Answer {
             }
         }
         s
+    }
+}
+
+impl Call {
+    /// One line: the lengths of counts, pair, words and floats, the number added, then a sweep's line.
+    pub fn parse(line: &str) -> Option<Call> {
+        let mut w = line.splitn(6, ' ');
+        let mut number = || w.next()?.parse::<usize>().ok();
+        let lent = Lent { counts: number()?, pair: number()?, words: number()?, floats: number()? };
+        let more = w.next()?.parse().ok()?;
+        Some(Call { lent, more, sweep: Sweep::parse(w.next()?)? })
+    }
+
+    /// The line of the sweep entry: the number, where it is 0 regions, merges and counts, and whether the work memory asked for is cleared.
+    /// Where it is 0, the line of the second entry too: the number, and where that is 0 the bits of each unfolded velocity.
+    pub fn lines(&self) -> Vec<String> {
+        let a = self.sweep.answer_lent(Some(self.lent));
+        let words = |numbers: Vec<String>| numbers.join(" ");
+        let mut first = vec![a.number.to_string()];
+        if a.number == 0 {
+            first.extend([a.regions.to_string(), a.merges.to_string()]);
+            first.extend(a.counts.iter().map(|c| c.to_string()));
+        }
+        first.push((if a.number == 0 || a.number == 9 { "cleared" } else { "kept" }).into());
+        if a.number != 0 {
+            return vec![words(first)];
+        }
+        let counts: Vec<i32> = a.counts.iter().map(|c| c + self.more).collect();
+        let (number, unfolded) = self.sweep.unfold(&counts);
+        let mut second = vec![number.to_string()];
+        second.extend(unfolded.iter().map(|x| format!("{:016x}", x.to_bits())));
+        vec![words(first), words(second)]
     }
 }

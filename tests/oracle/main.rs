@@ -1,10 +1,11 @@
 //! oracle make SEED COUNT MOST   print COUNT small sweeps of at most MOST gates, one a line
 //! oracle answer                 read sweeps, one a line; print the Rust's answer to each, one a line
 //! oracle counts                 the same with no question put: the counts that `dealias_sweep` gives, or `error`
+//! oracle calls                  read recorded calls, one a line; print the lines of both entries
 //! oracle trace                  read one sweep; print limits, labels, records, merges and uncentred counts
 //! oracle time RAYS GATES ROUGHNESS REPS   time `dealias_region_based` on a made weather sweep
 
-use radish_oracle::{make, Sweep};
+use radish_oracle::{make, Call, Sweep};
 use std::io::{BufRead, Write};
 
 fn main() {
@@ -30,6 +31,14 @@ fn main() {
                     None => "unreadable".into(),
                 };
                 writeln!(out, "{text}").unwrap();
+            }
+        }
+        Some("calls") => {
+            for line in std::io::stdin().lock().lines() {
+                match Call::parse(&line.unwrap()) {
+                    Some(call) => call.lines().iter().for_each(|text| writeln!(out, "{text}").unwrap()),
+                    None => writeln!(out, "unreadable").unwrap(),
+                }
             }
         }
         Some("trace") => {
@@ -65,7 +74,7 @@ fn main() {
             writeln!(out, "rays {} gates {} regions {} merges {} seconds {:.4}", s.rays, s.gates, t.regions, t.merges, best).unwrap();
         }
         _ => {
-            eprintln!("usage: oracle make SEED COUNT MOST | answer | counts | trace | time RAYS GATES ROUGHNESS REPS");
+            eprintln!("usage: oracle make SEED COUNT MOST | answer | calls | counts | trace | time RAYS GATES ROUGHNESS REPS");
             std::process::exit(2);
         }
     }

@@ -1,4 +1,5 @@
 // Memory for one sweep of at most 128 gates, and for its text. Each contract gives the length, which a part that is lent needs.
+// What a call is lent to write holds the pattern, 7 in each place.
 ghost use mathlib.Core.Path.{_≡_};
 ghost use lib.ListN.{length};
 
@@ -28,22 +29,35 @@ pub fn mask() -> [u8; 128]
     [0; 128]
 }
 
-pub fn counts() -> [i32; 128]
+// A few more than a sweep of 128 gates asks for, so that a slice can be too long, and each work memory longer than asked.
+pub fn counts() -> [i32; 136]
+    ensures { λ r. ⌜ 136 ≡ length r ⌝ }
+{
+    [7; 136]
+}
+
+pub fn pair() -> [u32; 4]
+    ensures { λ r. ⌜ 4 ≡ length r ⌝ }
+{
+    [7; 4]
+}
+
+// 96 words a gate and 64, and 64 more.
+pub fn words() -> [u32; 12416]
+    ensures { λ r. ⌜ 12416 ≡ length r ⌝ }
+{
+    [7; 12416]
+}
+
+// 16 f64 a gate and 16, and 16 more.
+pub fn floats() -> [f64; 2080]
+    ensures { λ r. ⌜ 2080 ≡ length r ⌝ }
+{
+    [7.0; 2080]
+}
+
+pub fn unfolded() -> [f64; 128]
     ensures { λ r. ⌜ 128 ≡ length r ⌝ }
 {
-    [0; 128]
-}
-
-// 96 words a gate, and 64.
-pub fn words() -> [u32; 12352]
-    ensures { λ r. ⌜ 12352 ≡ length r ⌝ }
-{
-    [0; 12352]
-}
-
-// 16 f64 a gate, and 16.
-pub fn floats() -> [f64; 2064]
-    ensures { λ r. ⌜ 2064 ≡ length r ⌝ }
-{
-    [0.0; 2064]
+    [7.0; 128]
 }

@@ -1,5 +1,6 @@
-// One recorded sweep: nine numbers that set it, then two numbers a gate.
-// The nine: rays, gates, Nyquist's bits, splits, the skip between rays and along a ray, centring, wrap, gates recorded.
+// One recorded sweep: fourteen numbers that set it, then two numbers a gate.
+// The first nine: rays, gates, Nyquist's bits, splits, the skip between rays and along a ray, centring, wrap, gates recorded.
+// The other five: how long the counts, the pair, the words and the floats lent are to be, and what is added to each count.
 ghost use mathlib.Core.Path.{_≡_};
 ghost use mathlib.Core.Bool.{true};
 ghost use Prim.Native.Nat.{_*_, _≤_};
@@ -8,7 +9,7 @@ ghost use lib.Ieee.{binary32, ofBits};
 ghost use Rattle.replay.specs.Inside.Gates.{Gates};
 use crate::words;
 
-// What a sweep is called with, but for its gates.
+// What a sweep is called with, but for its gates; how much memory it is lent; and what is added to each count before the second entry.
 pub struct Setting {
     pub rays: u32,
     pub gates: u32,
@@ -19,6 +20,11 @@ pub struct Setting {
     pub centred: u32,
     pub wrap: u32,
     pub recorded: u32,
+    pub counts: u32,
+    pub pair: u32,
+    pub words: u32,
+    pub floats: u32,
+    pub more: u32,
 }
 
 // The start of a sweep, the end of the list, or text that is neither.
@@ -43,8 +49,8 @@ fn float_of(bits: u32) -> f32
 
 // The setting of a sweep.
 pub fn read_start() -> Start {
-    let mut text = [0u8; 81];
-    let mut n = [0u32; 9];
+    let mut text = [0u8; 126];
+    let mut n = [0u32; 14];
     match words::read(&mut text, &mut n) {
         words::Got::Numbers => Start::Sweep(Setting {
             rays: n[0],
@@ -56,6 +62,11 @@ pub fn read_start() -> Start {
             centred: n[6],
             wrap: n[7],
             recorded: n[8],
+            counts: n[9],
+            pair: n[10],
+            words: n[11],
+            floats: n[12],
+            more: n[13],
         }),
         words::Got::End => Start::End,
         words::Got::Malformed => Start::Malformed,

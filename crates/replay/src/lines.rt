@@ -1,6 +1,9 @@
-// The line of an answer: its number, and where it is 0 the regions, the merges and the counts, in decimal.
+// The line of an answer: its number, where it is 0 the regions, the merges and the counts, in decimal, and what is left of the memory.
+// The line of unfolded velocities: the number, and where it is 0 the bits of each, in hexadecimal.
 ghost use mathlib.Core.Path.{_≡_};
 ghost use lib.IntN.{natAbs};
+ghost use lib.Ieee.{binary64, toBits};
+use crate::left::Left;
 
 // A count without its sign.
 fn size_of(count: i32) -> u64
@@ -27,6 +30,15 @@ fn write_number(n: u32) {
     io::print_decimal(1, n as u64);
 }
 
+// The regions and the merges.
+fn write_pair(pair: &[u32]) {
+    let mut i = 0;
+    while i < pair.len() {
+        write_number(pair[i]);
+        i += 1;
+    }
+}
+
 // Every gate's count.
 fn write_counts(counts: &[i32]) {
     let mut i = 0;
@@ -36,13 +48,61 @@ fn write_counts(counts: &[i32]) {
     }
 }
 
+// What is left of the memory lent, in one word.
+fn write_left(left: Left) {
+    match left {
+        Left::Kept => {
+            io::write_all(1, b" kept\n");
+        }
+        Left::Cleared => {
+            io::write_all(1, b" cleared\n");
+        }
+        Left::Wrong => {
+            io::write_all(1, b" wrong\n");
+        }
+    }
+}
+
 // The whole line.
-pub fn write_answer(number: u32, regions: u32, merges: u32, counts: &[i32]) {
+pub fn write_answer(number: u32, pair: &[u32], counts: &[i32], left: Left) {
     io::print_decimal(1, number as u64);
     if number == 0 {
-        write_number(regions);
-        write_number(merges);
+        write_pair(pair);
         write_counts(counts);
+    }
+    write_left(left);
+}
+
+// The bits of an f64. A NaN is tested for, since to_bits is not defined there.
+fn bits_of(x: f64) -> u64
+    ensures { λ r. ⌜ r ≡ toBits binary64 x ⌝ }
+{
+    if x != x {
+        return 9221120237041090560;
+    }
+    f64::to_bits(x)
+}
+
+// A space and an f64's bits.
+fn write_float(x: f64) {
+    io::write_all(1, b" ");
+    io::print_hex(1, bits_of(x), 16);
+}
+
+// Every gate's unfolded velocity.
+fn write_floats(floats: &[f64]) {
+    let mut i = 0;
+    while i < floats.len() {
+        write_float(floats[i]);
+        i += 1;
+    }
+}
+
+// The whole line of unfolded velocities.
+pub fn write_velocities(number: u32, unfolded: &[f64]) {
+    io::print_decimal(1, number as u64);
+    if number == 0 {
+        write_floats(unfolded);
     }
     io::write_all(1, b"\n");
 }

@@ -1,25 +1,49 @@
-// Replays recorded sweeps: reads them from standard input, puts each to the exported entry and writes its answer, one line a sweep.
+// Replays recorded sweeps: reads them from standard input, puts each to the exported entries and writes their answers, a line a call.
 // Memory is for 128 gates. A longer sweep, or text that is no list of sweeps, ends the run with a line that says so.
 mod arrays;
 mod gates;
+mod left;
 mod lines;
+mod raise;
 mod words;
 
-use memory::layout;
+ghost use mathlib.Core.Path.{_≡_};
+ghost use mathlib.Core.Bool.{true};
 ghost use Prim.Native.Nat.{_≤_};
 ghost use lib.ListN.{length};
+ghost use Rattle.replay.specs.Raised.{held};
 
-// Calls the entry with a sweep and writes its answer. Each slice lent is as long as the sweep's gates ask.
-fn answer(s: gates::Setting, velocity: &[f32], valid: &[u8])
+// Calls the second entry with a sweep and its counts, each with the recorded number added, and writes its answer.
+fn call_velocity(s: gates::Setting, velocity: &[f32], valid: &[u8], counts: &mut [i32])
     requires { ⌜ length (now velocity) ≤ 128 ⌝ }
 {
+    raise::raise(counts, s.more);
     let n = velocity.len();
-    let w = layout::WORDS * n + layout::WORDS_MORE;
-    let d = layout::FLOATS * n + layout::FLOATS_MORE;
-    let mut counts = arrays::counts();
-    let mut pair = [0u32; 2];
-    let mut words = arrays::words();
-    let mut floats = arrays::floats();
+    let mut unfolded = arrays::unfolded();
+    let number = jivakkol::exports::jivakkol_unfold_velocity(
+        s.rays,
+        s.gates,
+        s.nyquist,
+        velocity,
+        valid,
+        counts,
+        &mut unfolded[..n],
+    );
+    lines::write_velocities(number, &unfolded[..n]);
+}
+
+// Calls the sweep entry with a sweep and memory that holds the pattern, and writes its answer; where it is 0, calls the second entry.
+fn call_sweep(
+    s: gates::Setting,
+    velocity: &[f32],
+    valid: &[u8],
+    counts: &mut [i32],
+    pair: &mut [u32],
+    words: &mut [u32],
+    floats: &mut [f64],
+)
+    requires { ⌜ length (now velocity) ≤ 128 ⌝ }
+{
     let number = jivakkol::exports::jivakkol_dealias_sweep(
         s.rays,
         s.gates,
@@ -31,17 +55,44 @@ fn answer(s: gates::Setting, velocity: &[f32], valid: &[u8])
         s.wrap,
         velocity,
         valid,
-        &mut counts[..n],
-        &mut pair,
+        counts,
+        pair,
+        words,
+        floats,
+    );
+    let left = left::left_by(number, velocity.len(), counts, pair, words, floats);
+    lines::write_answer(number, pair, counts, left);
+    if number == 0 {
+        call_velocity(s, velocity, valid, counts);
+    }
+}
+
+// Lends memory as long as the record says.
+fn answer(s: gates::Setting, velocity: &[f32], valid: &[u8])
+    requires { ⌜ (length (now velocity) ≤ 128) × (held s ≡ true) ⌝ }
+{
+    let c = s.counts as usize;
+    let p = s.pair as usize;
+    let w = s.words as usize;
+    let d = s.floats as usize;
+    let mut counts = arrays::counts();
+    let mut pair = arrays::pair();
+    let mut words = arrays::words();
+    let mut floats = arrays::floats();
+    call_sweep(
+        s,
+        velocity,
+        valid,
+        &mut counts[..c],
+        &mut pair[..p],
         &mut words[..w],
         &mut floats[..d],
     );
-    lines::write_answer(number, pair[0], pair[1], &counts[..n]);
 }
 
 // Reads a sweep's gates and answers it; false where they cannot be read.
 fn replay(s: gates::Setting) -> bool
-    requires { ⌜ s .recorded ≤ 128 ⌝ }
+    requires { ⌜ held s ≡ true ⌝ }
 {
     let n = s.recorded as usize;
     let mut velocity = arrays::velocities();
@@ -53,12 +104,34 @@ fn replay(s: gates::Setting) -> bool
     true
 }
 
+// Whether the arrays hold the gates and the memory that a record asks for.
+fn holds(s: gates::Setting) -> bool
+    ensures { λ r. ⌜ r ≡ held s ⌝ }
+{
+    if s.recorded > 128 {
+        return false;
+    }
+    if s.counts > 136 {
+        return false;
+    }
+    if s.pair > 4 {
+        return false;
+    }
+    if s.words > 12416 {
+        return false;
+    }
+    s.floats <= 2080
+}
+
 // One sweep of the list; false where the run ends.
 fn replay_next() -> bool {
     match gates::read_start() {
         gates::Start::Sweep(s) => {
-            if s.recorded > 128 {
-                io::write_all(1, b"refused: a sweep of more than 128 gates\n");
+            if !holds(s) {
+                io::write_all(
+                    1,
+                    b"refused: more gates or more memory than the arrays have\n",
+                );
                 return false;
             }
             if replay(s) {

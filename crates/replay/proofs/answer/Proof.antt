@@ -1,109 +1,84 @@
--- `replay::answer` meets its contract: with at most 128 gates each part that is lent lies within its array. Assumes nothing.
-use Rattle.replay.proofs.Laws.{part, back-within, back-part}
-use native.Mathlib.Omega.{arith}
-use Prim.Native.Nat.{_+_, _*_}
-use lib.ListN.{length}
+-- `replay::answer` meets its contract: `held` says that each part that is lent lies within its array. Assumes nothing.
+use Rattle.replay.proofs.LeftLaws.{held-parts}
+use Rattle.replay.proofs.Laws.{part}
 use borrow.Author.Needs.{needs}
+use native.Mathlib.Omega.{arith}
 use Rattle.replay.proofs.answer.Statement.{statement}
 use Rattle.replay.proofs.answer.Tie as tie
 
-mul-w : tie.Need-mul-w
-mul-w c = search needs
+cast-c : tie.Need-cast-c
+cast-c c = search needs
 
-add-w : tie.Need-add-w
-add-w c = search needs
+cast-p : tie.Need-cast-p
+cast-p c = search needs
 
-mul-d : tie.Need-mul-d
-mul-d c = search needs
+cast-w : tie.Need-cast-w
+cast-w c = search needs
 
-add-d : tie.Need-add-d
-add-d c = search needs
+cast-d : tie.Need-cast-d
+cast-d c = omega (arith, held-parts _ (c .before .before .before .before .before .before .pre .1) .floats)
 
 counts-requires : tie.Need-counts-requires
-counts-requires c κs = search needs
+counts-requires c κs = tt
+
+pair-requires : tie.Need-pair-requires
+pair-requires c κs = tt
 
 words-requires : tie.Need-words-requires
-words-requires c κs = search needs
+words-requires c κs = tt
 
 floats-requires : tie.Need-floats-requires
-floats-requires c κs = search needs
+floats-requires c κs = tt
 
 array-borrow-prefix-counts : tie.Need-array-borrow-prefix-counts
-array-borrow-prefix-counts c = search needs
+array-borrow-prefix-counts c = omega (arith, held-parts _ (c .before .before .before .before .before .before .before .before .before .before .pre .1) .counts, c .before .before .before .counts .ensures)
 
-slice-aggregate-jivakkol-dealias-sweep : tie.Need-slice-aggregate-jivakkol-dealias-sweep
-slice-aggregate-jivakkol-dealias-sweep c =
-    let m = c .before .before .before in
-    part (length (m .before .before .before .args .velocity .now)) 128 (m .counts .result) (m .counts .ensures) (m .before .before .before .pre)
+slice-aggregate-call-sweep : tie.Need-slice-aggregate-call-sweep
+slice-aggregate-call-sweep c = part (c .before .before .before .before .before .before .before .before .before .before .before .args .s .counts) 136 (c .before .before .before .before .counts .result) (c .before .before .before .before .counts .ensures) (held-parts _ (c .before .before .before .before .before .before .before .before .before .before .before .pre .1) .counts)
 
-slice-aggregate-jivakkol-dealias-sweep-2 : tie.Need-slice-aggregate-jivakkol-dealias-sweep-2
-slice-aggregate-jivakkol-dealias-sweep-2 c = search needs
+array-borrow-prefix-pair : tie.Need-array-borrow-prefix-pair
+array-borrow-prefix-pair c = omega (arith, held-parts _ (c .before .before .before .before .before .before .before .before .before .before .before .pre .1) .pair, c .before .before .before .pair .ensures)
+
+slice-aggregate-call-sweep-2 : tie.Need-slice-aggregate-call-sweep-2
+slice-aggregate-call-sweep-2 c = part (c .before .before .before .before .before .before .before .before .before .before .before .before .args .s .pair) 4 (c .before .before .before .before .pair .result) (c .before .before .before .before .pair .ensures) (held-parts _ (c .before .before .before .before .before .before .before .before .before .before .before .before .pre .1) .pair)
 
 array-borrow-prefix-words : tie.Need-array-borrow-prefix-words
-array-borrow-prefix-words c = search needs
+array-borrow-prefix-words c = omega (arith, held-parts _ (c .before .before .before .before .before .before .before .before .before .before .before .before .pre .1) .words, c .before .before .before .words .ensures)
 
-slice-aggregate-jivakkol-dealias-sweep-3 : tie.Need-slice-aggregate-jivakkol-dealias-sweep-3
-slice-aggregate-jivakkol-dealias-sweep-3 c =
-    let m = c .before .before .before .before in
-    part (96 * length (m .before .before .before .before .args .velocity .now) + 64) 12352 (m .words .result) (m .words .ensures) (omega (arith, m .before .before .before .before .pre))
+slice-aggregate-call-sweep-3 : tie.Need-slice-aggregate-call-sweep-3
+slice-aggregate-call-sweep-3 c = part (c .before .before .before .before .before .before .before .before .before .before .before .before .before .args .s .words) 12416 (c .before .before .before .before .words .result) (c .before .before .before .before .words .ensures) (held-parts _ (c .before .before .before .before .before .before .before .before .before .before .before .before .before .pre .1) .words)
 
 array-borrow-prefix-floats : tie.Need-array-borrow-prefix-floats
-array-borrow-prefix-floats c = search needs
+array-borrow-prefix-floats c = omega (arith, held-parts _ (c .before .before .before .before .before .before .before .before .before .before .before .before .before .pre .1) .floats, c .before .before .before .floats .ensures)
 
-slice-aggregate-jivakkol-dealias-sweep-4 : tie.Need-slice-aggregate-jivakkol-dealias-sweep-4
-slice-aggregate-jivakkol-dealias-sweep-4 c =
-    let m = c .before .before .before .before in
-    part (16 * length (m .before .before .before .before .before .args .velocity .now) + 16) 2064 (m .floats .result) (m .floats .ensures) (omega (arith, m .before .before .before .before .before .pre))
+slice-aggregate-call-sweep-4 : tie.Need-slice-aggregate-call-sweep-4
+slice-aggregate-call-sweep-4 c = part (c .before .before .before .before .before .before .before .before .before .before .before .before .before .before .args .s .floats) 2080 (c .before .before .before .before .floats .result) (c .before .before .before .before .floats .ensures) (held-parts _ (c .before .before .before .before .before .before .before .before .before .before .before .before .before .before .pre .1) .floats)
 
-jivakkol-dealias-sweep-requires : tie.Need-jivakkol-dealias-sweep-requires
-jivakkol-dealias-sweep-requires c κs = search needs
-
-array-read-write-answer : tie.Need-array-read-write-answer
-array-read-write-answer c = search needs
-
-array-read-write-answer-2 : tie.Need-array-read-write-answer-2
-array-read-write-answer-2 c = search needs
-
-array-share-prefix-counts : tie.Need-array-share-prefix-counts
-array-share-prefix-counts c =
-    let f = c .before .before .before .before in
-    let m = f .before .before .before .before .before .before .before in
-    back-within (length (m .before .before .before .args .velocity .now)) 128 (m .counts .result) (m .counts .ensures) (m .before .before .before .pre) (f .jivakkol-dealias-sweep .last .1 .1 .1 .1 .1 .1 .1 .1 .1 .1 .0) (f .jivakkol-dealias-sweep .kept .1 .1 .1 .1 .1 .1 .1 .1 .1 .1 .0)
-
-slice-aggregate-write-answer : tie.Need-slice-aggregate-write-answer
-slice-aggregate-write-answer c =
-    let f = c .before .before .before .before .before in
-    let m = f .before .before .before .before .before .before .before in
-    back-part (length (m .before .before .before .args .velocity .now)) 128 (m .counts .result) (m .counts .ensures) (m .before .before .before .pre) (f .jivakkol-dealias-sweep .last .1 .1 .1 .1 .1 .1 .1 .1 .1 .1 .0) (f .jivakkol-dealias-sweep .kept .1 .1 .1 .1 .1 .1 .1 .1 .1 .1 .0)
-
-write-answer-requires : tie.Need-write-answer-requires
-write-answer-requires c κs = search needs
+call-sweep-requires : tie.Need-call-sweep-requires
+call-sweep-requires c κs = c .before .before .before .before .before .before .before .before .before .before .before .before .before .before .pre .0
 
 returns : tie.Need-returns
-returns c = search needs
+returns c = tt
 
 pub answer-spec : {M : Type 1} → statement M
 answer-spec =
     tie.close
     (tie.spec
-    mul-w
-    add-w
-    mul-d
-    add-d
+    cast-c
+    cast-p
+    cast-w
+    cast-d
     counts-requires
+    pair-requires
     words-requires
     floats-requires
     array-borrow-prefix-counts
-    slice-aggregate-jivakkol-dealias-sweep
-    slice-aggregate-jivakkol-dealias-sweep-2
+    slice-aggregate-call-sweep
+    array-borrow-prefix-pair
+    slice-aggregate-call-sweep-2
     array-borrow-prefix-words
-    slice-aggregate-jivakkol-dealias-sweep-3
+    slice-aggregate-call-sweep-3
     array-borrow-prefix-floats
-    slice-aggregate-jivakkol-dealias-sweep-4
-    jivakkol-dealias-sweep-requires
-    array-read-write-answer
-    array-read-write-answer-2
-    array-share-prefix-counts
-    slice-aggregate-write-answer
-    write-answer-requires
+    slice-aggregate-call-sweep-4
+    call-sweep-requires
     returns)

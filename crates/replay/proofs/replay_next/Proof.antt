@@ -1,6 +1,7 @@
--- `replay::replay_next` is safe: where `replay` is called, the test before it left at most 128 gates. Assumes nothing.
-use native.Mathlib.Omega.{arith}
+-- `replay::replay_next` is safe: where `replay` is called, `holds` said that the arrays hold what the record asks for. Assumes nothing.
 use borrow.Author.Needs.{needs}
+use borrow.Author.Tests.{not-false}
+use mathlib.Core.Path.{sym, _∙_}
 use Rattle.replay.proofs.replay_next.Statement.{statement}
 use Rattle.replay.proofs.replay_next.Tie as tie
 
@@ -9,6 +10,9 @@ read-start-requires c κs = search needs
 
 enum-known-s : tie.Need-enum-known-s
 enum-known-s c = search needs
+
+holds-requires : tie.Need-holds-requires
+holds-requires c κs = search needs
 
 slice-aggregate-write-all : tie.Need-slice-aggregate-write-all
 slice-aggregate-write-all c = search needs
@@ -20,7 +24,7 @@ returns : tie.Need-returns
 returns c = search needs
 
 replay-requires : tie.Need-replay-requires
-replay-requires c κs = omega arith
+replay-requires c κs = sym (c .before .holds .ensures) ∙ not-false _ (c .if1 .left)
 
 returns-2 : tie.Need-returns-2
 returns-2 c = search needs
@@ -58,6 +62,7 @@ replay-next-spec =
     (tie.spec
     read-start-requires
     enum-known-s
+    holds-requires
     slice-aggregate-write-all
     write-all-requires
     returns

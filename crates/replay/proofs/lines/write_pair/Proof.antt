@@ -1,0 +1,51 @@
+-- `replay::lines::write_pair` is safe and ends. The invariant: i is at most the number of words. Assumes nothing.
+use borrow.Author.Needs.{needs}
+use Prim.Native.Nat.{_-_, _≤_}
+use lib.ListN.{length}
+use Rattle.replay.proofs.lines.write_pair.Statement.{statement}
+use Rattle.replay.proofs.lines.write_pair.Tie as tie
+
+abbrev Inv-loop : tie.InvT-loop
+Inv-loop pair i₀ i = i ≤ length pair
+
+abbrev μ-loop : tie.MeasureT-loop
+μ-loop pair i₀ i = length pair - i
+
+loop-holds : tie.Need-loop-holds Inv-loop μ-loop
+loop-holds c = search needs
+
+mul-write-number : tie.Need-mul-write-number Inv-loop μ-loop
+mul-write-number c = search needs
+
+shared-slice-read-write-number : tie.Need-shared-slice-read-write-number Inv-loop μ-loop
+shared-slice-read-write-number c = search needs
+
+write-number-requires : tie.Need-write-number-requires Inv-loop μ-loop
+write-number-requires c κs = search needs
+
+add-i : tie.Need-add-i Inv-loop μ-loop
+add-i c = search needs
+
+loop-less : tie.Need-loop-less Inv-loop μ-loop
+loop-less c = search needs
+
+loop-again : tie.Need-loop-again Inv-loop μ-loop
+loop-again c = search needs
+
+returns : tie.Need-returns Inv-loop μ-loop
+returns c = search needs
+
+pub write-pair-spec : {M : Type 1} → statement M
+write-pair-spec =
+    tie.close
+    (tie.spec
+    Inv-loop
+    μ-loop
+    loop-holds
+    mul-write-number
+    shared-slice-read-write-number
+    write-number-requires
+    add-i
+    loop-less
+    loop-again
+    returns)

@@ -1,0 +1,141 @@
+// What a call left of the memory lent to it, which held the pattern before: 7 in each place.
+ghost use mathlib.Core.Path.{_≡_};
+ghost use Prim.Native.Nat.{_≤_};
+ghost use Rattle.replay.specs.Left.{dueWord, dueFloat, wordsLeft, floatsLeft, countsKept, clearsWork, clearedWords, clearedFloats, leftBy};
+use memory::layout;
+
+// All of it unchanged; the work memory asked for zero and any further one unchanged; or neither.
+pub enum Left {
+    Kept,
+    Cleared,
+    Wrong,
+}
+
+// The word at a place of work memory whose first k words are cleared.
+fn due_word(i: usize, k: usize) -> u32
+    ensures { λ r. ⌜ r ≡ dueWord k i ⌝ }
+{
+    if i < k {
+        return 0;
+    }
+    7
+}
+
+// And the f64.
+fn due_float(i: usize, k: usize) -> f64
+    ensures { λ r. ⌜ r ≡ dueFloat k i ⌝ }
+{
+    if i < k {
+        return 0.0;
+    }
+    7.0
+}
+
+// Whether the first k words are zero and any further ones the pattern.
+fn words_left(words: &[u32], k: usize) -> bool
+    ensures { λ r. ⌜ r ≡ wordsLeft k (now (words .entry)) ⌝ }
+{
+    let mut i = 0;
+    while i < words.len() {
+        let due = due_word(i, k);
+        if words[i] != due {
+            return false;
+        }
+        i += 1;
+    }
+    true
+}
+
+// The same of the f64.
+fn floats_left(floats: &[f64], k: usize) -> bool
+    ensures { λ r. ⌜ r ≡ floatsLeft k (now (floats .entry)) ⌝ }
+{
+    let mut i = 0;
+    while i < floats.len() {
+        let due = due_float(i, k);
+        if floats[i] != due {
+            return false;
+        }
+        i += 1;
+    }
+    true
+}
+
+// Whether every count is the pattern.
+fn counts_kept(counts: &[i32]) -> bool
+    ensures { λ r. ⌜ r ≡ countsKept (now (counts .entry)) ⌝ }
+{
+    let mut i = 0;
+    while i < counts.len() {
+        if counts[i] != 7 {
+            return false;
+        }
+        i += 1;
+    }
+    true
+}
+
+// Whether the call of an answer clears the work memory that it asks for.
+fn clears(number: u32) -> bool
+    ensures { λ r. ⌜ r ≡ clearsWork number ⌝ }
+{
+    if number == 0 {
+        return true;
+    }
+    number == 9
+}
+
+// How many words a call on n gates clears.
+fn cleared_words(number: u32, n: usize) -> usize
+    requires { ⌜ n ≤ 128 ⌝ }
+    ensures { λ r. ⌜ r ≡ clearedWords number n ⌝ }
+{
+    if clears(number) {
+        return layout::WORDS * n + layout::WORDS_MORE;
+    }
+    0
+}
+
+// And how many f64.
+fn cleared_floats(number: u32, n: usize) -> usize
+    requires { ⌜ n ≤ 128 ⌝ }
+    ensures { λ r. ⌜ r ≡ clearedFloats number n ⌝ }
+{
+    if clears(number) {
+        return layout::FLOATS * n + layout::FLOATS_MORE;
+    }
+    0
+}
+
+// What a call on n gates left, by its answer's number.
+pub fn left_by(
+    number: u32,
+    n: usize,
+    counts: &[i32],
+    pair: &[u32],
+    words: &[u32],
+    floats: &[f64],
+) -> Left
+    requires { ⌜ n ≤ 128 ⌝ }
+    ensures { λ r. ⌜ r ≡ leftBy number n (now (counts .entry)) (now (pair .entry)) (now (words .entry)) (now (floats .entry)) ⌝ }
+{
+    if !words_left(words, cleared_words(number, n)) {
+        return Left::Wrong;
+    }
+    if !floats_left(floats, cleared_floats(number, n)) {
+        return Left::Wrong;
+    }
+    if number == 0 {
+        return Left::Cleared;
+    }
+    if !counts_kept(counts) {
+        return Left::Wrong;
+    }
+    if !words_left(pair, 0) {
+        return Left::Wrong;
+    }
+    if number == 9 {
+        return Left::Cleared;
+    }
+    Left::Kept
+}
