@@ -1,4 +1,4 @@
--- What the proofs cite: one more digit of a word, a list that is filled from the front, bit patterns of an f32, a count's size, and parts of an array.
+-- What the proofs cite: one more digit of a word, a list that is filled from the front, bit patterns of an f32, bits of an f64, a count's size, and parts of an array.
 -- Assumes nothing.
 use Prim.Native.Nat.{ℕ, suc, _+_, _-_, _*_, _/_, _%_, _^_, _≤_, _<_}
 use native.Mathlib.Omega.{arith}
@@ -7,7 +7,8 @@ use mathlib.Core.Bool.{Bool, true, false, cond, not, true≢false, _&&_}
 use mathlib.Core.Logic.{⊎-elim}
 use mathlib.Core.List.{List, _++_}
 use lib.Dec.{T, ltb, eqb}
-use lib.Ieee.{binary32, nanBits, ofBits, ofFields, div}
+use lib.Ieee.{Float, nan, inf, fin, binary32, binary64, nanBits, ofBits, ofFields, div, ne, isNan, toBits}
+use lib.Ieee.Compare.{differs-from-itself}
 use lib.IntN.{ℤ, pos, negsuc, natAbs, _-ℤ_, +ℤ-idl}
 use lib.Signed.{nonNeg, ltZ}
 use mir.Syntax.{w32, w64}
@@ -85,6 +86,19 @@ no-digits b h = go (eqb (b % 2147483648 / 8388608) 255) (eqb (b % 8388608) 0) (e
 pub nan-pattern : (b : ℕ) → b % 2147483648 / 8388608 ≡ 255 → (b % 8388608 ≡ 0 → ⊥) → div binary32 (ofBits binary32 0) (ofBits binary32 0) ≡ ofBits binary32 b
 unfolding div ofBits ofFields
 nan-pattern b h k = rw (h, ne-eqb (b % 8388608) 0 k) refl
+
+-- ---- bits of an f64
+
+-- a float that equals itself is no NaN, and one that does not is the NaN
+pub no-nan : (x : Float) → ne x x ≡ false → T (not (isNan x))
+unfolding ne isNan
+no-nan nan h = absurd (true≢false h)
+no-nan (inf s) h = tt
+no-nan (fin s m e) h = tt
+
+pub nan-bits : (x : Float) → ne x x ≡ true → 9221120237041090560 ≡ toBits binary64 x
+unfolding toBits
+nan-bits x h = sym (ap (toBits binary64) (differs-from-itself x (subst T (sym h) tt)))
 
 -- ---- a count's size
 

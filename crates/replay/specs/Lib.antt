@@ -1,3 +1,3 @@
 pub mod Inside
 pub mod Left
-pub mod Raised
+pub mod Record

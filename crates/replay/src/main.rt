@@ -11,7 +11,7 @@ ghost use mathlib.Core.Path.{_≡_};
 ghost use mathlib.Core.Bool.{true};
 ghost use Prim.Native.Nat.{_≤_};
 ghost use lib.ListN.{length};
-ghost use Rattle.replay.specs.Raised.{held};
+ghost use Rattle.replay.specs.Record.{held};
 
 // Calls the second entry with a sweep and its counts, each with the recorded number added, and writes its answer.
 fn call_velocity(s: gates::Setting, velocity: &[f32], valid: &[u8], counts: &mut [i32])

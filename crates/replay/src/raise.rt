@@ -3,7 +3,7 @@ ghost use mathlib.Core.Path.{_≡_};
 ghost use lib.ListN.{length, getD};
 ghost use lib.IntN.{pos};
 ghost use Rattle.lists.specs.Seq.{tabulate};
-ghost use Rattle.replay.specs.Raised.{raisedBy, isNear};
+ghost use Rattle.replay.specs.Record.{raisedBy, isNear};
 
 // Whether a count is -100,000 to 100,000.
 fn is_near(count: i32) -> bool

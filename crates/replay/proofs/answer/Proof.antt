@@ -1,5 +1,5 @@
 -- `replay::answer` meets its contract: `held` says that each part that is lent lies within its array. Assumes nothing.
-use Rattle.replay.proofs.LeftLaws.{held-parts}
+use Rattle.replay.proofs.RecordLaws.{held-parts}
 use Rattle.replay.proofs.Laws.{part}
 use borrow.Author.Needs.{needs}
 use native.Mathlib.Omega.{arith}
@@ -34,25 +34,37 @@ array-borrow-prefix-counts : tie.Need-array-borrow-prefix-counts
 array-borrow-prefix-counts c = omega (arith, held-parts _ (c .before .before .before .before .before .before .before .before .before .before .pre .1) .counts, c .before .before .before .counts .ensures)
 
 slice-aggregate-call-sweep : tie.Need-slice-aggregate-call-sweep
-slice-aggregate-call-sweep c = part (c .before .before .before .before .before .before .before .before .before .before .before .args .s .counts) 136 (c .before .before .before .before .counts .result) (c .before .before .before .before .counts .ensures) (held-parts _ (c .before .before .before .before .before .before .before .before .before .before .before .pre .1) .counts)
+slice-aggregate-call-sweep c =
+    let m = c .before .before .before .before in
+    let s = m .before .before .before .before .before .before .before in
+    part (s .args .s .counts) 136 (m .counts .result) (m .counts .ensures) (held-parts _ (s .pre .1) .counts)
 
 array-borrow-prefix-pair : tie.Need-array-borrow-prefix-pair
 array-borrow-prefix-pair c = omega (arith, held-parts _ (c .before .before .before .before .before .before .before .before .before .before .before .pre .1) .pair, c .before .before .before .pair .ensures)
 
 slice-aggregate-call-sweep-2 : tie.Need-slice-aggregate-call-sweep-2
-slice-aggregate-call-sweep-2 c = part (c .before .before .before .before .before .before .before .before .before .before .before .before .args .s .pair) 4 (c .before .before .before .before .pair .result) (c .before .before .before .before .pair .ensures) (held-parts _ (c .before .before .before .before .before .before .before .before .before .before .before .before .pre .1) .pair)
+slice-aggregate-call-sweep-2 c =
+    let m = c .before .before .before .before in
+    let s = m .before .before .before .before .before .before .before .before in
+    part (s .args .s .pair) 4 (m .pair .result) (m .pair .ensures) (held-parts _ (s .pre .1) .pair)
 
 array-borrow-prefix-words : tie.Need-array-borrow-prefix-words
 array-borrow-prefix-words c = omega (arith, held-parts _ (c .before .before .before .before .before .before .before .before .before .before .before .before .pre .1) .words, c .before .before .before .words .ensures)
 
 slice-aggregate-call-sweep-3 : tie.Need-slice-aggregate-call-sweep-3
-slice-aggregate-call-sweep-3 c = part (c .before .before .before .before .before .before .before .before .before .before .before .before .before .args .s .words) 12416 (c .before .before .before .before .words .result) (c .before .before .before .before .words .ensures) (held-parts _ (c .before .before .before .before .before .before .before .before .before .before .before .before .before .pre .1) .words)
+slice-aggregate-call-sweep-3 c =
+    let m = c .before .before .before .before in
+    let s = m .before .before .before .before .before .before .before .before .before in
+    part (s .args .s .words) 12416 (m .words .result) (m .words .ensures) (held-parts _ (s .pre .1) .words)
 
 array-borrow-prefix-floats : tie.Need-array-borrow-prefix-floats
 array-borrow-prefix-floats c = omega (arith, held-parts _ (c .before .before .before .before .before .before .before .before .before .before .before .before .before .pre .1) .floats, c .before .before .before .floats .ensures)
 
 slice-aggregate-call-sweep-4 : tie.Need-slice-aggregate-call-sweep-4
-slice-aggregate-call-sweep-4 c = part (c .before .before .before .before .before .before .before .before .before .before .before .before .before .before .args .s .floats) 2080 (c .before .before .before .before .floats .result) (c .before .before .before .before .floats .ensures) (held-parts _ (c .before .before .before .before .before .before .before .before .before .before .before .before .before .before .pre .1) .floats)
+slice-aggregate-call-sweep-4 c =
+    let m = c .before .before .before .before in
+    let s = m .before .before .before .before .before .before .before .before .before .before in
+    part (s .args .s .floats) 2080 (m .floats .result) (m .floats .ensures) (held-parts _ (s .pre .1) .floats)
 
 call-sweep-requires : tie.Need-call-sweep-requires
 call-sweep-requires c κs = c .before .before .before .before .before .before .before .before .before .before .before .before .before .before .pre .0

@@ -15,16 +15,27 @@ array-borrow-prefix-unfolded : tie.Need-array-borrow-prefix-unfolded
 array-borrow-prefix-unfolded c = search needs
 
 slice-aggregate-jivakkol-unfold-velocity : tie.Need-slice-aggregate-jivakkol-unfold-velocity
-slice-aggregate-jivakkol-unfold-velocity c = part (length (c .before .before .before .before .before .before .before .before .args .velocity .now)) 128 (c .before .before .unfolded .result) (c .before .before .unfolded .ensures) (c .before .before .before .before .before .before .before .before .pre)
+slice-aggregate-jivakkol-unfold-velocity c =
+    let u = c .before .before in
+    let s = u .before .before .before .before .before .before in
+    part (length (s .args .velocity .now)) 128 (u .unfolded .result) (u .unfolded .ensures) (s .pre)
 
 jivakkol-unfold-velocity-requires : tie.Need-jivakkol-unfold-velocity-requires
 jivakkol-unfold-velocity-requires c κs = search needs
 
 array-share-prefix-unfolded : tie.Need-array-share-prefix-unfolded
-array-share-prefix-unfolded c = back-within (length (c .before .before .before .before .before .before .before .before .before .before .args .velocity .now)) 128 (c .before .before .before .before .unfolded .result) (c .before .before .before .before .unfolded .ensures) (c .before .before .before .before .before .before .before .before .before .before .pre) (c .before .jivakkol-unfold-velocity .last .1 .1 .1 .1 .1 .1 .0) (c .before .jivakkol-unfold-velocity .kept .1 .1 .1 .1 .1 .1 .0)
+array-share-prefix-unfolded c =
+    let f = c .before .jivakkol-unfold-velocity in
+    let u = c .before .before .before .before in
+    let s = u .before .before .before .before .before .before in
+    back-within (length (s .args .velocity .now)) 128 (u .unfolded .result) (u .unfolded .ensures) (s .pre) (f .last .1 .1 .1 .1 .1 .1 .0) (f .kept .1 .1 .1 .1 .1 .1 .0)
 
 slice-aggregate-write-velocities : tie.Need-slice-aggregate-write-velocities
-slice-aggregate-write-velocities c = back-part (length (c .before .before .before .before .before .before .before .before .before .before .before .args .velocity .now)) 128 (c .before .before .before .before .before .unfolded .result) (c .before .before .before .before .before .unfolded .ensures) (c .before .before .before .before .before .before .before .before .before .before .before .pre) (c .before .before .jivakkol-unfold-velocity .last .1 .1 .1 .1 .1 .1 .0) (c .before .before .jivakkol-unfold-velocity .kept .1 .1 .1 .1 .1 .1 .0)
+slice-aggregate-write-velocities c =
+    let f = c .before .before .jivakkol-unfold-velocity in
+    let u = c .before .before .before .before .before in
+    let s = u .before .before .before .before .before .before in
+    back-part (length (s .args .velocity .now)) 128 (u .unfolded .result) (u .unfolded .ensures) (s .pre) (f .last .1 .1 .1 .1 .1 .1 .0) (f .kept .1 .1 .1 .1 .1 .1 .0)
 
 write-velocities-requires : tie.Need-write-velocities-requires
 write-velocities-requires c κs = search needs

@@ -1,6 +1,6 @@
 -- `replay::holds` meets its contract, by each number that is too great. Assumes nothing.
 use borrow.Author.Tests.{le-leb, lt-leb}
-use Rattle.replay.specs.Raised.{held}
+use Rattle.replay.specs.Record.{held}
 use mathlib.Core.Path.{refl}
 use Rattle.replay.proofs.holds.Statement.{statement}
 use Rattle.replay.proofs.holds.Tie as tie

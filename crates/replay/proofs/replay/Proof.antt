@@ -1,6 +1,6 @@
 -- `replay::replay` meets its contract: with at most 128 gates each part that is lent lies within its array. Assumes nothing.
 use Rattle.replay.proofs.Laws.{part, back-within, back-part}
-use Rattle.replay.proofs.LeftLaws.{held-parts}
+use Rattle.replay.proofs.RecordLaws.{held-parts}
 use native.Mathlib.Omega.{arith}
 use mathlib.Core.Path.{sym, _∙_}
 use borrow.Author.Needs.{needs}

@@ -1,5 +1,5 @@
 -- `replay::lines::bits_of` meets its contract: only a NaN differs from itself. Assumes nothing.
-use Rattle.replay.proofs.LeftLaws.{nan-bits, no-nan}
+use Rattle.replay.proofs.Laws.{nan-bits, no-nan}
 use borrow.Author.Needs.{needs}
 use Rattle.replay.proofs.lines.bits_of.Statement.{statement}
 use Rattle.replay.proofs.lines.bits_of.Tie as tie

@@ -1,5 +1,5 @@
 -- `replay::raise::is_near` meets its contract. Assumes nothing.
-use Rattle.replay.proofs.LeftLaws.{near-above, near-below}
+use Rattle.replay.proofs.RecordLaws.{near-above, near-below}
 use Rattle.replay.proofs.raise.is_near.Statement.{statement}
 use Rattle.replay.proofs.raise.is_near.Tie as tie
 

@@ -1,9 +1,9 @@
 -- `replay::raise::raise` meets its contract. The invariant: the first i counts have the number added, and the others are as they were. Assumes nothing.
-use Rattle.replay.proofs.LeftLaws.{raise-turn}
+use Rattle.replay.proofs.RecordLaws.{raise-turn}
 use mir.Val.{toZ, ofZ}
 use mir.Syntax.{w32}
 use lib.IntN.{pos}
-use Rattle.replay.specs.Raised.{raisedBy}
+use Rattle.replay.specs.Record.{raisedBy}
 use Rattle.lists.specs.Inside.Seg.{put}
 use Rattle.lists.specs.Seq.{tabulate}
 use Rattle.sweep.proofs.FillLaws.{fill-begin, fill-all}

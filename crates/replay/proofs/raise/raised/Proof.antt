@@ -1,6 +1,6 @@
 -- `replay::raise::raised` meets its contract: the sum of two numbers that are not past 100,000 fits. Assumes nothing.
 use borrow.Author.Tests.{not-true, not-false}
-use Rattle.replay.proofs.LeftLaws.{raise-far, sum-fits, raise-near}
+use Rattle.replay.proofs.RecordLaws.{raise-far, sum-fits, raise-near}
 use native.Mathlib.Omega.{arith}
 use mathlib.Core.Path.{sym, _∙_}
 use borrow.Author.Needs.{needs}
