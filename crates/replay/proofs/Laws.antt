@@ -19,7 +19,7 @@ use lib.Seq.{getD-set-same, getD-set-other, length-take-le, length-front}
 use lib.Pow.{pow-add, pow-mono}
 use borrow.Author.Tests.{lt-ltb, le-ltb, ltb-true, eq-eqb, ne-eqb}
 use Rattle.lists.proofs.SegLaws.{eq-or-ne}
-use Rattle.replay.specs.Inside.Words.{digitOf, digitsFrom}
+use Rattle.replay.specs.Inside.Words.{digitOf, digitsFrom, wordAt, isWord}
 use Rattle.replay.specs.declared.words.Word.the-variants.{Malformed}
 
 -- ---- one digit of a word
@@ -52,6 +52,10 @@ module _ (s : List ℕ) (at i v d : ℕ) (h : i < 8) (e : d ≡ digitOf (getD s 
 
   pub digit-none : 15 < d → digitsFrom s (at + i) (8 - i) v ≡ Malformed
   digit-none b = turn ∙ rw (le-ltb d 16 (omega arith)) refl
+
+-- whether a word stands at place i of a list of words
+abbrev pub wordTest : List ℕ → ℕ → Bool
+wordTest s i = isWord (wordAt s (9 * i))
 
 -- ---- a list that is filled from the front
 

@@ -7,6 +7,7 @@ ghost use Prim.Native.Nat.{_*_, _≤_};
 ghost use lib.ListN.{length};
 ghost use lib.Ieee.{binary32, ofBits};
 ghost use Rattle.replay.specs.Inside.Gates.{Gates};
+ghost use Rattle.replay.specs.Inside.Start.{settingOf, startBy};
 use crate::words;
 
 // What a sweep is called with, but for its gates; how much memory it is lent; and what is added to each count before the second entry.
@@ -47,30 +48,45 @@ fn float_of(bits: u32) -> f32
     0.0 / 0.0
 }
 
-// The setting of a sweep.
-pub fn read_start() -> Start {
-    let mut text = [0u8; 126];
-    let mut n = [0u32; 14];
-    match words::read(&mut text, &mut n) {
-        words::Got::Numbers => Start::Sweep(Setting {
-            rays: n[0],
-            gates: n[1],
-            nyquist: float_of(n[2]),
-            splits: n[3],
-            skip_between_rays: n[4],
-            skip_along_ray: n[5],
-            centred: n[6],
-            wrap: n[7],
-            recorded: n[8],
-            counts: n[9],
-            pair: n[10],
-            words: n[11],
-            floats: n[12],
-            more: n[13],
-        }),
+// The setting that fourteen numbers say.
+fn setting_of(n: &[u32; 14]) -> Setting
+    ensures { λ r. ⌜ r ≡ settingOf (now (n .entry)) ⌝ }
+{
+    Setting {
+        rays: n[0],
+        gates: n[1],
+        nyquist: float_of(n[2]),
+        splits: n[3],
+        skip_between_rays: n[4],
+        skip_along_ray: n[5],
+        centred: n[6],
+        wrap: n[7],
+        recorded: n[8],
+        counts: n[9],
+        pair: n[10],
+        words: n[11],
+        floats: n[12],
+        more: n[13],
+    }
+}
+
+// The start by what a read of its numbers got.
+fn start_of(got: words::Got, n: &[u32; 14]) -> Start
+    ensures { λ r. ⌜ r ≡ startBy got (now (n .entry)) ⌝ }
+{
+    match got {
+        words::Got::Numbers => Start::Sweep(setting_of(n)),
         words::Got::End => Start::End,
         words::Got::Malformed => Start::Malformed,
     }
+}
+
+// The setting of a sweep, read from standard input.
+pub fn read_start() -> Start {
+    let mut text = [0u8; 126];
+    let mut n = [0u32; 14];
+    let got = words::read(&mut text, &mut n);
+    start_of(got, &n)
 }
 
 // Mask bytes and velocities from their numbers; false where a number is no byte.

@@ -2,9 +2,9 @@
 // It assumes nothing of the text.
 ghost use mathlib.Core.Path.{_≡_};
 ghost use mathlib.Core.Bool.{true};
-ghost use Prim.Native.Nat.{_+_, _*_, _≤_};
+ghost use Prim.Native.Nat.{ℕ, _+_, _*_, _≤_};
 ghost use lib.ListN.{length};
-ghost use Rattle.replay.specs.Inside.Words.{digitOf, digitsFrom, wordAt, Words};
+ghost use Rattle.replay.specs.Inside.Words.{digitOf, digitsFrom, wordAt, Words, allWords, gotBy};
 
 // A word's number, or that no word stands there.
 pub enum Word {
@@ -74,7 +74,7 @@ fn word_at(text: &[u8], at: usize) -> Word
 // The numbers of as many words as `out` holds; false where one is malformed.
 fn numbers(text: &[u8], out: &mut [u32]) -> bool
     requires { ⌜ 9 * length (now out) ≤ length (now text) ⌝ }
-    ensures { λ r. ⌜ (r ≡ true → Words (now (text .entry)) (now (out .exit))) ⌝ }
+    ensures { λ r. ⌜ (r ≡ allWords (now (text .entry)) (length (now (out .entry)))) × (r ≡ true → Words (now (text .entry)) (now (out .exit))) ⌝ }
 {
     let mut i = 0;
     while i < out.len() {
@@ -87,12 +87,11 @@ fn numbers(text: &[u8], out: &mut [u32]) -> bool
     true
 }
 
-// Reads as many words as `out` holds from standard input. `text` is the memory for them.
-pub fn read(text: &mut [u8], out: &mut [u32]) -> Got
+// What text says of which so many bytes could be read: the numbers of as many words as `out` holds, the end, or neither.
+fn got_of(text: &[u8], got: usize, out: &mut [u32]) -> Got
     requires { ⌜ 9 * length (now out) ≤ length (now text) ⌝ }
-    ensures { λ r. ⌜ (r ≡ Got.Numbers → Words (now (text .exit)) (now (out .exit))) ⌝ }
+    ensures { λ r. ⌜ (r ≡ gotBy (now (text .entry)) got (length (now (out .entry)))) × (r ≡ Got.Numbers → Words (now (text .entry)) (now (out .exit))) ⌝ }
 {
-    let got = io::read_full(0, text);
     if got < text.len() {
         if got == 0 {
             return Got::End;
@@ -103,4 +102,13 @@ pub fn read(text: &mut [u8], out: &mut [u32]) -> Got
         return Got::Numbers;
     }
     Got::Malformed
+}
+
+// Reads as many words as `out` holds from standard input. `text` is the memory for them. How many bytes k there were, no contract says.
+pub fn read(text: &mut [u8], out: &mut [u32]) -> Got
+    requires { ⌜ 9 * length (now out) ≤ length (now text) ⌝ }
+    ensures { λ r. ⌜ ((k : ℕ) × (r ≡ gotBy (now (text .exit)) k (length (now (out .entry))))) × (r ≡ Got.Numbers → Words (now (text .exit)) (now (out .exit))) ⌝ }
+{
+    let got = io::read_full(0, text);
+    got_of(text, got, out)
 }
