@@ -3,6 +3,13 @@
 ghost use mathlib.Core.Path.{_≡_};
 ghost use lib.ListN.{length};
 
+// The pattern, as a word, as a count and as an f64.
+pub const WORD: u32 = 7;
+
+pub const COUNT: i32 = 7;
+
+pub const FLOAT: f64 = 7.0;
+
 // Nine bytes a number.
 pub fn text() -> [u8; 2304]
     ensures { λ r. ⌜ 2304 ≡ length r ⌝ }
@@ -33,31 +40,31 @@ pub fn mask() -> [u8; 128]
 pub fn counts() -> [i32; 136]
     ensures { λ r. ⌜ 136 ≡ length r ⌝ }
 {
-    [7; 136]
+    [COUNT; 136]
 }
 
 pub fn pair() -> [u32; 4]
     ensures { λ r. ⌜ 4 ≡ length r ⌝ }
 {
-    [7; 4]
+    [WORD; 4]
 }
 
 // 96 words a gate and 64, and 64 more.
 pub fn words() -> [u32; 12416]
     ensures { λ r. ⌜ 12416 ≡ length r ⌝ }
 {
-    [7; 12416]
+    [WORD; 12416]
 }
 
 // 16 f64 a gate and 16, and 16 more.
 pub fn floats() -> [f64; 2080]
     ensures { λ r. ⌜ 2080 ≡ length r ⌝ }
 {
-    [7.0; 2080]
+    [FLOAT; 2080]
 }
 
 pub fn unfolded() -> [f64; 128]
     ensures { λ r. ⌜ 128 ≡ length r ⌝ }
 {
-    [7.0; 128]
+    [FLOAT; 128]
 }

@@ -2,6 +2,7 @@
 ghost use mathlib.Core.Path.{_≡_};
 ghost use Prim.Native.Nat.{_≤_};
 ghost use Rattle.replay.specs.Left.{dueWord, dueFloat, wordsLeft, floatsLeft, countsKept, clearsWork, clearedWords, clearedFloats, leftBy};
+use crate::arrays;
 use memory::layout;
 
 // All of it unchanged; the work memory asked for zero and any further one unchanged; or neither.
@@ -18,7 +19,7 @@ fn due_word(i: usize, k: usize) -> u32
     if i < k {
         return 0;
     }
-    7
+    arrays::WORD
 }
 
 // And the f64.
@@ -28,7 +29,7 @@ fn due_float(i: usize, k: usize) -> f64
     if i < k {
         return 0.0;
     }
-    7.0
+    arrays::FLOAT
 }
 
 // Whether the first k words are zero and any further ones the pattern.
@@ -67,7 +68,7 @@ fn counts_kept(counts: &[i32]) -> bool
 {
     let mut i = 0;
     while i < counts.len() {
-        if counts[i] != 7 {
+        if counts[i] != arrays::COUNT {
             return false;
         }
         i += 1;
