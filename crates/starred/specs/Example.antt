@@ -13,10 +13,11 @@ use borrow.Author.Tests.{ltb-true}
 use Rattle.lists.specs.Seq.{keep}
 use Rattle.arithmetic.specs.Intervals.{valid, range, limitsFor}
 use Rattle.arithmetic.specs.declared.intervals.Extremes.the-variants.{Both}
+use Rattle.network.specs.Network.{Event, trace}
 use Rattle.sweep.specs.Evaluating.{evaluating}
 use Rattle.sweep.specs.Sweep.{Sweep, unfolded}
 use Rattle.sweep.specs.Checks.{Lent, accepted, ownLimits, outcome}
-use Rattle.locality.specs.Demand3.{Accepted, Apart, liesIn, bothIn, echoes, MergeList, Does, Alike, Agree, offset}
+use Rattle.locality.specs.Demand3.{Accepted, Apart, liesIn, bothIn, echoes, MergeList, first, Does, Alike, Agree, offset}
 use Rattle.locality.proofs.ApartTest.{apart, onSide, gateApart, apart-holds}
 use Rattle.locality.proofs.Demand3Laws.{merge-lists, two-sweeps}
 
@@ -163,6 +164,28 @@ edge-2 = refl
 between : MergeList echo (folds 0) (ownLimits (folds 0)) (1 ∷ 0 ∷ 2 ∷ [])
 unfolding keep
 between = record { echo = rw (own-merges, edge-0, edge-1, edge-2) refl; rest = rw (own-merges, edge-0, edge-1, edge-2) refl }
+
+-- the regions in base and moved node
+abbrev nodes : Event → List (List ℕ)
+nodes v = v .base ∷ v .moved ∷ []
+
+abbrev edge-0-finds : List (List ℕ)
+edge-0-finds = (1 ∷ []) ∷ (3 ∷ []) ∷ []
+
+abbrev edge-1-finds : List (List ℕ)
+edge-1-finds = (2 ∷ []) ∷ (4 ∷ []) ∷ []
+
+abbrev edge-2-finds : List (List ℕ)
+edge-2-finds = (2 ∷ 4 ∷ []) ∷ (5 ∷ []) ∷ []
+
+-- each edge finds the same in the sweep's own run and between the rest's
+pub run-finds : map nodes (trace (first (folds 0) (ownLimits (folds 0))) (0 ∷ 1 ∷ 2 ∷ [])) ≡ edge-0-finds ∷ edge-1-finds ∷ edge-2-finds ∷ []
+unfolding evaluating
+run-finds = refl
+
+pub list-finds : map nodes (trace (first (folds 0) (ownLimits (folds 0))) (1 ∷ 0 ∷ 2 ∷ [])) ≡ edge-1-finds ∷ edge-0-finds ∷ edge-2-finds ∷ []
+unfolding evaluating
+list-finds = refl
 
 pub example-list : Does (folds 0) (ownLimits (folds 0)) (1 ∷ 0 ∷ 2 ∷ [])
 example-list = merge-lists echo (folds 0) folds-counts (yes-by (folds 0) folds-counts 5 3 folds-off) (folds-apart 0) (1 ∷ 0 ∷ 2 ∷ []) between
