@@ -2,7 +2,7 @@
 -- m all memory lent at entry, a the answer and all memory lent at exit. EntryTheorems proves each, VelocityTheorems those of the second entry.
 use Prim.Native.Nat.{ℕ, _<_}
 use mathlib.Core.Path.{_≡_}
-use mathlib.Core.Bool.{Bool, true, false}
+use mathlib.Core.Bool.{Bool}
 use mathlib.Core.List.{List, [], _∷_}
 use mathlib.Core.Option.{none, some}
 use lib.ListN.{length, getD}

@@ -1,15 +1,13 @@
 -- The run that stops at a refusal, in terms of the network's merges, their events and their replay. Assumes nothing.
-use mathlib.Core.Path.{_≡_, refl, sym, ap, _∙_}
+use mathlib.Core.Path.{_≡_, refl, ap, _∙_}
 use mathlib.Core.Bool.{Bool, true, false, _&&_, cond}
-use mathlib.Core.List.{List, _∷_}
+use mathlib.Core.List.{_∷_}
 use mathlib.Core.Option.{Option, none, some}
 use Prim.Native.Nat.{ℕ, zero, suc, _+_}
 use native.Mathlib.Omega.{arith}
 use lib.ListN.{length}
-use Rattle.lists.proofs.SeqLaws.{map-upto-length}
 use Rattle.network.specs.Network.{Edge, State, event, step, choose, follow, run, merges, mergesInRange, trace, replay, inRange}
-use Rattle.network.specs.Inside.Net.{stateOf}
-use Rattle.network.specs.Inside.Settle.{Done, onward, settle, outcome, ranOf}
+use Rattle.network.specs.Inside.Settle.{onward, settle, outcome, ranOf}
 use Rattle.network.specs.declared.network.Ran.{Ran}
 use Rattle.network.specs.declared.network.Ran.the-variants.{Settled, Refused}
 use Rattle.lists.specs.Seq.{all}

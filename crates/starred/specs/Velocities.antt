@@ -4,10 +4,10 @@ use mathlib.Core.Path.{_≡_, refl}
 use mathlib.Core.List.{List, [], _∷_, map}
 use lib.IntN.{ℤ, pos, negsuc}
 use lib.ListN.{replicate}
-use lib.Ieee.{Float, binary32, ofInt}
+use lib.Ieee.{binary32, ofInt}
 use Rattle.arithmetic.specs.Rounding.{real}
 use Rattle.sweep.specs.Evaluating.{evaluating}
-use Rattle.sweep.specs.Velocity.{Counted, counted, VelocityAnswer, velocityAnswerBy, callVelocity}
+use Rattle.sweep.specs.Velocity.{Counted, counted, velocityAnswerBy, callVelocity}
 
 -- one ray of three gates
 abbrev three : ℤ → List ℤ → List ℕ → List ℤ → Counted

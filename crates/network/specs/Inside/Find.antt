@@ -20,7 +20,6 @@ use Rattle.network.specs.Inside.Settle.{outcome, ranOf}
 use Rattle.network.specs.declared.options.Options.{Options}
 use Rattle.network.specs.declared.network.Ran.{Ran}
 use Rattle.network.specs.declared.network.Ran.the-variants.{Settled, Refused as RunRefused}
-use Rattle.network.specs.declared.find.Run.{Run}
 use Rattle.network.specs.declared.find.Finding.{Finding}
 use Rattle.network.specs.declared.find.Finding.the-variants.{Regions, Refused}
 

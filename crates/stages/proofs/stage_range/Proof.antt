@@ -1,6 +1,5 @@
 -- `stages::stage_range` meets its contract. Assumes nothing.
-use Prim.Native.Nat.{ℕ}
-use mathlib.Core.Path.{_≡_, sym, ap, _∙_}
+use mathlib.Core.Path.{sym, ap, _∙_}
 use mathlib.Core.Bool.{Bool, cond}
 use Rattle.stages.specs.Answers.{rangeNumber}
 use borrow.Author.Needs.{needs}
