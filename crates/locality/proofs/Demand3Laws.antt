@@ -9,9 +9,9 @@ use lib.ListN.{length, getD}
 use lib.IntN.{ℤ, pos, _+ℤ_, _-ℤ_, negℤ, +ℤ-assoc, +ℤ-negℤ-cancel}
 use lib.Ieee.{Float}
 use Rattle.sweep.specs.Sweep.{Sweep, Unfolded, unfolded}
-use Rattle.sweep.specs.Checks.{refused, accepted, gatesIn, ownLimits, seven, firstMissed, answered, outcome}
+use Rattle.sweep.specs.Questions.{refused, accepted, gatesIn, ownLimits, seven, firstMissed, answered, outcome}
 use Rattle.sweep.proofs.QuestionLaws.{all-yes}
-use Rattle.sweep.proofs.CheckLaws.{long-are}
+use Rattle.sweep.proofs.PassedLaws.{long-are}
 use Rattle.locality.specs.Demand3.{Accepted, Apart, Alike, offset, MergeListsHold, TwoSweepsHold}
 use Rattle.locality.proofs.Echo.{ApartBy}
 use Rattle.locality.proofs.TwoSweeps.{same-counts, same-but-offset}

@@ -9,10 +9,10 @@ use lib.ListN.{length, getD}
 use lib.IntN.{ℤ, pos, _+ℤ_, +ℤ-idr}
 use Rattle.network.specs.Network.{replay}
 use Rattle.sweep.specs.Sweep.{Sweep, Unfolded, unfolded}
-use Rattle.sweep.specs.Checks.{accepted, gatesIn, asked, firstMissed, answered, outcome, ownLimits}
+use Rattle.sweep.specs.Questions.{accepted, gatesIn, asked, firstMissed, answered, outcome, ownLimits}
 use Rattle.sweep.specs.Call.{Memory, Answer, lengths, clearedFor, workedOn, ending, call}
 use Rattle.sweep.specs.Entry.{answerOf}
-use Rattle.sweep.proofs.CheckLaws.{missed-none}
+use Rattle.sweep.proofs.PassedLaws.{missed-none}
 use Rattle.locality.specs.Demand3.{Accepted, Does, first, countAt, uncentred, offset}
 use Rattle.locality.specs.Theorems.{Called, AnswerIs, RefusalKeeps, CountsAre, WorkCleared, EchoCounts, EchoLists}
 use Rattle.locality.proofs.GateCounts.{valid-counts, no-offset, same-region}

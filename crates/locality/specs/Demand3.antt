@@ -15,7 +15,7 @@ use Rattle.edges.specs.Edges.{sees, used}
 use Rattle.edges.specs.declared.edges.Direction.{Direction}
 use Rattle.network.specs.Network.{State, Event, replay, trace, countOf}
 use Rattle.sweep.specs.Sweep.{Sweep, regionsOf, pairsOf, networkOf, unfolded}
-use Rattle.sweep.specs.Checks.{Lent, accepted, ownLimits, outcome}
+use Rattle.sweep.specs.Questions.{Lent, accepted, ownLimits, outcome}
 
 -- "A sweep is accepted if questions 1 to 9 .. all get a yes": c are then its counts. By `call-accepts` every call that answers 0 has such a sweep,
 -- and c are the counts that it leaves.

@@ -10,7 +10,7 @@ use lib.IntN.{pos, _+ℤ_}
 use lib.Ieee.{Float}
 use Rattle.network.specs.Network.{replay}
 use Rattle.sweep.specs.Sweep.{Sweep, unfolded}
-use Rattle.sweep.specs.Checks.{gatesIn, asked, firstMissed, ownLimits}
+use Rattle.sweep.specs.Questions.{gatesIn, asked, firstMissed, ownLimits}
 use Rattle.sweep.specs.Call.{Memory, Answer, lengths, clearedFor, call}
 use Rattle.sweep.specs.Entry.{answerOf}
 use Rattle.sweep.specs.Velocity.{Counted, VelocityAnswer, velocities, askedVelocity, callVelocity}

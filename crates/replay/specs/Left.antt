@@ -8,7 +8,7 @@ use lib.IntN.{ℤ, pos, negsuc}
 use lib.Ieee.{Float, nan, eq}
 use Rattle.lists.specs.Seq.{upto, all}
 use Rattle.arithmetic.specs.Rounding.{real}
-use Rattle.sweep.specs.Checks.{wordsFor, floatsFor}
+use Rattle.sweep.specs.Questions.{wordsFor, floatsFor}
 use Rattle.replay.specs.declared.left.Left.{Left}
 use Rattle.replay.specs.declared.left.Left.the-variants.{Kept, Cleared, Wrong}
 

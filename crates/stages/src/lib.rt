@@ -23,7 +23,7 @@ ghost use Rattle.network.specs.Inside.Sizes.{Sizes};
 ghost use Rattle.network.specs.Inside.Begin.{rawNet, Space, Raw};
 ghost use Rattle.network.specs.Inside.Settle.{settle, ranOf};
 ghost use Rattle.network.specs.Inside.TurnIs.{gatesIn, RunLeaves};
-ghost use Rattle.sweep.specs.Checks.{firstNo, sevenOf};
+ghost use Rattle.sweep.specs.Questions.{firstNo, sevenOf};
 ghost use Rattle.sweep.specs.Entry.{sweepOf, answerOf};
 ghost use Rattle.sweep.specs.Inside.Finish.{countsBy, Finishes};
 ghost use Rattle.stages.specs.Answers.{rangeNumber, ranNumber};

@@ -16,7 +16,7 @@ use Rattle.arithmetic.specs.declared.intervals.Extremes.the-variants.{Both}
 use Rattle.network.specs.Network.{Event, trace}
 use Rattle.sweep.specs.Evaluating.{evaluating}
 use Rattle.sweep.specs.Sweep.{Sweep, unfolded}
-use Rattle.sweep.specs.Checks.{Lent, accepted, ownLimits, outcome}
+use Rattle.sweep.specs.Questions.{Lent, accepted, ownLimits, outcome}
 use Rattle.locality.specs.Demand3.{Accepted, Apart, liesIn, bothIn, echoes, MergeList, first, Does, Alike, Agree, offset}
 use Rattle.locality.proofs.ApartTest.{apart, onSide, gateApart, apart-holds}
 use Rattle.locality.proofs.Demand3Laws.{merge-lists, two-sweeps}

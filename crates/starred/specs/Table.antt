@@ -8,7 +8,7 @@ use lib.Ieee.{binary32, ofInt}
 use Rattle.arithmetic.specs.Rounding.{real}
 use Rattle.sweep.specs.Evaluating.{evaluating}
 use Rattle.sweep.specs.Sweep.{Sweep}
-use Rattle.sweep.specs.Checks.{gatesIn, wordsFor, floatsFor, ownLimits}
+use Rattle.sweep.specs.Questions.{gatesIn, wordsFor, floatsFor, ownLimits}
 use Rattle.sweep.specs.Call.{Memory, Answer, call}
 
 -- one ray, all valid, Nyquist 10, splits 3, skips 100, no wrap, uncentred

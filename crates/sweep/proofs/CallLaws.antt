@@ -17,11 +17,11 @@ use Rattle.arithmetic.specs.declared.intervals.Plan.{Plan}
 use Rattle.arithmetic.proofs.Plans.{plan-number, plan-limits-are}
 use Rattle.arithmetic.proofs.Rising.{sweep-limits-rise}
 use Rattle.sweep.specs.Sweep.{Sweep, unfolded}
-use Rattle.sweep.specs.Checks.{refused, ask, firstNo, sevenOf, gatesIn, limitsFew, atMost, ownLimits, asked, asked9}
+use Rattle.sweep.specs.Questions.{refused, ask, firstNo, sevenOf, gatesIn, limitsFew, atMost, ownLimits, asked, asked9}
 use Rattle.sweep.specs.Call.{Memory, Answer, lengths, clearedFor, workedOn, ending, call}
 use Rattle.sweep.specs.Entry.{answerOf}
 use Rattle.sweep.proofs.QuestionLaws.{orElse}
-use Rattle.sweep.proofs.CheckLaws.{passed, asked-eight, outcome-by}
+use Rattle.sweep.proofs.PassedLaws.{passed, asked-eight, outcome-by}
 
 -- question 8 as the code puts it
 pub limits-test : (z : ℤ) → leZ z (pos 10000) ≡ atMost 10000 z

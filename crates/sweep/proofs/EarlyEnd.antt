@@ -19,7 +19,7 @@ use Rattle.lists.proofs.SeqLaws.{tab-same}
 use Rattle.labels.specs.Label.{Found}
 use Rattle.network.specs.Network.{alone, start, merges, replay, trace, countOf, gatesOf, networkBy, mergesInRange}
 use Rattle.sweep.specs.Sweep.{Sweep, orZero, sizes, networkOf, final, early, weighed, meanOf, offsetOf, gateCount, ended, finished, unfoldedBy}
-use Rattle.sweep.specs.Checks.{firstNo, answered, asked9}
+use Rattle.sweep.specs.Questions.{firstNo, answered, asked9}
 use Rattle.sweep.proofs.Early.{early-merges, early-counts}
 
 -- ---- a zero divided by anything rounds to 0, or is no number

@@ -17,11 +17,11 @@ use Rattle.arithmetic.proofs.Plans.{no-nan}
 use Rattle.network.specs.Inside.Find.{limitsBy, Finds}
 use Rattle.network.specs.declared.options.Options.{Options}
 use Rattle.sweep.specs.Sweep.{Sweep, unfolded}
-use Rattle.sweep.specs.Checks.{Outcome, refused, accepted, firstNo, sevenOf, gatesIn, wordsFor, floatsFor, asked9}
+use Rattle.sweep.specs.Questions.{Outcome, refused, accepted, firstNo, sevenOf, gatesIn, wordsFor, floatsFor, asked9}
 use Rattle.sweep.specs.Call.{Memory, Answer, memoryOf, answerBy, lengths, cleared, clearedFor, ending}
 use Rattle.sweep.specs.Entry.{sweepBy}
 use Rattle.sweep.specs.Inside.Finish.{allZero}
-use Rattle.sweep.proofs.CheckLaws.{Passed, passed}
+use Rattle.sweep.proofs.PassedLaws.{Passed, passed}
 
 -- as much as is lent of a work memory
 taken : {A : Type 0} (k : ℕ) (w : List A) → k ≤ length w → length (take k w) ≡ k

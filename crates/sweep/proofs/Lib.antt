@@ -6,7 +6,7 @@ pub mod MergeNumber
 pub mod MergeLaws
 pub mod FillLaws
 pub mod VelocityLaws
-pub mod CheckLaws
+pub mod PassedLaws
 pub mod QuestionLaws
 pub mod Early
 pub mod EarlyEnd

@@ -26,7 +26,7 @@ use Rattle.network.specs.declared.find.Run.{Run}
 use Rattle.network.specs.declared.find.Finding.{Finding}
 use Rattle.network.specs.declared.find.Finding.the-variants.{Regions, Refused}
 use Rattle.sweep.specs.Sweep.{Sweep, orZero, weighed, meanOf, networkOf, offsetOf, final, gateCount, finished, unfoldedBy}
-use Rattle.sweep.specs.Checks.{Outcome, firstNo, answered, asked9}
+use Rattle.sweep.specs.Questions.{Outcome, firstNo, answered, asked9}
 use Rattle.sweep.specs.Call.{ending}
 use Rattle.sweep.specs.Entry.{sweepBy}
 use Rattle.sweep.specs.Inside.Mean.{sumFrom, sizeAt, heldAt}

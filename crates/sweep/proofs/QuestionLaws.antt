@@ -18,7 +18,7 @@ use borrow.Author.Tests.{le-leb, lt-leb, ltb-true, eq-eqb, ne-eqb}
 use Rattle.lists.specs.Seq.{all}
 use Rattle.arithmetic.specs.Intervals.{valid, velocityInRange}
 use Rattle.lists.proofs.AllLaws.{and-left, and-right}
-use Rattle.sweep.specs.Checks.{Question, firstNo, maskIsBits, velocitiesInRange}
+use Rattle.sweep.specs.Questions.{Question, firstNo, maskIsBits, velocitiesInRange}
 use Rattle.sweep.specs.Entry.{answerOf}
 
 -- ---- every list of questions

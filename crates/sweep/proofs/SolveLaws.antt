@@ -13,7 +13,7 @@ use Rattle.network.specs.Inside.Find.{limitsBy, regionsBy, networkFor, Finds, L
 use Rattle.network.specs.declared.options.Options.{Options}
 use Rattle.network.specs.declared.find.Finding.{Finding}
 use Rattle.sweep.specs.Sweep.{unfoldedBy, unfolded, regionsOf}
-use Rattle.sweep.specs.Checks.{Outcome, refused, accepted, asked9}
+use Rattle.sweep.specs.Questions.{Outcome, refused, accepted, asked9}
 use Rattle.sweep.specs.Call.{Answer, ending, memoryOf, answerBy}
 use Rattle.sweep.specs.Entry.{sweepBy}
 use Rattle.sweep.specs.Inside.Finish.{WritesFound, lent, written, allZero}

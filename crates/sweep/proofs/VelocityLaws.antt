@@ -21,11 +21,11 @@ use Rattle.lists.proofs.SeqLaws.{tab-length, tab-snoc}
 use Rattle.arithmetic.proofs.IntervalLaws.{front-more, front-none}
 use Rattle.network.specs.Network.{bounded}
 use Rattle.lists.proofs.AllLaws.{and-left, and-right}
-use Rattle.sweep.specs.Checks.{lengthsFit}
+use Rattle.sweep.specs.Questions.{lengthsFit}
 use Rattle.sweep.specs.Entry.{answerOf}
 use Rattle.sweep.specs.Velocity.{Counted, VelocityAnswer, unfoldedAt, velocities, ownLong, countsInRange, askedVelocity, callVelocity}
 use Rattle.sweep.proofs.QuestionLaws.{zero-none, all-yes}
-use Rattle.sweep.proofs.CheckLaws.{long-are}
+use Rattle.sweep.proofs.PassedLaws.{long-are}
 
 -- question 10 of one gate
 abbrev pub countTest : List ℕ → List ℤ → ℕ → Bool

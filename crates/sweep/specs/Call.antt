@@ -7,7 +7,7 @@ use lib.IntN.{ℤ, pos}
 use lib.Ieee.{Float}
 use Rattle.arithmetic.specs.Rounding.{real}
 use Rattle.sweep.specs.Sweep.{Sweep}
-use Rattle.sweep.specs.Checks.{Lent, Outcome, refused, accepted, gatesIn, wordsFor, floatsFor, asked, outcome}
+use Rattle.sweep.specs.Questions.{Lent, Outcome, refused, accepted, gatesIn, wordsFor, floatsFor, asked, outcome}
 
 -- the counts, the pair and the two work memories
 pub record Memory : Type 0 where

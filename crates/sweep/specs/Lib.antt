@@ -1,5 +1,5 @@
 pub mod Sweep
-pub mod Checks
+pub mod Questions
 pub mod Call
 pub mod Entry
 pub mod Velocity

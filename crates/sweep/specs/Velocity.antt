@@ -11,7 +11,7 @@ use Rattle.lists.specs.Seq.{upto, all, tabulate}
 use Rattle.arithmetic.specs.Rounding.{real}
 use Rattle.arithmetic.specs.Intervals.{twoNyquist, nyquistInRange}
 use Rattle.network.specs.Network.{bounded}
-use Rattle.sweep.specs.Checks.{ask, firstNo, sizeInRange, lengthsFit, maskIsBits, velocitiesInRange}
+use Rattle.sweep.specs.Questions.{ask, firstNo, sizeInRange, lengthsFit, maskIsBits, velocitiesInRange}
 
 -- the inputs of a call of the second entry
 pub record Counted : Type 0 where

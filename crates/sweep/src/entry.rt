@@ -11,7 +11,7 @@ ghost use Rattle.arithmetic.specs.Intervals.{range, adds, planOf, velocityInRan
 ghost use Rattle.arithmetic.specs.Intervals as I;
 ghost use Rattle.network.specs.Inside.Find.{limitsBy};
 ghost use Rattle.sweep.specs.Sweep.{unfolded};
-ghost use Rattle.sweep.specs.Checks.{firstNo, sevenOf, asked9, gatesIn};
+ghost use Rattle.sweep.specs.Questions.{firstNo, sevenOf, asked9, gatesIn};
 ghost use Rattle.sweep.specs.Call.{call, ending, clearedFor, lengths, memoryOf, answerBy};
 ghost use Rattle.sweep.specs.Entry.{sweepBy};
 

@@ -10,7 +10,7 @@ ghost use Rattle.memory.specs.Inside.Layout.{mostGates};
 ghost use Rattle.lists.specs.Seq.{upto, all};
 ghost use Rattle.arithmetic.specs.Intervals.{nyquistInRange, velocityInRange};
 ghost use Rattle.network.specs.Network.{bounded};
-ghost use Rattle.sweep.specs.Checks.{firstNo, seven, room, atMost, wordsFor, floatsFor, sizeInRange, lengthsFit, maskIsBits, velocitiesInRange};
+ghost use Rattle.sweep.specs.Questions.{firstNo, seven, room, atMost, wordsFor, floatsFor, sizeInRange, lengthsFit, maskIsBits, velocitiesInRange};
 ghost use Rattle.sweep.specs.Entry.{sweepBy, answerOf};
 ghost use Rattle.sweep.specs.Velocity.{counted, askedVelocity};
 

@@ -12,7 +12,7 @@ ghost use Rattle.memory.specs.Inside.Layout.{countsAt, mostGates};
 ghost use Rattle.network.specs.Inside.Find.{limitsBy, Finds};
 ghost use Rattle.sweep.specs.Sweep.{orZero, gateCount, unfolded};
 ghost use Rattle.sweep.specs.Inside.Mean.{sumFrom, sizeAt, heldAt, Tabled, Writes};
-ghost use Rattle.sweep.specs.Checks.{asked9};
+ghost use Rattle.sweep.specs.Questions.{asked9};
 ghost use Rattle.sweep.specs.Call.{ending, memoryOf, answerBy};
 ghost use Rattle.sweep.specs.Entry.{sweepBy};
 ghost use Rattle.sweep.specs.Inside.Finish.{offsetBy, countsBy, Finishes, WritesFound, lent, written, allZero};

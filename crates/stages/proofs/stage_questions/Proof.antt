@@ -4,7 +4,7 @@ use Prim.Native.Nat.{ℕ}
 use lib.ListN.{length}
 use borrow.Author.Needs.{needs}
 use Rattle.sweep.specs.Entry.{sweepOf, answerOf}
-use Rattle.sweep.specs.Checks.{Lent, firstNo, seven, room, gatesIn}
+use Rattle.sweep.specs.Questions.{Lent, firstNo, seven, room, gatesIn}
 use Rattle.sweep.specs.Sweep.{Sweep}
 use Rattle.sweep.specs.declared.questions.Room.{Room}
 use Rattle.stages.proofs.stage_questions.Statement.{statement}

@@ -1,6 +1,6 @@
 -- `replay::left::cleared_floats` meets its contract. Assumes nothing.
 use Rattle.replay.specs.Left.{clearedFloats}
-use Rattle.sweep.specs.Checks.{floatsFor}
+use Rattle.sweep.specs.Questions.{floatsFor}
 use mathlib.Core.Path.{refl, sym, _∙_}
 use borrow.Author.Needs.{needs}
 use Rattle.replay.proofs.left.cleared_floats.Statement.{statement}

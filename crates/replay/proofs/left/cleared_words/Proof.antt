@@ -1,6 +1,6 @@
 -- `replay::left::cleared_words` meets its contract. Assumes nothing.
 use Rattle.replay.specs.Left.{clearedWords}
-use Rattle.sweep.specs.Checks.{wordsFor}
+use Rattle.sweep.specs.Questions.{wordsFor}
 use mathlib.Core.Path.{refl, sym, _∙_}
 use borrow.Author.Needs.{needs}
 use Rattle.replay.proofs.left.cleared_words.Statement.{statement}

@@ -6,11 +6,11 @@ use mathlib.Core.Path.{_≡_, sym, ap, _∙_}
 use Prim.Native.Nat.{ℕ}
 use borrow.Author.Needs.{needs}
 use Rattle.sweep.proofs.CallLaws.{call-missed, call-many, call-goes-on, few-limits, limits-rise}
-use Rattle.sweep.proofs.CheckLaws.{answer-no, answer-yes, passed, seven-none}
+use Rattle.sweep.proofs.PassedLaws.{answer-no, answer-yes, passed, seven-none}
 use Rattle.sweep.specs.Entry.{sweepBy, answerOf}
 use Rattle.sweep.specs.Call.{Memory, memoryOf, lengths}
 use Rattle.sweep.specs.declared.questions.Room.{Room}
-use Rattle.sweep.specs.Checks.{firstNo, seven, room, sevenOf, gatesIn, atMost}
+use Rattle.sweep.specs.Questions.{firstNo, seven, room, sevenOf, gatesIn, atMost}
 use Rattle.sweep.specs.Sweep.{Sweep}
 use Rattle.arithmetic.proofs.Plans.{T-of}
 use Rattle.sweep.proofs.entry.dealias_sweep.Statement.{statement}

@@ -4,10 +4,10 @@ use mathlib.Core.Path.{_≡_, sym, ap, _∙_}
 use mathlib.Core.List.{List, []}
 use lib.ListN.{drop}
 use borrow.Author.Needs.{needs}
-use Rattle.sweep.proofs.CheckLaws.{answer-no, answer-yes, size-product, long-are, length-is, room-is, options-are}
+use Rattle.sweep.proofs.PassedLaws.{answer-no, answer-yes, size-product, long-are, length-is, room-is, options-are}
 use Rattle.sweep.proofs.QuestionLaws.{on, no}
 use Rattle.sweep.specs.Entry.{sweepBy, answerOf}
-use Rattle.sweep.specs.Checks.{Question, firstNo, seven, gatesIn, sizeInRange, lengthsFit}
+use Rattle.sweep.specs.Questions.{Question, firstNo, seven, gatesIn, sizeInRange, lengthsFit}
 use Rattle.sweep.specs.Sweep.{Sweep}
 use Rattle.sweep.proofs.questions.first_missed.Statement.{statement}
 use Rattle.sweep.proofs.questions.first_missed.Tie as tie

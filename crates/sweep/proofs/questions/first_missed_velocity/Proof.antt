@@ -6,11 +6,11 @@ use Prim.Native.Nat.{_*_}
 use lib.ListN.{drop}
 use borrow.Author.Needs.{needs}
 use Rattle.sweep.proofs.VelocityLaws.{length-is, lengths, counts-are}
-use Rattle.sweep.proofs.CheckLaws.{answer-no, answer-yes}
+use Rattle.sweep.proofs.PassedLaws.{answer-no, answer-yes}
 use Rattle.sweep.proofs.QuestionLaws.{on, no}
 use Rattle.arithmetic.specs.Intervals.{nyquistInRange}
 use Rattle.sweep.specs.Velocity.{countsInRange, Counted, ownLong, askedVelocity}
-use Rattle.sweep.specs.Checks.{Question, ask, sizeInRange, maskIsBits, velocitiesInRange, firstNo, lengthsFit}
+use Rattle.sweep.specs.Questions.{Question, ask, sizeInRange, maskIsBits, velocitiesInRange, firstNo, lengthsFit}
 use Rattle.sweep.specs.Entry.{answerOf}
 use Rattle.sweep.proofs.questions.first_missed_velocity.Statement.{statement}
 use Rattle.sweep.proofs.questions.first_missed_velocity.Tie as tie

@@ -1,7 +1,7 @@
 -- `sweep::questions::lengths_fit` meets its contract. Assumes nothing.
 use borrow.Author.Tests.{eq-eqb, ne-eqb}
 use mathlib.Core.Path.{refl}
-use Rattle.sweep.specs.Checks.{lengthsFit}
+use Rattle.sweep.specs.Questions.{lengthsFit}
 use Rattle.sweep.proofs.questions.lengths_fit.Statement.{statement}
 use Rattle.sweep.proofs.questions.lengths_fit.Tie as tie
 

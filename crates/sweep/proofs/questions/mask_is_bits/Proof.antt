@@ -1,5 +1,5 @@
 -- `sweep::questions::mask_is_bits` meets its contract. The invariant: the bytes from i on decide. Assumes nothing.
-use Rattle.sweep.specs.Checks.{maskIsBits}
+use Rattle.sweep.specs.Questions.{maskIsBits}
 use Rattle.sweep.proofs.QuestionLaws.{mask-yes, mask-no, mask-end}
 use borrow.Author.Needs.{needs}
 use native.Mathlib.Omega.{arith}

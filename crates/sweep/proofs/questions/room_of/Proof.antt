@@ -1,6 +1,6 @@
 -- `sweep::questions::room_of` meets its contract. Assumes nothing.
 use borrow.Author.Needs.{needs}
-use Rattle.sweep.specs.Checks.{room}
+use Rattle.sweep.specs.Questions.{room}
 use Rattle.sweep.proofs.questions.room_of.Statement.{statement}
 use Rattle.sweep.proofs.questions.room_of.Tie as tie
 

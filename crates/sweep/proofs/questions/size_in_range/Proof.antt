@@ -1,5 +1,5 @@
 -- `sweep::questions::size_in_range` meets its contract. Assumes nothing.
-use Rattle.sweep.specs.Checks.{sizeInRange}
+use Rattle.sweep.specs.Questions.{sizeInRange}
 use borrow.Author.Tests.{le-leb, lt-leb}
 use mathlib.Core.Path.{refl}
 use Rattle.sweep.proofs.questions.size_in_range.Statement.{statement}

@@ -1,5 +1,5 @@
 -- `sweep::questions::velocities_in_range` meets its contract. The invariant: the gates from i on decide. Assumes nothing.
-use Rattle.sweep.specs.Checks.{velocitiesInRange}
+use Rattle.sweep.specs.Questions.{velocitiesInRange}
 use Rattle.sweep.proofs.QuestionLaws.{speed-masked, speed-valid, speed-end}
 use borrow.Author.Tests.{not-true, not-false}
 use mathlib.Core.Logic.{⊎-elim}

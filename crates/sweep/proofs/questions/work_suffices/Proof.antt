@@ -1,5 +1,5 @@
 -- `sweep::questions::work_suffices` meets its contract. Assumes nothing.
-use Rattle.sweep.specs.Checks.{wordsFor, floatsFor}
+use Rattle.sweep.specs.Questions.{wordsFor, floatsFor}
 use borrow.Author.Tests.{le-leb, lt-leb}
 use mathlib.Core.Path.{refl}
 use borrow.Author.Needs.{needs}

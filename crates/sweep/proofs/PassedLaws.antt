@@ -18,7 +18,7 @@ use Rattle.arithmetic.specs.Inside.Asked.{Asked}
 use Rattle.arithmetic.proofs.Plans.{T-of}
 use Rattle.lists.proofs.AllLaws.{and-left, and-right}
 use Rattle.sweep.specs.Sweep.{Sweep, Unfolded, unfolded}
-use Rattle.sweep.specs.Checks.{
+use Rattle.sweep.specs.Questions.{
   Lent,
   Question,
   refused,
