@@ -194,23 +194,6 @@ end-end nyq S n w z a =
     u q m ν xp xn bp bn t h k l = omega arith
 
 -- ---- neither is large
-pub end-most : (x : Float) (P N : ℕ) (e : End x P N) → P ≤ 600000000000000 * tiny → N ≤ 600000000000000 * tiny → (e .q ≤ e .m + 4503599627370496 * tiny) × (e .m ≤ e .q + 4503599627370496 * tiny)
-end-most x P N e h k = (one (e .q) (e .m) tiny (e .over) h, two (e .q) (e .m) tiny (e .under) k)
-  where
-    one : (q m t : ℕ) → q + N ≤ m + P + 3 * t → P ≤ 600000000000000 * t → q ≤ m + 4503599627370496 * t
-    one q m t h k = omega arith
-
-    two : (q m t : ℕ) → m + P ≤ q + N + 3 * t → N ≤ 600000000000000 * t → m ≤ q + 4503599627370496 * t
-    two q m t h k = omega arith
-
-pub start-most : (nyq : Float) (S : ℕ) (n : Nyquist nyq) (w : Wide nyq (n .size) S) (z : ℤ) (a : Add z (w .size)) → let e = start-end nyq S n w z a in (e .q ≤ e .m + 4503599627370496 * tiny) × (e .m ≤ e .q + 4503599627370496 * tiny)
-start-most nyq S n w z a =
-    let b = parts-most z (w .size) a in
-    end-most (startOf nyq (width nyq S) z) (zn z * w .size) (n .size + zp z * w .size) (start-end nyq S n w z a) (le-trans (b .1) (mul-le-mul-right tiny (lit≤ tt))) (sum (n .size) (zp z * w .size) tiny (n .high) (b .0))
-  where
-    sum : (ν x t : ℕ) → ν ≤ 17592186044416 * t → x ≤ 562949953421312 * t → ν + x ≤ 600000000000000 * t
-    sum ν x t h k = omega arith
-
 -- ---- the end is above the start
 pub record Gap (q m q' m' : ℕ) : Type 0 where
   pub δ : ℕ

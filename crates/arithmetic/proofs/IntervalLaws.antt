@@ -7,7 +7,7 @@ use native.Mathlib.Omega.{arith}
 use native.Mathlib.Numerals.{add-one}
 use lib.Dec.{T, eqb, eqb→eq, not-T}
 use lib.Ieee.Bits.{is-false}
-use lib.ListN.{length, take, drop, getD, set, length-append, length-drop}
+use lib.ListN.{length, take, drop, getD, set, length-append}
 use lib.Seq.{take-suc, drop-cons, set-at, length-take-le, take-length}
 use lib.Ieee.{Float, nan, lt}
 use Rattle.arithmetic.specs.declared.intervals.Extremes.{Extremes}
@@ -103,13 +103,6 @@ front-more l w v n e h =
 pub front-none : (w : List Float) → front [] w ≡ w
 unfolding front
 front-none w = refl
-
-pub length-front : (l w : List Float) → length l ≤ length w → length (front l w) ≡ length w
-unfolding front
-length-front l w h = length-append l (drop (length l) w) ∙ ap (λ (k : ℕ). length l + k) (length-drop (length l) w) ∙ back (length l) (length w) h
-  where
-    back : (a b : ℕ) → a ≤ b → a + (b - a) ≡ b
-    back a b h = omega arith
 
 -- one turn of the loop over the gates
 pub turn-yes : (vs : List Float) (ms : List ℕ) (i : ℕ) (e r : Extremes) (v : Float) → i < length vs → length ms ≡ length vs → getD ms i 0 ≡ 1 → e ≡ upTo vs ms i → v ≡ getD vs i nan → r ≡ include e v → r ≡ upTo vs ms (i + 1)

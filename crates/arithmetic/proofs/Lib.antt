@@ -12,4 +12,3 @@ pub mod Itself
 pub mod Steps
 pub mod Ends
 pub mod Rising
-pub mod Mono

@@ -5,7 +5,7 @@ use Prim.Native.Nat.{ℕ, zero, suc, _+_, _-_, _≤_, _<_}
 use native.Mathlib.Nat.{le-trans}
 use native.Mathlib.Omega.{arith}
 use lib.Dec.{T, ltb, nltb→le, lit≤}
-use borrow.Author.Tests.{lt-ltb, ltb-false}
+use borrow.Author.Tests.{lt-ltb}
 use lib.Ieee.Fits.{and-l, and-r}
 use lib.IntN.{ℤ, pos, negsuc, natAbs, _+ℤ_}
 use lib.Signed.{mag, ltZ, nonNeg}
@@ -216,7 +216,3 @@ pub range-fair : (l : List Float) → T (all velocityInRange l) → ExtremesInRa
 unfolding range all
 range-fair [] h = tt
 range-fair (v ∷ l) h = (least-fair v l (and-l (velocityInRange v) (all velocityInRange l) h) (and-r (velocityInRange v) (all velocityInRange l) h), greatest-fair v l (and-l (velocityInRange v) (all velocityInRange l) h) (and-r (velocityInRange v) (all velocityInRange l) h))
-
-pub not-many : (z : ℤ) → ltZ (pos 10000) z ≡ false → atLeast0 z ≤ 10000
-not-many (pos n) h = ltb-false 10000 n h
-not-many (negsuc n) h = lit≤ tt

@@ -1,28 +1,26 @@
 -- THE LAW: for a sweep that passes questions 5 to 8 no limit is below the one before it, so a velocity lies in one interval at most. Assumes nothing.
 use mathlib.Core.Path.{_≡_, refl, sym, ap, _∙_, subst}
-use mathlib.Core.Logic.{_⊎_, inl, inr}
-use mathlib.Core.Bool.{Bool, true, false, not, cond}
+use mathlib.Core.Logic.{inl, inr}
+use mathlib.Core.Bool.{Bool, true, false, cond}
 use mathlib.Core.List.{List, [], _∷_, _++_}
 use Prim.Native.Nat.{ℕ, zero, suc, _+_, _-_, _*_, _≤_, _<_}
 use native.Mathlib.Nat.{le-trans, le-of-eq, zero-mul, eq-or-lt-of-le}
 use native.Mathlib.Omega.{arith}
-use lib.Dec.{T, eqb, leb, leb→le, nleb→lt, lit≤}
+use lib.Dec.{T, eqb, lit≤}
 use lib.IntN.{ℤ, pos, _+ℤ_}
 use lib.ListN.{length, getD, length-append, List·getD-append}
 use lib.Seq.{getD-at}
 use lib.Ieee.{Float, nan, binary32, binary64, mul, lt, le, fits}
-use lib.Ieee.Scale.{finite}
 use lib.Ieee.Fits.{add-fits, cond-fits, fits-widens}
 use Rattle.arithmetic.specs.Rounding.{real}
 use Rattle.arithmetic.specs.declared.intervals.Extremes.{Extremes}
 use Rattle.arithmetic.specs.declared.intervals.Extremes.the-variants.{Both, NoneValid}
 use Rattle.arithmetic.specs.Intervals.{velocityInRange, valid, least, greatest, range, width, overStart, overEnd, beyond, widened, noAdds, adds, number, spaced, stepOf, limitAt, atLeast0, startOf, endOf, limitsOf, limitsFor, numberFor}
-use Rattle.arithmetic.proofs.Units.{unit, tiny, value-finite}
+use Rattle.arithmetic.proofs.Units.{tiny}
 use Rattle.arithmetic.proofs.Plans.{range-fair}
 use Rattle.arithmetic.proofs.Quotient.{Nyquist, nyquist, Wide, wide, speed, over-start, over-end, Add, add-of}
-use Rattle.arithmetic.proofs.Itself.{float-le-trans, lt-not-le}
-use Rattle.arithmetic.proofs.Steps.{rise, last, limit-finite}
-use Rattle.arithmetic.proofs.Ends.{start-end, end-end, gap, start-most}
+use Rattle.arithmetic.proofs.Steps.{rise, last}
+use Rattle.arithmetic.proofs.Ends.{start-end, end-end, gap}
 use Rattle.arithmetic.specs.Inside.Asked.{Asked, ExtremesInRange, Held, Rising}
 use Rattle.lists.specs.Seq.{tabulate, all}
 use Rattle.lists.proofs.SeqLaws.{tab-length, tab-at}
@@ -49,22 +47,6 @@ grows f e k h g i p =
 
     inner : (i : ℕ) → i < suc k → length (tabulate (suc k) f) ≡ suc k → getD (tabulate (suc k) f ++ (e ∷ [])) i nan ≡ f i
     inner i h n = List·getD-append (tabulate (suc k) f) (e ∷ []) nan i (subst (λ (z : ℕ). i < z) (sym n) h) ∙ tab-at f (suc k) i nan h
-
--- every limit is a number
-abbrev pub AllFinite : List Float → Type 0
-AllFinite l = (i : ℕ) → i < length l → T (finite (getD l i nan))
-
-finite-list : (f : ℕ → Float) (e : Float) (k : ℕ) → ((i : ℕ) → i < k → T (finite (f i))) → T (finite e) → AllFinite (tabulate k f ++ (e ∷ []))
-finite-list f e k h g i p =
-    let n : length (tabulate k f) ≡ k = tab-length f k in
-    let l : i ≤ k = less i k (subst (λ (z : ℕ). i < z) (length-append (tabulate k f) (e ∷ []) ∙ ap (λ (z : ℕ). z + 1) n) p) in
-    elim (eq-or-lt-of-le l) [
-      | inl q ↦ subst (λ (x : Float). T (finite x)) (sym (getD-at (tabulate k f) e [] nan i (n ∙ sym q))) g
-      | inr q ↦ subst (λ (x : Float). T (finite x)) (sym (List·getD-append (tabulate k f) (e ∷ []) nan i (subst (λ (z : ℕ). i < z) (sym n) q) ∙ tab-at f k i nan q)) (h i q)
-    ]
-  where
-    less : (i k : ℕ) → i < k + 1 → i ≤ k
-    less i k h = omega arith
 
 -- ---- the limits of two adds
 end-fits : (nyq w : Float) (b : ℤ) → T (fits binary64 (endOf nyq w b))
@@ -100,40 +82,6 @@ module _ (nyq : Float) (S : ℕ) (n : Nyquist nyq) (w : Wide nyq (n .size) S) (a
   pub limits-rise : atLeast0 (pos (S + 1) +ℤ a +ℤ b) ≤ 10000 → Rising (limitsOf nyq S a b (pos (S + 1) +ℤ a +ℤ b))
   unfolding limitsOf
   limits-rise h = rising-of (atLeast0 (pos (S + 1) +ℤ a +ℤ b)) refl h
-
-  finite-of : (N : ℕ) → atLeast0 (pos (S + 1) +ℤ a +ℤ b) ≡ N → N ≤ 10000 → AllFinite (spaced (startOf nyq (width nyq S) a) (endOf nyq (width nyq S) b) N)
-  unfolding spaced
-  finite-of zero h l i o = absurd (no i o)
-    where
-      no : (i : ℕ) → i < 0 → ⊥
-      no i k = omega arith
-  finite-of (suc zero) h l i o =
-      let s = start-end nyq S n w a p in
-      let st = startOf nyq (width nyq S) a in
-      subst (λ (j : ℕ). T (finite (getD (st ∷ []) j nan))) (first i o) (value-finite st (s .at .sign) (s .at .size) unit (s .at .has))
-    where
-      first : (i : ℕ) → i < 1 → 0 ≡ i
-      first i k = omega arith
-  finite-of (suc (suc k)) h l i o =
-      let s = start-end nyq S n w a p in
-      let e = end-end nyq S n w b r in
-      let g = gap nyq S k n w a b few p r h in
-      let m = start-most nyq S n w a p in
-      let st = startOf nyq (width nyq S) a in
-      let en = endOf nyq (width nyq S) b in
-      finite-list (limitAt st (stepOf st en (suc k))) en (suc k)
-      (λ (j : ℕ) (q : j < suc k). limit-finite st en (s .q) (s .m) (e .q) (e .m) (g .δ) k (s .at) (e .at) (end-fits nyq (width nyq S) b) (g .is) (g .low) (g .high) (less k l) j (under j (suc k) q) (m .0) (m .1))
-      (value-finite en (e .at .sign) (e .at .size) unit (e .at .has)) i o
-    where
-      less : (k : ℕ) → suc (suc k) ≤ 10000 → k ≤ 9998
-      less k l = omega arith
-
-      under : (i j : ℕ) → i < j → i ≤ j
-      under i j h = omega arith
-
-  pub limits-finite : atLeast0 (pos (S + 1) +ℤ a +ℤ b) ≤ 10000 → AllFinite (limitsOf nyq S a b (pos (S + 1) +ℤ a +ℤ b))
-  unfolding limitsOf
-  limits-finite h = finite-of (atLeast0 (pos (S + 1) +ℤ a +ℤ b)) refl h
 
 -- ---- the adds of a sweep
 no-add : (W : ℕ) → Add (pos 0) W
@@ -191,54 +139,6 @@ valid-held (v ∷ vs) (m ∷ ms) h = go (eqb m 1) (valid-held vs ms (h .1))
     go : (b : Bool) → AllHeld (valid vs ms) → AllHeld (cond b (v ∷ valid vs ms) (valid vs ms))
     go true k = (h .0, k)
     go false k = k
-
--- ---- one interval at most
-compare3 : (i j : ℕ) → (i < j) ⊎ ((j < i) ⊎ (i ≡ j))
-compare3 i j = go (leb i j) (leb→le i j) (nleb→lt i j)
-  where
-    go : (b : Bool) → (T b → i ≤ j) → (T (not b) → j < i) → (i < j) ⊎ ((j < i) ⊎ (i ≡ j))
-    go true h k = elim (eq-or-lt-of-le (h tt)) [ inl e ↦ inr (inr e) | inr g ↦ inl g ]
-    go false h k = inr (inl (k tt))
-
-module _ (l : List Float) (r : Rising l) where
-  climb : (i d : ℕ) → suc (i + d) < length l → T (le (getD l i nan) (getD l (suc (i + d)) nan))
-  climb i zero h = subst (λ (k : ℕ). T (le (getD l i nan) (getD l (suc k) nan))) (flat i) (r i (subst (λ (k : ℕ). suc k < length l) (sym (flat i)) h))
-    where
-      flat : (i : ℕ) → i ≡ i + 0
-      flat i = omega arith
-  climb i (suc d) h =
-      let g : suc (i + d) < length l = less i d (length l) h in
-      float-le-trans (getD l i nan) (getD l (suc (i + d)) nan) (getD l (suc (i + suc d)) nan) (climb i d g)
-      (subst (λ (k : ℕ). T (le (getD l (suc (i + d)) nan) (getD l (suc k) nan))) (over i d) (r (suc (i + d)) (subst (λ (k : ℕ). suc k < length l) (sym (over i d)) h)))
-    where
-      less : (i d n : ℕ) → suc (i + suc d) < n → suc (i + d) < n
-      less i d n h = omega arith
-
-      over : (i d : ℕ) → suc (i + d) ≡ i + suc d
-      over i d = omega arith
-
-  not-later : (v : Float) (i j : ℕ) → i < j → j < length l → T (lt v (getD l (suc i) nan)) → T (le (getD l j nan) v) → ⊥
-  not-later v i j h k a b = elim (eq-or-lt-of-le h) [
-    | inl e ↦ lt-not-le v (getD l (suc i) nan) a (subst (λ (z : ℕ). T (le (getD l z nan) v)) (sym e) b)
-    | inr g ↦
-        let d = j - suc (suc i) in
-        let e : suc (suc i + d) ≡ j = back i j g in
-        lt-not-le v (getD l (suc i) nan) a
-        (float-le-trans (getD l (suc i) nan) (getD l j nan) v (subst (λ (z : ℕ). T (le (getD l (suc i) nan) (getD l z nan))) e (climb (suc i) d (subst (λ (z : ℕ). z < length l) (sym e) k))) b)
-  ]
-    where
-      back : (i j : ℕ) → suc i < j → suc (suc i + (j - suc (suc i))) ≡ j
-      back i j h = omega arith
-
-  pub one-interval : (v : Float) (i j : ℕ) → suc i < length l → suc j < length l → T (le (getD l i nan) v) → T (lt v (getD l (suc i) nan)) → T (le (getD l j nan) v) → T (lt v (getD l (suc j) nan)) → i ≡ j
-  one-interval v i j h k a b c d = elim (compare3 i j) [
-    | inl g ↦ absurd (not-later v i j g (less j (length l) k) b c)
-    | inr (inl g) ↦ absurd (not-later v j i g (less i (length l) h) d a)
-    | inr (inr e) ↦ e
-  ]
-    where
-      less : (j n : ℕ) → suc j < n → j < n
-      less j n h = omega arith
 
 -- ---- as a sweep entry has it: what a slice of f32 holds, and questions 5 to 8
 slice-held : (vs : List Float) → ((i : ℕ) → T (fits binary32 (getD vs i nan))) → AllHeld vs

@@ -5,8 +5,8 @@ use mathlib.Core.Bool.{Bool, true, false, not, _&&_, _||_, Bool·beq, cond, true
 use Prim.Native.Nat.{ℕ, zero, suc, _+_, _-_, _*_, _^_, _≤_, _<_}
 use native.Mathlib.Nat.{zero-mul, mul-comm, mul-pos, mul-sub, mul-le-mul-right, le-of-mul-le-mul-right, lt-of-mul-lt-mul-right, mul-lt-mul-of-pos-right, zero-lt-suc}
 use native.Mathlib.Omega.{arith}
-use lib.Dec.{T, ltb, leb, eqb, ltb→lt, lt→ltb, le→leb, leb→le, nltb→le, eqb→eq, eqb-refl, not-T}
-use lib.Ieee.{Float, nan, inf, fin, Format, prec, emax, low, up, down, odd, units, round, neg, sum, add, sub, mul, div, below, level, lt, eq, le, unlike}
+use lib.Dec.{T, ltb, eqb, ltb→lt, lt→ltb, le→leb, leb→le, nltb→le, eqb→eq, not-T}
+use lib.Ieee.{Float, nan, inf, fin, Format, prec, emax, low, up, down, odd, units, round, neg, sum, add, sub, mul, div, below, level, le, unlike}
 use lib.Ieee.Bits.{cond-no}
 use lib.Ieee.Fits.{down-pos, and-l, and-r}
 use lib.Ieee.Exact.{HasValue}
@@ -35,14 +35,6 @@ minus-scale : (s : Bool) (x k y l : ℕ) → x * k ≡ y * l → minus s x * k �
 minus-scale true x k y l e = e
 minus-scale false x k y l e = zero-mul k ∙ sym (zero-mul l)
 
-pub plus-mul : (s : Bool) (a k : ℕ) → plus s a * k ≡ plus s (a * k)
-plus-mul false a k = refl
-plus-mul true a k = zero-mul k
-
-pub minus-mul : (s : Bool) (a k : ℕ) → minus s a * k ≡ minus s (a * k)
-minus-mul true a k = refl
-minus-mul false a k = zero-mul k
-
 plus-not : (s : Bool) (a : ℕ) → plus (not s) a ≡ minus s a
 plus-not true a = refl
 plus-not false a = refl
@@ -64,10 +56,6 @@ carry s t A B a b c G C e g h =
 or-l : (a b : Bool) → T a → T (a || b)
 or-l true b t = tt
 or-l false b t = absurd t
-
-or-r : (a b : Bool) → T b → T (a || b)
-or-r true b t = tt
-or-r false b t = t
 
 both : (A B : ℕ) → A + B ≤ 0 → T (eqb A B && eqb A 0)
 both A B h =
@@ -237,16 +225,7 @@ order s t a b p n q m e g h = go (plus s a) (minus s a) (plus t b) (minus t b) e
     go : (x y z w : ℕ) → p + y ≡ n + x → q + w ≡ m + z → x + w ≤ z + y
     go x y z w e g = omega (arith, h)
 
-order' : (s t : Bool) (a b p n q m : ℕ) → p + minus s a ≡ n + plus s a → q + minus t b ≡ m + plus t b → plus s a + minus t b ≤ plus t b + minus s a → p + m ≤ q + n
-order' s t a b p n q m e g h = go (plus s a) (minus s a) (plus t b) (minus t b) e g h
-  where
-    go : (x y z w : ℕ) → p + y ≡ n + x → q + w ≡ m + z → x + w ≤ z + y → p + m ≤ q + n
-    go x y z w e g h = omega arith
-
 module _ {x y : Float} {c p n q m : ℕ} (C : 0 < c) where
-  pub is-le : Is x c p n → Is y c q m → T (le x y) → p + m ≤ q + n
-  is-le i j h = order' (i .sign) (j .sign) (i .size) (j .size) p n q m (i .pair) (j .pair) (values-le x y (i .sign) (j .sign) (i .size) (j .size) c C (i .has) (j .has) h)
-
   pub rounds-le : {f : Format} → Rounds f x c p n → Rounds f y c q m → p + m ≤ q + n → T (le x y)
   rounds-le {f} i j h =
       subst (λ (z : Float). T (le z y)) (sym (i .is)) (subst (λ (z : Float). T (le (round f (i .sign) (i .size) c) z)) (sym (j .is))

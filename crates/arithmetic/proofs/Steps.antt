@@ -3,16 +3,15 @@
 use mathlib.Core.Path.{_≡_, sym, ap, _∙_, subst}
 use mathlib.Core.Bool.{Bool, true, false, not}
 use Prim.Native.Nat.{ℕ, suc, _+_, _-_, _*_, _≤_, _<_}
-use native.Mathlib.Nat.{le-trans, le-of-eq, mul-one, mul-pos, mul-le-mul-right, mul-le-mul-left, le-of-mul-le-mul-right, lt-of-mul-lt-mul-right, le-of-suc-le-suc, zero-lt-suc, add-le-add, le-refl}
+use native.Mathlib.Nat.{le-trans, le-of-eq, mul-one, mul-pos, mul-le-mul-right, mul-le-mul-left, le-of-mul-le-mul-right, lt-of-mul-lt-mul-right, le-of-suc-le-suc, zero-lt-suc}
 use native.Mathlib.Omega.{arith}
 use lib.Dec.{T, leb, leb→le, nleb→lt, lit≤, lit<}
 use lib.IntN.{pos}
 use lib.Ieee.{Float, binary64, round, sub, mul, le, fits, ofInt}
 use lib.Ieee.Exact.{HasValue}
-use lib.Ieee.Scale.{finite}
 use Rattle.arithmetic.specs.Intervals.{stepOf, limitAt}
 use Rattle.arithmetic.proofs.Signed.{plus, minus, Is, Rounds, rounds-le, add-rounds, sub-rounds, mul-values, div-values, round-le, values-le}
-use Rattle.arithmetic.proofs.Units.{unit, tiny, unit-pos, tiny-large, rounded, near64, has64, thrice, one-has, one-over, one-under, whole-has, rounds-finite}
+use Rattle.arithmetic.proofs.Units.{unit, tiny, unit-pos, tiny-large, rounded, near64, has64, thrice, one-has, one-over, one-under, whole-has}
 use Rattle.arithmetic.proofs.Itself.{is-rounds}
 use Rattle.arithmetic.specs.Rounding.{real}
 
@@ -72,15 +71,6 @@ some-tiny x d δ k t a b c e l = go x d δ k t a b c (small k t e l)
 
     go : (x d δ k t : ℕ) → x * 2 ≤ d * 3 + suc k → d ≤ δ + t → δ ≤ 4503599627370496 * t → suc k ≤ t → x ≤ 13510798882111493 * t
     go x d δ k t a b c f = omega arith
-
-twice-tiny : (q m p x t : ℕ) → p * 1 * 2 ≤ x * 3 + 1 → x ≤ 13510798882111493 * t → 1180591620717411303424 ≤ t → q ≤ m + 4503599627370496 * t → q + p ≤ m + 0 + 1180591620717411303424 * t
-twice-tiny q m p x t h k l g = le-trans (go q m p x t (le-trans h (plain x t l)) k g) (add-le-add (le-refl (m + 0)) (mul-le-mul-right t (lit≤ tt)))
-  where
-    plain : (x t : ℕ) → 1180591620717411303424 ≤ t → x * 3 + 1 ≤ x * 3 + t
-    plain x t l = omega arith
-
-    go : (q m p x t : ℕ) → p * 1 * 2 ≤ x * 3 + t → x ≤ 13510798882111493 * t → q ≤ m + 4503599627370496 * t → q + p ≤ m + 0 + 36028797018963968 * t
-    go q m p x t h k g = omega arith
 
 many-tiny : (x d δ k t : ℕ) → x * 2 ≤ d * 3 + suc k → d ≤ δ + t → δ ≤ 4503599627370496 * t → k ≤ 1000000 → 1180591620717411303424 ≤ t → x ≤ 1180591620717411303424 * t
 many-tiny x d δ k t a b c e l = le-trans (some-tiny x d δ k t a b c e l) (mul-le-mul-right t (lit≤ tt))
@@ -212,16 +202,3 @@ module _ (st en : Float) (q m q' m' δ k : ℕ) (is : Is st unit q m) (ie : Is e
 
       over : (x : ℕ) → x ≤ δ → q + x + m' ≤ q' + (m + 0)
       over x h = omega (arith, gap)
-
-  pub limit-finite : (i : ℕ) → i ≤ suc k → q ≤ m + 4503599627370496 * tiny → m ≤ q + 4503599627370496 * tiny → T (finite (limitAt st step i))
-  limit-finite i h a b =
-      rounds-finite (limit-rounds i h)
-      (twice-tiny q m (P i) (S * i) tiny (thrice 4503599627370496 (S * i) 1 (P i) (lit< tt) (near64 (S * i) 1 (zero-lt-suc 0) .over))
-      (le-trans (mul-le-mul-left S h) (some-tiny (S * suc k) D δ k tiny total D-over hi (le-trans few (lit≤ tt)) tiny-large)) tiny-large a)
-      (over (P i) (le-trans b (add-le-add (le-refl q) (mul-le-mul-right tiny (lit≤ tt)))))
-    where
-      over : (x : ℕ) → m ≤ q + 1180591620717411303424 * tiny → m + 0 ≤ q + x + 1180591620717411303424 * tiny
-      over x h = go (1180591620717411303424 * tiny) h
-        where
-          go : (y : ℕ) → m ≤ q + y → m + 0 ≤ q + x + y
-          go y h = omega arith

@@ -3,7 +3,7 @@
 use mathlib.Core.Path.{_≡_, refl, sym, ap, _∙_, subst}
 use mathlib.Core.Bool.{Bool, true, false, _&&_}
 use Prim.Native.Nat.{ℕ, zero, suc, _+_, _-_, _*_, _%_, _^_, _≤_, _<_}
-use native.Mathlib.Nat.{le-trans, le-of-eq, mul-one, zero-mul, mul-le-mul-right, le-of-mul-le-mul-right, lt-of-not-le, not-le-of-lt, le-of-suc-le-suc, zero-lt-suc, mul-assoc}
+use native.Mathlib.Nat.{le-trans, mul-one, zero-mul, mul-le-mul-right, le-of-mul-le-mul-right, lt-of-not-le, not-le-of-lt, le-of-suc-le-suc, zero-lt-suc, mul-assoc}
 use native.Mathlib.Omega.{arith}
 use lib.Dec.{T, leb, ltb, eqb, leb→le, lit≤, lit<}
 use lib.Pow.{pow-add, pow-pos, pow-lt}
@@ -123,24 +123,6 @@ approx {z} {p} {n} r h k =
     near-under : (s : Bool) (a G t : ℕ) → p + minus s a ≡ n + plus s a → G ≤ a + t → a ≤ G + t → minus s G + p ≤ plus s G + n + t
     near-under false a G t e h k = omega arith
     near-under true a G t e h k = omega arith
-
-pub value-finite : (x : Float) (s : Bool) (a c : ℕ) → HasValue x s a c → T (finite x)
-value-finite nan s a c v = absurd v
-value-finite (inf t) s a c v = absurd v
-value-finite (fin t m e) s a c v = tt
-
--- what is rounded from up to 2 ^ 70 tiny is finite
-pub rounds-finite : {z : Float} {p n : ℕ} → Rounds binary64 z unit p n → p ≤ n + 1180591620717411303424 * tiny → n ≤ p + 1180591620717411303424 * tiny → T (finite z)
-rounds-finite {z} {p} {n} r h k =
-    let s = r .sign in
-    let a = r .size in
-    let b : a ≤ 1180591620717411303424 * tiny = most s a (1180591620717411303424 * tiny) (r .pair) h k in
-    subst (λ (y : Float). T (finite y)) (sym (r .is ∙ ap (λ (c : ℕ). round binary64 s a c) (sym (mul-one unit))))
-    (value-finite (round binary64 s a (unit * 1)) s (rounded a 1) unit (has64 s a 1 (zero-lt-suc 0) (le-trans b (le-of-eq (sym (mul-one (1180591620717411303424 * tiny)))))))
-  where
-    most : (s : Bool) (a M : ℕ) → p + minus s a ≡ n + plus s a → p ≤ n + M → n ≤ p + M → a ≤ M
-    most false a M e h k = omega arith
-    most true a M e h k = omega arith
 
 -- ---- an f64 is a whole number of units
 le-of-pow : (i j : ℕ) → 2 ^ i ≤ 2 ^ j → i ≤ j

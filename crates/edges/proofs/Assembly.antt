@@ -17,7 +17,7 @@ use Rattle.memory.specs.Inside.Sort.{sorted}
 use Rattle.memory.proofs.SortLaws.{all-sorted}
 use Rattle.edges.specs.Edges.{Shape, Left, Right, Top, Bottom, sees, Pair, difference, pairs, used}
 use Rattle.edges.specs.declared.edges.Shape.{Shape}
-use Rattle.edges.specs.Inside.GatePairs.{GatePair, both, gatePairTo, gatePairsAt, gatePairs, pairOf, AddsPairs, Sheet}
+use Rattle.edges.specs.Inside.GatePairs.{GatePair, both, gatePairTo, gatePairsAt, gatePairs, pairOf, AddsPairs}
 use Rattle.edges.specs.Inside.Order.{ordered, runs}
 use Rattle.edges.specs.Inside.Sorts.{labelsOf, Sorts, Sorted}
 use Rattle.edges.specs.Inside.Gather.{pairAt, later, ReadsPairs, tables, Gathers, Gathered}
@@ -124,9 +124,6 @@ module _ (f : Shape) (u : List ℕ) (a vel : List Float) (n k t : ℕ) (q : Find
       far = λ i h. omega (arith, far-at i h, within-at i h .far);
       label = λ j h. omega (arith, q .label j h, label-at u n j h, label-at w n j h, ap (λ (l : List ℕ). getD l j 0) labels-w);
     }
-
-    ps : List Pair
-    ps = map (pairOf (seg u 0 n) vel) (gatePairs f (seg u 0 n))
 
     keys-one : labelsOf w n m ≡ map (λ p. p .one) (map (pairOf (seg u 0 n) vel) (gatePairs f (seg u 0 n)))
     unfolding labelsOf pairOf

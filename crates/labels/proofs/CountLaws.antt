@@ -20,9 +20,6 @@ use Rattle.labels.proofs.BandLaws.{marks-in, marks-out, length-marks}
 use Rattle.labels.proofs.JointLaws.{part-in, part-out, length-part}
 
 module _ (iv w rs : List ℕ) (F : Forest (marks iv) w rs) where
-  pub rs-long : length rs ≡ length iv
-  rs-long = F .roots-long ∙ length-marks iv
-
   pub iv-long : length w ≡ length iv
   iv-long = F .long ∙ length-marks iv
 

@@ -7,11 +7,11 @@ use mathlib.Core.List.{List, [], _∷_, map}
 use lib.Dec.{eqb}
 use Rattle.lists.specs.Seq.{keep}
 use Rattle.lists.proofs.SeqLaws.{eqb-renamed}
-use Rattle.network.specs.Network.{Region, State, countOf, step, merges, replay, trace}
+use Rattle.network.specs.Network.{Region, State, countOf, merges, replay, trace}
 use Rattle.network.proofs.Lists.{apart}
-use Rattle.network.proofs.Restrict.{regionIn, restrict, Closed, step-in, step-out, eventIn, replay-in, trace-in}
+use Rattle.network.proofs.Restrict.{regionIn, restrict, Closed, eventIn, replay-in, trace-in}
 use Rattle.network.proofs.Own.{merges-in}
-use Rattle.locality.proofs.Rename.{renR, renS, renV, step-ren, merges-ren, replay-ren, trace-ren}
+use Rattle.locality.proofs.Rename.{renR, renS, renV, merges-ren, replay-ren, trace-ren}
 
 -- a region on the side has its count there
 pub count-in : (p q : ℕ → Bool) (a : ℕ) → p a ≡ true → (rs : List Region) → countOf (keep (regionIn p q) rs) a ≡ countOf rs a

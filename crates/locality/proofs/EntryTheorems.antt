@@ -2,9 +2,8 @@
 use Prim.Native.Nat.{ℕ, _<_}
 use native.Mathlib.Omega.{arith}
 use mathlib.Core.Path.{_≡_, refl, sym, ap, _∙_}
-use mathlib.Core.Bool.{Bool}
 use mathlib.Core.List.{List}
-use mathlib.Core.Option.{Option, none, some, Option·none-ne-some}
+use mathlib.Core.Option.{Option, none, some}
 use lib.ListN.{length, getD}
 use lib.IntN.{ℤ, pos, _+ℤ_, +ℤ-idr}
 use Rattle.network.specs.Network.{replay}

@@ -22,11 +22,6 @@ use Rattle.sweep.proofs.Early.{early-merges, early-counts}
 use Rattle.locality.proofs.Echo.{regionCount}
 use Rattle.lists.specs.Seq.{All}
 
--- a masked gate gets 0, whatever the offset
-masked-zero : (off c : ℤ) (m : ℕ) → eqb m 1 ≡ false → gateCount off m c ≡ pos 0
-unfolding gateCount
-masked-zero off c m h = ap (λ (b : Bool). cond b (gateCount off 1 c) (pos 0)) h
-
 module _ (s : Sweep) (limits : List Float) where
   abbrev f : Found
   f = regionsOf s limits

@@ -2,7 +2,6 @@ pub mod Rename
 pub mod Embed
 pub mod Locality
 pub mod Accept
-pub mod Dead
 pub mod Once
 pub mod PairsEcho
 pub mod StartEcho

@@ -179,10 +179,6 @@ module _ (gates : ℕ) (vel : List Float) (mask : List ℕ) where
   unfolding nothing
   nothing-length = length-replicate (length mask) 0
 
-  after-length : (ws : List Interval) (f : Found) → length (f .labels) ≡ length mask → length (after f ws .labels) ≡ length mask
-  after-length [] f h = h
-  after-length (i ∷ ws) f h = after-length ws (grow gates vel mask f i) (grow-length f i h)
-
   pub regions-valid : (limits : List Float) (g : ℕ) → 0 < at (regions gates vel mask limits .labels) g → eqb (getD mask g 0) 1 ≡ true
   unfolding regions nothing
   regions-valid limits g h = go (eqb (getD mask g 0) 1) refl

@@ -3,14 +3,14 @@ use mathlib.Core.Path.{_≡_, refl, sym, ap, _∙_, subst}
 use mathlib.Core.Bool.{Bool, true, false, _&&_, cond, true≢false}
 use mathlib.Core.List.{List}
 use mathlib.Core.Option.{Option, none, some}
-use Prim.Native.Nat.{ℕ, zero, suc, _+_, _-_, _≤_, _<_}
+use Prim.Native.Nat.{ℕ, zero, suc, _+_, _-_, _<_}
 use native.Mathlib.Omega.{arith}
 use lib.Dec.{leb}
 use lib.ListN.{length, getD, length-set}
 use lib.Seq.{getD-set-same, getD-set-other}
 use borrow.Author.Tests.{leb-true}
 use Rattle.merge.specs.Inside.Tables.{Tables, Sound, store}
-use Rattle.merge.specs.Inside.Table.{is, weight, first, second, enext, rnext, stamp, size, elen, rlen, count}
+use Rattle.merge.specs.Inside.Table.{is, rnext, count}
 use Rattle.merge.specs.Inside.Steps.{countInRange, walkRaise}
 use Rattle.merge.specs.Inside.Chain.{cur}
 use Rattle.merge.proofs.SoundSet.{sound-store}

@@ -8,31 +8,10 @@ use mathlib.Core.List.{List, [], _∷_, map}
 use mathlib.Core.Option.{Option, none, some, Option·none-ne-some, Option·some-injective}
 use lib.Dec.{leb, eqb}
 use lib.ListN.{length, getD}
-use borrow.Author.Tests.{le-leb, lt-leb, ne-eqb, eqb-true}
+use borrow.Author.Tests.{le-leb, lt-leb, eqb-true}
 use Rattle.lists.proofs.SeqLaws.{eqb-refl}
 use Rattle.lists.proofs.AllLaws.{and-left}
 use Rattle.network.specs.Network.{Edge, Region, Plan, sizeOf, at, move, better, choose}
-
-unfoldable pub Numbered : ℕ → List Edge → Type 0
-Numbered k [] = Unit {0}
-Numbered k (e ∷ es) = (e .num ≡ k) × Numbered (suc k) es
-
-at-place : (d : Edge) (k : ℕ) (es : List Edge) → Numbered k es → (i : ℕ) → i < length es → getD es i d .live ≡ true → at es (k + i) ≡ some (getD es i d)
-unfolding at Numbered
-at-place d k [] t i h l = absurd (omega arith)
-at-place d k (e ∷ es) t zero h l =
-    let z : k + 0 ≡ k = omega arith in
-    rw (z, l, t .0, eqb-refl k) refl
-at-place d k (e ∷ es) t (suc i) h l =
-    let z : k + suc i ≡ suc k + i = omega arith in
-    rw (apart-num, z) (nothing (e .live) (some e) (at-place d (suc k) es (t .1) i (omega arith) l))
-  where
-    apart-num : eqb (k + suc i) (e .num) ≡ false
-    apart-num = rw (t .0) (ne-eqb (k + suc i) k (λ w. omega arith))
-
-    nothing : (b : Bool) (x : Option Edge) {y z : Option Edge} → y ≡ z → cond (b && false) x y ≡ z
-    nothing true x r = r
-    nothing false x r = r
 
 -- Edge i is the heaviest live one, and heavier than every live one before it.
 pub record Best (d : Edge) (es : List Edge) (i : ℕ) : Type 0 where

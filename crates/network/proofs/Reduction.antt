@@ -30,9 +30,6 @@ use Rattle.network.proofs.Joint.{Filled, raw}
 use Rattle.network.proofs.Started.{network, Left, answer, left, no-region-0}
 
 module _ (f : Shape) (u : List ℕ) (d vel : List Float) (n k : ℕ) (twoNyquist : Float) (q : Reduces f u d vel n k) where
-  abbrev L : List ℕ
-  L = seg u 0 n
-
   abbrev ps : List Pair
   ps = pairs f (seg u 0 n) vel
 

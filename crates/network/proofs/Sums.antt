@@ -6,7 +6,7 @@ use mathlib.Core.List.{List, [], _∷_, map}
 use Prim.Native.Nat.{ℕ, suc, _+_, _-_, _≤_, _<_}
 use native.Mathlib.Omega.{arith}
 use lib.Dec.{leb, eqb}
-use lib.IntN.{ℤ, pos, negsuc, subℕ, _+ℤ_, +ℤ-comm}
+use lib.IntN.{pos, negsuc, subℕ, _+ℤ_, +ℤ-comm}
 use borrow.Author.Tests.{lt-ltb, le-ltb, le-leb, lt-leb, eqb-true}
 use Rattle.network.specs.Network.{Region, Plan, sizeOf, move, bounded, gatesOf}
 use Rattle.merge.specs.Inside.Steps.{unbias, countInRange}

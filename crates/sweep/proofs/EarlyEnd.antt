@@ -17,7 +17,7 @@ use Rattle.lists.specs.Seq.{tabulate, all}
 use Rattle.arithmetic.specs.Evaluating.{evaluating}
 use Rattle.lists.proofs.SeqLaws.{tab-same}
 use Rattle.labels.specs.Label.{Found}
-use Rattle.network.specs.Network.{alone, start, merges, replay, trace, countOf, gatesOf, networkBy, mergesInRange}
+use Rattle.network.specs.Network.{alone, start, replay, trace, countOf, gatesOf, networkBy, mergesInRange}
 use Rattle.sweep.specs.Sweep.{Sweep, orZero, sizes, networkOf, final, early, weighed, meanOf, offsetOf, gateCount, ended, finished, unfoldedBy}
 use Rattle.sweep.specs.Questions.{firstNo, answered, asked9}
 use Rattle.sweep.proofs.Early.{early-merges, early-counts}

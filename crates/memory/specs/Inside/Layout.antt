@@ -134,8 +134,8 @@ mergeParts n k e =
 
 -- the parts of every stage lie apart, and fit into half of the words that question 4 asks for and a quarter of the floats
 pub record Laid (n k m e : ℕ) : Type 0 where
-  pub regions : InTurn 0 (regionParts n) (48 * n + 64)
-  pub sort : InTurn 0 (sortParts n k m) (48 * n + 64)
-  pub gather : InTurn 0 (gatherParts n m e) (48 * n + 64)
-  pub merge : InTurn 0 (mergeParts n k e) (48 * n + 64)
+  pub regions : InTurn 0 (regionParts n) (48 * n + 32)
+  pub sort : InTurn 0 (sortParts n k m) (48 * n + 32)
+  pub gather : InTurn 0 (gatherParts n m e) (48 * n + 32)
+  pub merge : InTurn 0 (mergeParts n k e) (48 * n + 32)
   pub differences : InTurn 0 (part 0 e ∷ []) (4 * n)

@@ -1,14 +1,13 @@
 -- What the words say of choosing.
 use mathlib.Core.Path.{_≡_}
 use mathlib.Core.List.{List}
-use mathlib.Core.Option.{Option, none, some}
 use Prim.Native.Nat.{ℕ}
 use lib.IntN.{pos}
 use lib.ListN.{getD}
 use lib.Ieee.{Float, binary64, div}
 use Rattle.arithmetic.specs.Rounding.{real}
 use Rattle.memory.specs.Inside.Tree.{Best}
-use Rattle.network.specs.Network.{popped, Edge, State, choose}
+use Rattle.network.specs.Network.{popped, State, choose}
 use Rattle.merge.specs.Inside.Tables.{Tables, view}
 use Rattle.network.specs.Inside.Net.{edgeNow}
 use Rattle.network.specs.Inside.Rep.{Rep}

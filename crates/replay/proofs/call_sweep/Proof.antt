@@ -1,6 +1,5 @@
 -- `replay::call_sweep` is safe: at most 128 gates, and a call keeps each slice's length. Assumes nothing.
 use mathlib.Core.Path.{_∙_}
-use lib.ListN.{length}
 use Rattle.replay.proofs.call_sweep.Statement.{statement}
 use Rattle.replay.proofs.call_sweep.Tie as tie
 

@@ -6,7 +6,7 @@ use Prim.Native.Nat.{ℕ, suc, _+_, _*_, _/_, _%_, _^_, _≤_, _<_}
 use native.Mathlib.Nat.{le-trans, lt-of-lt-of-le, mul-right-comm, mul-one, mul-lt-mul-of-pos-right, lt-of-mul-lt-mul-right, div-add-mod'}
 use native.Mathlib.Numerals.{add-one}
 use native.Mathlib.Omega.{arith}
-use lib.Dec.{T, ltb, leb, eqb, leb→le, ltb→lt, lt→ltb, nltb→le, eqb→eq, not-T, lit≤}
+use lib.Dec.{T, ltb, eqb, leb→le, ltb→lt, lt→ltb, nltb→le, eqb→eq, not-T, lit≤}
 use lib.IntN.{pos}
 use lib.Ieee.{Float, nan, inf, fin, binary64, up, down, round, ofInt, lt}
 use lib.Ieee.Back.{round-whole}

@@ -1,6 +1,6 @@
 -- `edges::edges::go_on` meets its contract. Assumes nothing.
 use native.Mathlib.Omega.{arith}
-use mathlib.Core.Path.{_≡_, refl}
+use mathlib.Core.Path.{_≡_}
 use Prim.Native.Nat.{suc, _+_, _-_}
 use borrow.Author.Needs.{needs}
 use lib.Ieee.{add, binary64}

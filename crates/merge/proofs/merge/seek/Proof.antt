@@ -4,7 +4,6 @@ use Rattle.merge.specs.Inside.Steps.{seekAll}
 use Rattle.merge.specs.Inside.Tables.{view}
 use native.Mathlib.Omega.{arith}
 use Prim.Native.Nat.{_+_, _-_, _*_}
-use borrow.Author.Needs.{needs}
 use Rattle.merge.proofs.merge.seek.Statement.{statement}
 use Rattle.merge.proofs.merge.seek.Tie as tie
 

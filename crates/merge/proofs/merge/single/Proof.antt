@@ -3,7 +3,7 @@ use lib.Ieee.Compare.{differs-from-itself, nan-differs}
 use lib.Ieee.Fits.{and-i}
 use lib.Ieee.{Float, binary32, div, ofBits, nan, inf, fin, fits, isNan, ne}
 use lib.Dec.{T}
-use mathlib.Core.Bool.{true, false, not, true≢false}
+use mathlib.Core.Bool.{false, not, true≢false}
 use mathlib.Core.Path.{_≡_, refl, sym, _∙_, subst}
 use Prim.Native.Nat.{_-_}
 use borrow.Author.Needs.{needs}

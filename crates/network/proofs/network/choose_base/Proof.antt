@@ -1,7 +1,7 @@
 -- `network::network::choose_base` meets its contract. Assumes nothing.
 use Rattle.network.proofs.Turns.{chosen-live, chosen-ends, chosen-number, ends-words, asks-first, asks-second, first-yes, first-no, second-yes, second-no}
 use native.Mathlib.Omega.{arith}
-use Prim.Native.Nat.{_+_, _-_, _*_, _<_}
+use Prim.Native.Nat.{_-_, _<_}
 use borrow.Author.Needs.{needs}
 use Rattle.network.proofs.network.choose_base.Statement.{statement}
 use Rattle.network.proofs.network.choose_base.Tie as tie
