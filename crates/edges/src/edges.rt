@@ -128,7 +128,8 @@ fn sees(labels: &[u32], f: Shape, d: Direction, g: usize) -> Seen
     requires { ⌜ Looks f (now labels) g ⌝ }
     ensures { λ r. ⌜ answer r ≡ sees f (now (labels .entry)) d g ⌝ }
 {
-    let mut left = skip(f, d);
+    let most = skip(f, d);
+    let mut skipped = 0;
     let mut h = g;
     loop {
         let s = next(f, d, h);
@@ -138,11 +139,11 @@ fn sees(labels: &[u32], f: Shape, d: Direction, g: usize) -> Seen
         if labels[j] != 0 {
             return Seen::At(j);
         }
-        if left == 0 {
+        if skipped == most {
             return Seen::Nothing;
         }
         h = j;
-        left -= 1;
+        skipped += 1;
     }
 }
 

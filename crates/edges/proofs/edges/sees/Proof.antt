@@ -2,7 +2,7 @@
 use borrow.Author.Needs.{needs}
 use native.Mathlib.Omega.{arith}
 use mathlib.Core.Path.{_≡_, sym, ap, _∙_}
-use Prim.Native.Nat.{ℕ, suc, _-_, _*_, _<_}
+use Prim.Native.Nat.{ℕ, suc, _+_, _-_, _*_, _≤_, _<_}
 use mathlib.Core.Option.{some}
 use Rattle.edges.proofs.Looking.{none-on, seen-on, skip-on, last-on, begins}
 use Rattle.edges.proofs.Next.{next-in}
@@ -13,10 +13,10 @@ use Rattle.edges.proofs.edges.sees.Statement.{statement}
 use Rattle.edges.proofs.edges.sees.Tie as tie
 
 abbrev Inv-loop : tie.InvT-loop
-Inv-loop labels f d g left₀ h₀ left h = (h < f .rays * f .gates) × (sees f labels d g ≡ edges.look f d labels (suc left) h)
+Inv-loop labels f d g most skipped₀ h₀ skipped h = (h < f .rays * f .gates) × ((skipped ≤ most) × (sees f labels d g ≡ edges.look f d labels (suc (most - skipped)) h))
 
 abbrev μ-loop : tie.MeasureT-loop
-μ-loop labels f d g left₀ h₀ left h = left
+μ-loop labels f d g most skipped₀ h₀ skipped h = most - skipped
 
 skip-requires : tie.Need-skip-requires Inv-loop μ-loop
 skip-requires c κs = search needs
@@ -31,8 +31,14 @@ inside c =
     let l = c .before .before .before .before .loop in
     next-in (a .f) (l .h) (a .d) (c .before .s .given .0 .0) (l .inv .0) (is-next c)
 
+whole : (m : ℕ) → m - 0 ≡ m
+whole m = omega arith
+
 loop-holds : tie.Need-loop-holds Inv-loop μ-loop
-loop-holds c = (c .before .before .pre .inside, begins (c .before .before .args .f) (c .before .before .args .d) (c .before .before .args .labels .now) (c .skip .result) (c .before .before .args .g) (c .skip .ensures))
+loop-holds c = (
+  c .before .before .pre .inside,
+  (omega arith, begins (c .before .before .args .f) (c .before .before .args .d) (c .before .before .args .labels .now) (c .skip .result - 0) (c .before .before .args .g) (whole (c .skip .result) ∙ c .skip .ensures)),
+)
 
 next-requires : tie.Need-next-requires Inv-loop μ-loop
 next-requires c κs = record { inside = c .loop .inv .0; small = c .before .before .before .pre .small }
@@ -46,8 +52,9 @@ enum-told c = search needs
 returns : tie.Need-returns Inv-loop μ-loop
 returns c =
     let l = c .before .before .before .loop in
+    let q = c .before .before .before .before .skip .result - l .skipped in
     let a = c .before .before .before .before .before .before .args in
-    sym (l .inv .1 ∙ none-on (a .f) (a .d) (a .labels .now) (l .left) (l .h) (sym (c .before .before .next .ensures) ∙ ap answer (c .enum-told .given .1)))
+    sym (l .inv .1 .1 ∙ none-on (a .f) (a .d) (a .labels .now) q (l .h) (sym (c .before .before .next .ensures) ∙ ap answer (c .enum-told .given .1)))
 
 mul-if1 : tie.Need-mul-if1 Inv-loop μ-loop
 mul-if1 c = omega (arith, inside c, c .before .before .before .before .before .before .before .pre .small)
@@ -58,17 +65,25 @@ shared-slice-read-if1 c = omega (arith, inside (c .before), c .before .before .b
 returns-2 : tie.Need-returns-2 Inv-loop μ-loop
 returns-2 c =
     let l = c .before .before .before .before .before .before .loop in
+    let q = c .before .before .before .before .before .before .before .skip .result - l .skipped in
     let a = c .before .before .before .before .before .before .before .before .before .args in
-    sym (l .inv .1 ∙ seen-on (a .f) (a .d) (a .labels .now) (l .left) (l .h) (c .before .before .before .s .given .0 .0) (is-next (c .before .before)) (c .if1 .taken))
+    sym (l .inv .1 .1 ∙ seen-on (a .f) (a .d) (a .labels .now) q (l .h) (c .before .before .before .s .given .0 .0) (is-next (c .before .before)) (c .if1 .taken))
+
+-- as many steps over label 0 as a look may take
+no-more : (skipped most : ℕ) → skipped ≡ most → suc (most - skipped) ≡ 1
+no-more skipped most e = omega arith
 
 returns-3 : tie.Need-returns-3 Inv-loop μ-loop
 returns-3 c =
     let a = c .before .before .before .before .before .before .before .before .before .before .args in
     let l = c .before .before .before .before .before .before .before .loop in
-    sym (l .inv .1 ∙ ap (λ (x : ℕ). edges.look (a .f) (a .d) (a .labels .now) (suc x) (l .h)) (c .if2 .taken) ∙ last-on (a .f) (a .d) (a .labels .now) (l .h) (c .before .before .before .before .s .given .0 .0) (is-next (c .before .before .before)) (c .before .if1 .left))
+    let most = c .before .before .before .before .before .before .before .before .skip .result in
+    let s′ = c .before .before .before .before .s in
+    sym (l .inv .1 .1 ∙ ap (λ (x : ℕ). edges.look (a .f) (a .d) (a .labels .now) x (l .h)) (no-more (l .skipped) most (c .if2 .taken))
+    ∙ last-on (a .f) (a .d) (a .labels .now) (l .h) (s′ .given .0 .0) (is-next (c .before .before .before)) (c .before .if1 .left))
 
-sub-left : tie.Need-sub-left Inv-loop μ-loop
-sub-left c = search needs
+add-skipped : tie.Need-add-skipped Inv-loop μ-loop
+add-skipped c = search needs
 
 loop-less : tie.Need-loop-less Inv-loop μ-loop
 loop-less c = search needs
@@ -77,8 +92,17 @@ loop-again : tie.Need-loop-again Inv-loop μ-loop
 loop-again c =
     let a = c .before .before .before .before .before .before .before .before .before .before .args in
     let l = c .before .before .before .before .before .before .before .loop in
+    let most = c .before .before .before .before .before .before .before .before .skip .result in
     let s′ = c .before .before .before .before .s in
-    (inside (c .before .before .before), l .inv .1 ∙ skip-on (a .f) (a .d) (a .labels .now) (l .left) (l .h) (s′ .given .0 .0) (is-next (c .before .before .before)) (c .before .if1 .left) ∙ ap (λ (x : ℕ). edges.look (a .f) (a .d) (a .labels .now) x (s′ .given .0 .0)) (omega (arith, c .if2 .left)))
+    let left : most - l .skipped ≡ suc (most - (l .skipped + 1)) = omega (arith, c .if2 .left, l .inv .1 .0) in (
+      inside (c .before .before .before),
+      (
+        omega (arith, c .if2 .left, l .inv .1 .0),
+        l .inv .1 .1
+            ∙ skip-on (a .f) (a .d) (a .labels .now) (most - l .skipped) (l .h) (s′ .given .0 .0) (is-next (c .before .before .before)) (c .before .if1 .left)
+            ∙ ap (λ (x : ℕ). edges.look (a .f) (a .d) (a .labels .now) x (s′ .given .0 .0)) left,
+      ),
+    )
 
 pub sees-spec : {M : Type 1} → statement M
 sees-spec =
@@ -96,6 +120,6 @@ sees-spec =
     shared-slice-read-if1
     returns-2
     returns-3
-    sub-left
+    add-skipped
     loop-less
     loop-again)
