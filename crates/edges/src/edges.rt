@@ -81,7 +81,8 @@ fn to_top(f: Shape, g: usize) -> Seen
     requires { ⌜ Inside f g ⌝ }
     ensures { λ r. ⌜ answer r ≡ next f Top g ⌝ }
 {
-    if g % f.gates == 0 {
+    let gates = f.gates;
+    if g % gates == 0 {
         return Seen::Nothing;
     }
     Seen::At(g - 1)
@@ -92,7 +93,8 @@ fn to_bottom(f: Shape, g: usize) -> Seen
     requires { ⌜ Inside f g ⌝ }
     ensures { λ r. ⌜ answer r ≡ next f Bottom g ⌝ }
 {
-    if (g + 1) % f.gates == 0 {
+    let gates = f.gates;
+    if (g + 1) % gates == 0 {
         return Seen::Nothing;
     }
     Seen::At(g + 1)

@@ -13,16 +13,16 @@ add-if1 : tie.Need-add-if1
 add-if1 c = search needs
 
 rem-if1 : tie.Need-rem-if1
-rem-if1 c = omega (arith, holds (c .before .args .f .rays) (c .before .args .f .gates) (c .before .args .g) (c .before .pre .inside))
+rem-if1 c = omega (arith, holds (c .args .f .rays) (c .args .f .gates) (c .args .g) (c .pre .inside))
 
 returns : tie.Need-returns
-returns c = sym (bottom-none (c .before .before .args .f) (c .before .before .args .g) (rw add-one at (c .if1 .taken)))
+returns c = sym (bottom-none (c .before .args .f) (c .before .args .g) (rw add-one at (c .if1 .taken)))
 
-add-t3 : tie.Need-add-t3
-add-t3 c = search needs
+add-t4 : tie.Need-add-t4
+add-t4 c = search needs
 
 returns-2 : tie.Need-returns-2
-returns-2 c = ap some (omega arith) ∙ sym (bottom-on (c .before .before .args .f) (c .before .before .args .g) (rw add-one at (c .if1 .left)))
+returns-2 c = ap some (omega arith) ∙ sym (bottom-on (c .before .args .f) (c .before .args .g) (rw add-one at (c .if1 .left)))
 
 pub to-bottom-spec : {M : Type 1} → statement M
-to-bottom-spec = tie.close (tie.spec add-if1 rem-if1 returns add-t3 returns-2)
+to-bottom-spec = tie.close (tie.spec add-if1 rem-if1 returns add-t4 returns-2)

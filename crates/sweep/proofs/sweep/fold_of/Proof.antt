@@ -30,11 +30,11 @@ cast-result c = search needs
 sub-result : tie.Need-sub-result
 sub-result c = first-fits (c .before .args .m) (c .before .args .c) (c .before .args .offset) (c .before .pre .0) (c .before .pre .1)
 
-sub-result-2 : tie.Need-sub-result-2
-sub-result-2 c = second-fits (c .before .args .m) (c .before .args .c) (toZ w32 (ofZ w32 (c .before .args .offset))) (c .before .pre .0) (near (c .before))
-
 returns-2 : tie.Need-returns-2
 returns-2 c = let a = c .before .args in valid-count (a .m) (a .c) (toZ w32 (ofZ w32 (a .offset))) (c .before .pre .0) (near (c .before)) (c .if1 .left) ∙ ap (λ (z : ℤ). gateCount z (a .m) (unbias (a .c))) (same-offset (c .before))
+
+sub-result-2 : tie.Need-sub-result-2
+sub-result-2 c = second-fits (c .before .args .m) (c .before .args .c) (toZ w32 (ofZ w32 (c .before .args .offset))) (c .before .pre .0) (near (c .before))
 
 pub fold-of-spec : {M : Type 1} → statement M
 fold-of-spec = tie.close (tie.spec returns cast-result sub-result sub-result-2 returns-2)
