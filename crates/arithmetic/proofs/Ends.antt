@@ -24,7 +24,7 @@ abbrev pub zn : ℤ → ℕ
 zn (pos n) = 0
 zn (negsuc n) = suc n
 
-abbrev pub sgn : ℤ → Bool
+abbrev sgn : ℤ → Bool
 sgn (pos n) = false
 sgn (negsuc n) = true
 

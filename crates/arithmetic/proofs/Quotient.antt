@@ -52,7 +52,7 @@ nyquist nyq f a =
 
 -- ---- the width
 -- an error e below 2 B t, where all is counted in 2 B
-pub without : (x y e t B : ℕ) → 0 < B → x * 2 * B ≤ y * 2 * B + e → e ≤ t * 2 * B → x ≤ y + t
+without : (x y e t B : ℕ) → 0 < B → x * 2 * B ≤ y * 2 * B + e → e ≤ t * 2 * B → x ≤ y + t
 without x y e t B P h k = le-of-mul-le-mul-right (go h k) P
   where
     go : x * 2 * B ≤ y * 2 * B + e → e ≤ t * 2 * B → x * B ≤ (y + t) * B

@@ -79,7 +79,7 @@ module _ (nyq : Float) (S : ℕ) (n : Nyquist nyq) (w : Wide nyq (n .size) S) (a
       less : (k : ℕ) → suc (suc k) ≤ 10000 → k ≤ 9998
       less k l = omega arith
 
-  pub limits-rise : atLeast0 (pos (S + 1) +ℤ a +ℤ b) ≤ 10000 → Rising (limitsOf nyq S a b (pos (S + 1) +ℤ a +ℤ b))
+  limits-rise : atLeast0 (pos (S + 1) +ℤ a +ℤ b) ≤ 10000 → Rising (limitsOf nyq S a b (pos (S + 1) +ℤ a +ℤ b))
   unfolding limitsOf
   limits-rise h = rising-of (atLeast0 (pos (S + 1) +ℤ a +ℤ b)) refl h
 
@@ -102,7 +102,7 @@ adds-of nyq S (Both lo hi) n w some few f h = go (beyond nyq lo hi)
     )
     go false = (no-add (w .size), no-add (w .size))
 
-pub limits-never-fall : (nyq : Float) (S : ℕ) (e : Extremes) → T (fits binary64 nyq) → Held e → Asked nyq S → ExtremesInRange e → atLeast0 (number S (adds nyq S e)) ≤ 10000 → Rising (limitsFor nyq S e)
+limits-never-fall : (nyq : Float) (S : ℕ) (e : Extremes) → T (fits binary64 nyq) → Held e → Asked nyq S → ExtremesInRange e → atLeast0 (number S (adds nyq S e)) ≤ 10000 → Rising (limitsFor nyq S e)
 unfolding limitsFor number
 limits-never-fall nyq S e f g a h l =
     let n = nyquist nyq f a in
@@ -111,7 +111,7 @@ limits-never-fall nyq S e f g a h l =
     limits-rise nyq S n w (adds nyq S e .start) (adds nyq S e .end) (a .few) (d .0) (d .1) l
 
 -- ---- the extremes of floats that an f64 holds are held
-abbrev pub AllHeld : List Float → Type 0
+abbrev AllHeld : List Float → Type 0
 AllHeld [] = Unit {0}
 AllHeld (v ∷ vs) = T (fits binary64 v) × AllHeld vs
 

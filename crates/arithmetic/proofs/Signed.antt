@@ -71,7 +71,7 @@ to-leq true false zero zero h = tt
 to-leq true false (suc A) B h = or-l (ltb 0 (suc A + B)) (eqb (suc A) B && eqb (suc A) 0) (lt→ltb 0 (suc A + B) (omega arith))
 to-leq true false zero (suc B) h = or-l (ltb 0 (zero + suc B)) (eqb zero (suc B) && eqb zero 0) (lt→ltb 0 (zero + suc B) (omega arith))
 
-pub from-leq : (s t : Bool) (A B : ℕ) → T (below s A t B || level s A t B) → plus s A + minus t B ≤ plus t B + minus s A
+from-leq : (s t : Bool) (A B : ℕ) → T (below s A t B || level s A t B) → plus s A + minus t B ≤ plus t B + minus s A
 from-leq false false A B h = let l : A ≤ B = leb→le A B (subst T (le-leb A B) h) in omega arith
 from-leq true true A B h = let l : B ≤ A = leb→le B A (subst T (le-leb B A) (subst (λ (b : Bool). T (ltb B A || (b && true))) (eqb-sym A B) h)) in omega arith
 from-leq false true A B h =
@@ -80,7 +80,7 @@ from-leq false true A B h =
     omega arith
 from-leq true false A B h = omega arith
 
-pub le-values : (x y : Float) (s t : Bool) (a b c : ℕ) → 0 < c → HasValue x s a c → HasValue y t b c → plus s a + minus t b ≤ plus t b + minus s a → T (le x y)
+le-values : (x y : Float) (s t : Bool) (a b c : ℕ) → 0 < c → HasValue x s a c → HasValue y t b c → plus s a + minus t b ≤ plus t b + minus s a → T (le x y)
 unfolding le
 le-values nan y s t a b c C v w h = absurd v
 le-values (inf u) y s t a b c C v w h = absurd v

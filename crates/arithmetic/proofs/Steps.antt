@@ -17,7 +17,7 @@ use Rattle.arithmetic.specs.Rounding.{real}
 
 -- ---- the numbers
 -- three roundings of at most one part in B, and one step less of M = suc k
-pub chain : (B δ D S P k : ℕ) → 0 < B → 7 * k ≤ B → D * B ≤ δ * B + δ → S * suc k * B ≤ D * B + D → P * B ≤ S * k * B + S * k → P ≤ δ
+chain : (B δ D S P k : ℕ) → 0 < B → 7 * k ≤ B → D * B ≤ δ * B + δ → S * suc k * B ≤ D * B + D → P * B ≤ S * k * B + S * k → P ≤ δ
 chain B δ D S P k B+ h d s p =
     le-of-mul-le-mul-right (le-trans (le-trans one (le-trans two three)) four) (mul-pos (zero-lt-suc k) (mul-pos B+ (mul-pos B+ B+)))
   where

@@ -34,7 +34,7 @@ use Rattle.edges.specs.declared.edges.EdgeRecord.{EdgeRecord}
 
 -- ---- the gatePairs' gates
 
-pub record Within (n : ℕ) (t : GatePair) : Type 0 where
+record Within (n : ℕ) (t : GatePair) : Type 0 where
   pub gate : t .gate < n
   pub far : t .far < n
 

@@ -96,7 +96,7 @@ place-less f n w g c k j p h = record { whole = p .whole; room = p .room; small 
 
 -- ---- all gates
 
-pub gate-most : (s : Shape) (L : List ℕ) (g : ℕ) → length (gatePairsAt s L g) ≤ 4
+gate-most : (s : Shape) (L : List ℕ) (g : ℕ) → length (gatePairsAt s L g) ≤ 4
 unfolding gatePairsAt each
 gate-most s L g = go (eqb (getD L g 0) 0)
   where

@@ -39,7 +39,7 @@ rise-keep t (r ∷ l) h = go (t r) (rise-keep t l (h .1))
 -- lists by a rising key, one after another
 module _ (P : ℕ → EdgeRecord → Type 0) (f : ℕ → List EdgeRecord) (h : (x : ℕ) → All (P x) (f x)) where
   -- a record of one of the keys from i on, below i + k
-  pub record Of (i k : ℕ) (r : EdgeRecord) : Type 0 where
+  record Of (i k : ℕ) (r : EdgeRecord) : Type 0 where
     pub key : ℕ
     pub from : i ≤ key
     pub below : key < i + k
@@ -60,7 +60,7 @@ module _ (P : ℕ → EdgeRecord → Type 0) (f : ℕ → List EdgeRecord) (h : 
 
 -- ---- the records of one pair of labels
 
-pub record Keyed (a b : ℕ) (r : EdgeRecord) : Type 0 where
+record Keyed (a b : ℕ) (r : EdgeRecord) : Type 0 where
   pub one : r .one ≡ a
   pub two : r .two ≡ b
   pub some : 0 < r .count
@@ -90,7 +90,7 @@ module _ (n b : ℕ) (ps : List Pair) (t : All (λ p. p .two ≡ b) ps) where
   unfolding firstIs
   of-first a = gathered-keyed a b (keep (λ p. lib.Dec.eqb (p .one) a) ps) (all-kept (λ p. p .one ≡ a) (λ p. lib.Dec.eqb (p .one) a) ps (λ p h. eqb-true (p .one) a h)) (all-keep (λ p. p .two ≡ b) (λ p. lib.Dec.eqb (p .one) a) ps t)
 
-  pub record Second (r : EdgeRecord) : Type 0 where
+  record Second (r : EdgeRecord) : Type 0 where
     pub two : r .two ≡ b
     pub low : 0 < r .one
     pub high : r .one ≤ n

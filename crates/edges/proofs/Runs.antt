@@ -56,11 +56,11 @@ pub record Key : Type 0 where
   pub stays : (r : EdgeRecord) (p : Pair) → ofRecord (plus r p) ≡ ofRecord r
   pub differs : (r : EdgeRecord) (p : Pair) → (ofRecord r ≡ ofPair p → ⊥) → alike r p ≡ false
 
-pub first : Key
+first : Key
 unfolding begun plus alike
 first = record { ofPair = λ p. p .one; ofRecord = λ r. r .one; starts = λ p. refl; stays = λ r p. refl; differs = λ r p h. rw (ne-eqb (r .one) (p .one) h) refl }
 
-pub second : Key
+second : Key
 unfolding begun plus alike
 second = record { ofPair = λ p. p .two; ofRecord = λ r. r .two; starts = λ p. refl; stays = λ r p. refl; differs = λ r p h. rw (ne-eqb (r .two) (p .two) h) (and-right (eqb (r .one) (p .one))) }
 

@@ -59,7 +59,7 @@ read-set w x q i h = ⊎-elim (λ e. inl (e, ap (λ (y : ℕ). getD (set w x q) 
 -- ---- a gate is put under another of its area
 module _ (inside : List Bool) (w rs : List ℕ) (F : Forest inside w rs) (x q : ℕ) (in-x : getD inside x false ≡ true) (some : 0 < q) (not-later : q ≤ suc x)
     (here : getD inside (q - 1) false ≡ true) (same : getD rs (q - 1) 0 ≡ getD rs x 0) (self : q ≡ suc x → getD rs x 0 ≡ suc x) where
-  pub under : Forest inside (set w x q) rs
+  under : Forest inside (set w x q) rs
   under =
       let lx : x < length w = omega (arith, F .long, in-length inside x in-x) in
       record {
@@ -170,7 +170,7 @@ join-cases rs l lo hi i p q = go (eqb (getD rs i 0) (max x y)) refl (join-at rs 
 module _ (inside : List Bool) (w rs : List ℕ) (F : Forest inside w rs) (l : Neighbours) (lo hi : ℕ)
     (greater : max (getD rs (l .a) 0) (getD rs (l .b) 0) ≡ suc hi) (lesser : min (getD rs (l .a) 0) (getD rs (l .b) 0) ≡ suc lo)
     (self-hi : getD rs hi 0 ≡ suc hi) (self-lo : getD rs lo 0 ≡ suc lo) (in-hi : getD inside hi false ≡ true) (in-lo : getD inside lo false ≡ true) where
-  pub merged : Forest inside (set w hi (suc lo)) (join rs l)
+  merged : Forest inside (set w hi (suc lo)) (join rs l)
   merged =
       let lx : hi < length w = omega (arith, F .long, in-length inside hi in-hi) in
       record {

@@ -110,7 +110,7 @@ later-none gates iv g h =
     let e : length iv - g ≡ 0 = omega arith in
     ap (λ (k : ℕ). each (linksIn gates iv) (upto k g)) e
 
-pub later-cons : (gates : ℕ) (iv : List ℕ) (g : ℕ) → g < length iv → laterIn gates iv g ≡ linksIn gates iv g ++ laterIn gates iv (g + 1)
+later-cons : (gates : ℕ) (iv : List ℕ) (g : ℕ) → g < length iv → laterIn gates iv g ≡ linksIn gates iv g ++ laterIn gates iv (g + 1)
 unfolding laterIn upto each
 later-cons gates iv g h =
     let e : length iv - g ≡ suc (length iv - (g + 1)) = omega arith in

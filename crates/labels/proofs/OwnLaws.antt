@@ -22,7 +22,7 @@ pub length-own : (inside : List Bool) → length (own inside) ≡ length inside
 unfolding own
 length-own inside = tab-length (λ (g : ℕ). cond (getD inside g false) (suc g) 0) (length inside)
 
-pub own-at : (inside : List Bool) (i : ℕ) → i < length inside → getD (own inside) i 0 ≡ cond (getD inside i false) (suc i) 0
+own-at : (inside : List Bool) (i : ℕ) → i < length inside → getD (own inside) i 0 ≡ cond (getD inside i false) (suc i) 0
 unfolding own
 own-at inside i h = tab-at (λ (g : ℕ). cond (getD inside g false) (suc g) 0) (length inside) i 0 h
 

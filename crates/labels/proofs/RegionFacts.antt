@@ -43,13 +43,13 @@ unfolding roots
 roots-out gates ins i o = zero-joins (links gates ins) (own ins) i (own-out ins i o)
 
 -- ---- every number up to a rank is the rank of a first gate
-pub record Gate-of (rs : List ℕ) (j : ℕ) : Type 0 where
+record Gate-of (rs : List ℕ) (j : ℕ) : Type 0 where
   pub gate : ℕ
   pub here : gate < length rs
   pub first : getD rs gate 0 ≡ suc gate
   pub is : rank (firsts rs) (suc gate) ≡ j
 
-pub first-of : (rs : List ℕ) (j g : ℕ) → 0 < j → g ≤ length rs → j ≤ rank (firsts rs) g → Gate-of rs j
+first-of : (rs : List ℕ) (j g : ℕ) → 0 < j → g ≤ length rs → j ≤ rank (firsts rs) g → Gate-of rs j
 first-of rs j zero p h k = absurd (bad (rank-zero rs))
   where
     bad : rank (firsts rs) 0 ≡ 0 → ⊥

@@ -67,7 +67,7 @@ module _ (u : List ℕ) (n : ℕ) (fits : n + n ≤ length u) where
   )
 
   -- ---- the words lent, and back as ys
-  pub lent : midOf n (n + n - n) u ≡ seg u n n
+  lent : midOf n (n + n - n) u ≡ seg u n n
   unfolding seg
   lent =
       let e : n + n - n ≡ n = omega arith in

@@ -139,7 +139,7 @@ in-one true l k (there p) = absurd (no-in [] p refl)
 in-one false l k p = absurd (no-in [] p refl)
 
 -- what a link within bands is
-pub record Touching (gates : ℕ) (iv : List ℕ) (l : Neighbours) : Type 0 where
+record Touching (gates : ℕ) (iv : List ℕ) (l : Neighbours) : Type 0 where
   pub beside : Beside gates (l .a) (l .b)
   pub some : getD iv (l .b) 0 ≡ 0 → ⊥
   pub same : getD iv (l .a) 0 ≡ getD iv (l .b) 0

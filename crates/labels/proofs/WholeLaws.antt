@@ -43,7 +43,7 @@ module _ (gates : ℕ) (vel : List Float) (mask : List ℕ) (limits : List Float
         fits = λ j q. omega (arith, s j q, few, sizes-below iv (joint gates iv) j (length limits - 1) (omega arith));
       }
 
-  pub result : (c c₂ labels : List ℕ) (r : ℕ) → length c ≡ length limits - 1 → ((j : ℕ) → j < length c → getD c j 0 ≡ sizes iv (joint gates iv) j) → r ≡ sizes iv (joint gates iv) (length c)
+  result : (c c₂ labels : List ℕ) (r : ℕ) → length c ≡ length limits - 1 → ((j : ℕ) → j < length c → getD c j 0 ≡ sizes iv (joint gates iv) j) → r ≡ sizes iv (joint gates iv) (length c)
       → Numbering iv (joint gates iv) c labels c₂ (length w) → record { labels = labels; number = r } ≡ regions gates vel mask limits
   result c c₂ labels r e s n N =
       by-bands gates vel mask limits iv B c (λ j h. s j (omega arith)) (λ i l z. N .numbered i (omega arith) z) labels r (N .long ∙ B .long) (λ i l. N .done i (omega arith)) (n ∙ ap (sizes iv (joint gates iv)) e)

@@ -14,7 +14,7 @@ use Rattle.network.proofs.Own.{merges-in}
 use Rattle.locality.proofs.Rename.{renR, renS, renV, merges-ren, replay-ren, trace-ren}
 
 -- a region on the side has its count there
-pub count-in : (p q : ℕ → Bool) (a : ℕ) → p a ≡ true → (rs : List Region) → countOf (keep (regionIn p q) rs) a ≡ countOf rs a
+count-in : (p q : ℕ → Bool) (a : ℕ) → p a ≡ true → (rs : List Region) → countOf (keep (regionIn p q) rs) a ≡ countOf rs a
 unfolding countOf keep regionIn
 count-in p q a pa [] = refl
 count-in p q a pa (r ∷ rs) = go (p (r .label)) refl (count-in p q a pa rs)

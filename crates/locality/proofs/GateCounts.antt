@@ -98,7 +98,7 @@ count-zero (r ∷ rs) t = rw (t .0) (count-zero rs (t .1))
 
 module _ (s : Sweep) (limits : List Float) where
   -- label 0 counts 0
-  pub zero-count : countOf (final (first s limits) .regions) 0 ≡ pos 0
+  zero-count : countOf (final (first s limits) .regions) 0 ≡ pos 0
   unfolding final networkOf networkBy start sizes
   zero-count = count-zero (final (first s limits) .regions) (replay-numbered (merges (first s limits)) (first s limits) (alone-numbered 0 (sizes (regionsOf s limits))))
 

@@ -15,7 +15,7 @@ use Rattle.locality.proofs.RootsEcho.{at, at-less, Follow, roots-pos, r
 -- ---- numbers that pass a test, and how many are below one of them
 
 -- the numbers below r
-abbrev pub below : List ℕ → ℕ → ℕ
+abbrev below : List ℕ → ℕ → ℕ
 below fs r = length (keep (λ f. ltb f r) fs)
 
 keep-head : (t : ℕ → Bool) (k : ℕ) (l : List ℕ) (b : Bool) → t k ≡ b → keep t (k ∷ l) ≡ cond b (k ∷ keep t l) (keep t l)

@@ -30,7 +30,7 @@ firstGates gates vel mask limits = foldl (more gates vel mask) [] (windows limit
 
 -- ---- one interval put over the others
 
-pub added-at : (f a : Found) → length (a .labels) ≡ length (f .labels) → (g : ℕ) → at (added f a .labels) g ≡ over (f .number) (at (f .labels) g) (at (a .labels) g)
+added-at : (f a : Found) → length (a .labels) ≡ length (f .labels) → (g : ℕ) → at (added f a .labels) g ≡ over (f .number) (at (f .labels) g) (at (a .labels) g)
 unfolding added over
 added-at f a long g = tab-all (λ g. over (f .number) (at (f .labels) g) (at (a .labels) g)) (length (f .labels)) g 0
     (λ w. let v : length (a .labels) ≤ g = omega arith in rw (List·getD-eq-default (a .labels) 0 v, List·getD-eq-default (f .labels) 0 w) refl)

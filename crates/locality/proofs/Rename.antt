@@ -29,7 +29,7 @@ module _ (ρ σ : ℕ → ℕ) where
   unfoldable pub renS : State → State
   renS s = record { edges = map renE (s .edges); regions = map renR (s .regions) }
 
-  unfoldable pub renP : Plan → Plan
+  unfoldable renP : Plan → Plan
   renP pl = record { edge = σ (pl .edge); base = ρ (pl .base); moved = ρ (pl .moved); gain = pl .gain }
 
   unfoldable pub renV : Event → Event

@@ -22,7 +22,7 @@ beats-refl w x = record { heavy = omega arith; early = λ h. omega arith }
 beats-trans : (w : List ℕ) (x y z : ℕ) → Beats w x y → Beats w y z → Beats w x z
 beats-trans w x y z p q = record { heavy = omega (arith, p .heavy, q .heavy); early = λ h. ⊎-elim (λ k. omega (arith, p .heavy, q .early k)) (λ k. omega (arith, p .early (omega arith), q .heavy)) (lt-or-le z y) }
 
-pub record Picked (w : List ℕ) (i j r : ℕ) : Type 0 where
+record Picked (w : List ℕ) (i j r : ℕ) : Type 0 where
   pub one : (r ≡ i) ⊎ (r ≡ j)
   pub over-i : Beats w r i
   pub over-j : Beats w r j
@@ -247,7 +247,7 @@ pub play-turn : (m : ℕ) (w₀ w : List ℕ) (k v : ℕ) → Playing m w₀ w 1
     → Playing m w₀ (set w (m + k) v) 1 (k / 2)
 play-turn m w₀ w k v p a b e = outside m w₀ w 1 k k v 1 (k / 2) p b (play-step m w k v (p .played) a b e)
 
-pub build-turn : (m : ℕ) (w₀ w : List ℕ) (k v : ℕ) → Playing m w₀ w (k + 1) 0 → 0 < k → k < m
+build-turn : (m : ℕ) (w₀ w : List ℕ) (k v : ℕ) → Playing m w₀ w (k + 1) 0 → 0 < k → k < m
     → v ≡ pick (getD w (getD w (m + 2 * k) 0) 0) (getD w (getD w (m + 2 * k + 1) 0) 0) (getD w (m + 2 * k) 0) (getD w (m + 2 * k + 1) 0)
     → Playing m w₀ (set w (m + k) v) k 0
 build-turn m w₀ w k v p a b e = outside m w₀ w (k + 1) 0 k v k 0 p b (build-step m w k v (p .played) a b e)

@@ -11,7 +11,7 @@ use Rattle.merge.specs.Inside.Steps.{spent, dropAt, passed, kept, along,
 use Rattle.merge.proofs.TableLaws.{Alike, alike-refl, alike-then, alike-store, alike-diff}
 
 -- the tables of the edges themselves
-abbrev pub ofEdges : Table → Bool
+abbrev ofEdges : Table → Bool
 ofEdges u = is weight u || is first u || is second u
 
 -- all other tables are alike

@@ -68,7 +68,7 @@ module _ (m : ℕ) (E : ℕ → Edge) (num : (j : ℕ) → E j .num ≡ j) (simp
   has : (j : ℕ) → j < m → Has (E j) (map E (upto m 0))
   has j h = mem-upto E 0 m j (omega arith) (omega arith)
 
-  abbrev pub killed : ℕ → Edge
+  abbrev killed : ℕ → Edge
   killed j = kill (pl .edge) (E j)
 
   abbrev pub ready : ℕ → Edge

@@ -33,7 +33,7 @@ module _ (f : Shape) (u : List ℕ) (d vel : List Float) (n k : ℕ) (twoNyquist
   abbrev ps : List Pair
   ps = pairs f (seg u 0 n) vel
 
-  pub asked : FindsEdges f u d vel n k (13 * n)
+  asked : FindsEdges f u d vel n k (13 * n)
   asked = record {
     whole = q .whole;
     small = omega (arith, q .small);

@@ -53,7 +53,7 @@ module _ (p q : ℕ → Bool) where
     pub regions-ok : All OkR (s .regions)
 
   -- Lookups on the side see only the side
-  pub size-in : (a : ℕ) → p a ≡ true → (rs : List Region) → All OkR rs → sizeOf (keep regionIn rs) a ≡ sizeOf rs a
+  size-in : (a : ℕ) → p a ≡ true → (rs : List Region) → All OkR rs → sizeOf (keep regionIn rs) a ≡ sizeOf rs a
   unfolding sizeOf keep regionIn
   size-in a pa [] t = refl
   size-in a pa (r ∷ rs) t = go (p (r .label)) refl (size-in a pa rs (t .1))
@@ -73,11 +73,11 @@ module _ (p q : ℕ → Bool) where
       go true e ih = rw ih refl
       go false e ih = rw (apart p a (r .node) pa (t .0 ∙ e)) ih
 
-  pub members-in : (a : ℕ) → p a ≡ true → (rs : List Region) → All OkR rs → members (keep regionIn rs) a ≡ members rs a
+  members-in : (a : ℕ) → p a ≡ true → (rs : List Region) → All OkR rs → members (keep regionIn rs) a ≡ members rs a
   unfolding members
   members-in a pa rs t = gather-in (λ r. r .label) a pa rs t
 
-  pub raised-in : (k : ℤ) (a : ℕ) → p a ≡ true → (rs : List Region) → All OkR rs → raised k (keep regionIn rs) a ≡ raised k rs a
+  raised-in : (k : ℤ) (a : ℕ) → p a ≡ true → (rs : List Region) → All OkR rs → raised k (keep regionIn rs) a ≡ raised k rs a
   unfolding raised
   raised-in k a pa rs t = gather-in (λ r. r .count +ℤ k) a pa rs t
 

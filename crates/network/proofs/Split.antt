@@ -37,7 +37,7 @@ split-len own len x g n k = rw (same-no x g (λ e. n (sym e)), same-no (own x) g
 
 module _ (N : List ℕ) (size : ℕ) (own pos len : ℕ → ℕ) (C : Chains N size own pos len) where
   -- the slot after p stands one place further
-  pub next-place : (p : ℕ) → p < size → (getD N p 0 ≡ own p → ⊥) → (suc (pos p) < len (own p)) × (pos (getD N p 0) ≡ suc (pos p)) × (own (getD N p 0) ≡ own p) × (getD N p 0 < size)
+  next-place : (p : ℕ) → p < size → (getD N p 0 ≡ own p → ⊥) → (suc (pos p) < len (own p)) × (pos (getD N p 0) ≡ suc (pos p)) × (own (getD N p 0) ≡ own p) × (getD N p 0 < size)
   next-place p hp n =
       let h : ℕ = own p in
       let hh : h < size = C .head p hp in

@@ -53,7 +53,7 @@ label-ok : (l : ℕ) → 0 < l → not (eqb l 0) ≡ true
 label-ok l h = ap (λ (b : Bool). not b) (ne-eqb l 0 (λ e. omega arith))
 
 module _ (twoNyquist : Float) (k m : ℕ) (L : List ℕ) (ps : List Pair) (s : Tables) (F : Filled twoNyquist k m L (used k ps) s) where
-  pub tables : State
+  tables : State
   tables = rawNet m (k + 1) s
 
   unfoldable pub network : State
@@ -109,7 +109,7 @@ module _ (twoNyquist : Float) (k m : ℕ) (L : List ℕ) (ps : List Pair) (s : T
       ∙ ap (trace (restrict some-label any-edge tables)) (keep-every any-edge (merges tables) (λ i. refl) ∙ merges-are)
       ∙ ap (λ (t : State). trace t (merges network)) restricted
 
-  pub final-is : restrict some-label any-edge (replay tables (merges tables)) ≡ replay network (merges network)
+  final-is : restrict some-label any-edge (replay tables (merges tables)) ≡ replay network (merges network)
   final-is = final-in some-label any-edge tables closed ∙ ap (λ (t : State). replay t (merges t)) restricted
 
   none-0 : (rs : List Region) → countOf (keep (regionIn some-label any-edge) rs) 0 ≡ pos 0
@@ -129,7 +129,7 @@ module _ (twoNyquist : Float) (k m : ℕ) (L : List ℕ) (ps : List Pair) (s : T
       side = unfold restrict in none-0 (replay tables (merges tables) .regions)
 
   -- the tables' run, said of the definition's network
-  unfoldable pub ending : Bool → Option Done
+  unfoldable ending : Bool → Option Done
   ending b = cond b (some (record { last = replay tables (merges tables); merges = length (merges network) })) none
 
   settle-is : settle m tables 0 ≡ ending (all inRange (trace network (merges network)))

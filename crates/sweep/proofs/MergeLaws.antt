@@ -37,7 +37,7 @@ use Rattle.sweep.proofs.EarlyEnd.{ends-same}
 
 -- ---- sums
 
-pub sum-same : (f g : ℕ → ℕ) (i k : ℕ) → ((j : ℕ) → i ≤ j → j < i + k → f j ≡ g j) → sumFrom f i k ≡ sumFrom g i k
+sum-same : (f g : ℕ → ℕ) (i k : ℕ) → ((j : ℕ) → i ≤ j → j < i + k → f j ≡ g j) → sumFrom f i k ≡ sumFrom g i k
 unfolding sumFrom
 sum-same f g i zero h = refl
 sum-same f g i (suc k) h = ap (λ (x : ℕ). x + sumFrom f (suc i) k) (h i (omega arith) (omega arith)) ∙ ap (λ (x : ℕ). g i + x) (sum-same f g (suc i) k (λ j p q. h j (omega arith) (omega arith)))

@@ -140,7 +140,7 @@ module _ (s : Sweep) (r : Room) where
 -- ---- a yes to all seven
 
 -- question 6's yes
-pub record Options (s : Sweep) : Type 0 where
+record Options (s : Sweep) : Type 0 where
   pub some : 1 ≤ s .splits
   pub few : s .splits ≤ 9999
   pub «skip_between_rays» : s .shape .«skip_between_rays» ≤ 1000
