@@ -3,7 +3,7 @@
 // Where the intervals outnumber the words lent for counters, they are done in blocks of 64, each put over those before.
 use crate::label;
 ghost use mathlib.Core.Path.{_≡_};
-ghost use mathlib.Core.List.{List, _++_};
+ghost use mathlib.Core.List.{_++_};
 ghost use Prim.Native.Nat.{ℕ, suc, _+_, _*_, _-_, _≤_, _<_, _^_};
 ghost use lib.ListN.{length, getD, replicate};
 ghost use Rattle.arithmetic.specs.Inside.Asked.{Rising};

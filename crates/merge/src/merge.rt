@@ -8,7 +8,7 @@ ghost use lib.Dec.{T};
 ghost use lib.Ieee.{binary32, fits, add};
 ghost use Rattle.arithmetic.specs.Rounding.{scale};
 ghost use lib.ListN.{getD};
-ghost use Rattle.merge.specs.Inside.Tables.{Tables, view, HoldsTables, Sound, store};
+ghost use Rattle.merge.specs.Inside.Tables.{view, HoldsTables, Sound, store};
 ghost use Rattle.merge.specs.Inside.Table.{stamp, rlen};
 ghost use Rattle.merge.specs.Inside.Steps.{unbias, spent, passed, kept, dropAt, pruned, faceAt, joinsAt, seekAll, mate, absorbAt, attachAt, joinEdge, shift};
 ghost use Rattle.merge.specs.Inside.Steps.{movedEdge, takeEdge, movedAll, walkRaise, splice, grow, handed, merged};

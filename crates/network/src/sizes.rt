@@ -1,7 +1,6 @@
 // The number of gates of each region: NumPy's `bincount` of the labels.
 ghost use mathlib.Core.Path.{_≡_};
 ghost use Prim.Native.Nat.{_+_};
-ghost use lib.ListN.{length};
 ghost use Rattle.lists.specs.Inside.Seg.{seg, put};
 ghost use Rattle.lists.specs.Seq.{tabulate};
 ghost use Rattle.network.specs.Network.{sizeIn};

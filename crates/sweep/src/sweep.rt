@@ -1,8 +1,8 @@
 // A sweep by its limits: find, then write the offset, the counts of all gates and the pair, then clear the work memory.
 ghost use mathlib.Core.Path.{_≡_};
-ghost use Prim.Native.Nat.{ℕ, _+_, _*_, _≤_, _<_, _^_};
-ghost use mathlib.Core.List.{List, [], _∷_};
-ghost use lib.IntN.{ℤ, pos, natAbs, subℕ};
+ghost use Prim.Native.Nat.{_+_, _*_, _≤_, _<_, _^_};
+ghost use mathlib.Core.List.{[], _∷_};
+ghost use lib.IntN.{pos, natAbs, subℕ};
 ghost use lib.ListN.{length, getD, replicate};
 ghost use lib.Ieee.{binary64, div};
 ghost use Rattle.lists.specs.Seq.{tabulate};
