@@ -193,7 +193,6 @@ end-end nyq S n w z a =
     u : (q m ν xp xn bp bn t : ℕ) → m + (ν + xp) ≤ q + (0 + xn) + t → bp ≤ xp + t → xn ≤ bn + t → m + (ν + bp) ≤ q + bn + 3 * t
     u q m ν xp xn bp bn t h k l = omega arith
 
--- ---- neither is large
 -- ---- the end is above the start
 pub record Gap (q m q' m' : ℕ) : Type 0 where
   pub δ : ℕ

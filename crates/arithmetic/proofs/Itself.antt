@@ -1,5 +1,5 @@
--- A value that the format holds is rounded to itself. The order of floats is transitive, and `lt` is its opposite. Assumes nothing.
-use mathlib.Core.Path.{_≡_, refl, sym, ap, _∙_}
+-- A value that the format holds is rounded to itself. Assumes nothing.
+use mathlib.Core.Path.{_≡_, sym, ap, _∙_}
 use mathlib.Core.Bool.{Bool, _&&_}
 use Prim.Native.Nat.{ℕ, zero, suc, _+_, _-_, _*_, _%_, _^_, _≤_, _<_}
 use native.Mathlib.Nat.{le-trans, le-of-eq, lt-of-lt-of-le, lt-of-le-of-lt, mul-one, zero-mul, mul-comm, mul-assoc, mul-lt-mul-of-pos-right, eq-of-mul-eq-mul-right, lt-of-not-le, not-le-of-lt, le-of-suc-le-suc}
@@ -74,7 +74,3 @@ is-rounds f {x} {c} C h i = record {
   is = value-unique f x (round f (i .sign) (i .size) c) (i .sign) (i .size) c h (round-fits f (i .sign) (i .size) c) C (i .has) (itself f x (i .sign) (i .size) c C h (i .has));
   pair = i .pair;
 }
-
--- ---- the order
-own : (s : Bool) (m : ℕ) (e : ℤ) (k c : ℕ) → k * down e ≡ c → HasValue (fin s m e) s (m * up e * k) c
-own s m e k c h = (refl, ap (λ (z : ℕ). m * up e * z) (sym h) ∙ sym (mul-assoc (m * up e) k (down e)))

@@ -1,4 +1,4 @@
--- THE LAW: for a sweep that passes questions 5 to 8 no limit is below the one before it, so a velocity lies in one interval at most. Assumes nothing.
+-- THE LAW: for a sweep that passes questions 5 to 8 no limit is below the one before it. Assumes nothing.
 use mathlib.Core.Path.{_≡_, refl, sym, ap, _∙_, subst}
 use mathlib.Core.Logic.{inl, inr}
 use mathlib.Core.Bool.{Bool, true, false, cond}

@@ -14,7 +14,6 @@ use Rattle.labels.specs.Label.{Found}
 use Rattle.locality.proofs.Spot.{spot, shift, flag}
 use Rattle.locality.proofs.RootsEcho.{at}
 use Rattle.locality.proofs.RegionsEcho.{firstGates}
-use Rattle.edges.specs.declared.edges.EdgeRecord.{EdgeRecord}
 use Rattle.edges.specs.Edges.{pairs, used}
 use Rattle.network.specs.Network.{State, sizeIn, networkBy, mergesInRange}
 use Rattle.network.proofs.Restrict.{restrict, Closed}
@@ -56,9 +55,6 @@ module _ (E : ℕ → Bool) (s : Sweep) (limits : List Float) (A : ApartBy E s l
   side′ : (g : ℕ) → 0 < at (f .labels) g → p′ (at (f .labels) g) ≡ not (E g)
   unfolding rest
   side′ = flag-side (rest E) (s .shape) (flags (rest E) s limits) f (regionsOf (only (rest E) s) limits) (labels-follow (rest E) s limits B) B
-
-  abbrev rs : List EdgeRecord
-  rs = used (length (flags E s limits)) (pairsOf s f)
 
   contrary : All (λ r. recordIn p′ r ≡ not (recordIn p r)) (used (f .number) (pairsOf s f))
   unfolding recordIn pairsOf

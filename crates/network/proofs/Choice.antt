@@ -1,4 +1,4 @@
--- What code on arrays needs: the edge of number i stands at place i; the choice by its properties; a node's size after a merge.
+-- What code on arrays needs: the choice by its properties; a node's size after a merge.
 -- Assumes nothing.
 use Prim.Native.Nat.{ℕ, zero, suc, _+_, _≤_, _<_}
 use native.Mathlib.Omega.{arith}

@@ -16,7 +16,7 @@ use Rattle.lists.specs.Inside.Seg.{seg, put, Disjoint}
 use Rattle.lists.proofs.SegLaws.{eq-or-ne, length-put, length-seg, getD-seg, getD-put-in, seg-put-below, seg-put-above, seg-put-same, seg-set-out, seg-part, put-mid, lent-seg}
 use Rattle.edges.specs.Edges.{Pair, pairs, used}
 use Rattle.network.specs.Network.{sizeIn, merges, replay, countOf, networkBy, mergesInRange}
-use Rattle.edges.specs.Inside.Whole.{FindsEdges, Edged}
+use Rattle.edges.specs.Inside.Whole.{Edged}
 use Rattle.network.specs.Inside.Sizes.{Sizes}
 use Rattle.merge.specs.Inside.Tables.{view}
 use Rattle.merge.specs.Inside.Table.{count}
@@ -32,18 +32,6 @@ use Rattle.network.proofs.Started.{network, Left, answer, left, no-regi
 module _ (f : Shape) (u : List ℕ) (d vel : List Float) (n k : ℕ) (twoNyquist : Float) (q : Reduces f u d vel n k) where
   abbrev ps : List Pair
   ps = pairs f (seg u 0 n) vel
-
-  asked : FindsEdges f u d vel n k (13 * n)
-  asked = record {
-    whole = q .whole;
-    small = omega (arith, q .small);
-    vels = q .vels;
-    label = q .label;
-    scratch = omega (arith, q .words, q .few);
-    above = omega arith;
-    words = omega (arith, q .words);
-    diffs = omega (arith, q .floats);
-  }
 
   module _ (v1 : List ℕ) (d1 : List Float) (e : ℕ) (l1 : length v1 ≡ length u) (ld : length d1 ≡ length d) (E : Edged twoNyquist n u v1 d1 (13 * n) e (used k ps)) where
     pub sizes-ask : Sizes v1 n n (k + 1)
