@@ -4,22 +4,18 @@ use mathlib.Core.Bool.{Bool, _&&_}
 use Prim.Native.Nat.{ℕ, zero, suc, _+_, _-_, _*_, _%_, _^_, _≤_, _<_}
 use native.Mathlib.Nat.{le-trans, le-of-eq, lt-of-lt-of-le, lt-of-le-of-lt, mul-one, zero-mul, mul-comm, mul-assoc, mul-lt-mul-of-pos-right, eq-of-mul-eq-mul-right, lt-of-not-le, not-le-of-lt, le-of-suc-le-suc}
 use native.Mathlib.Omega.{arith}
-use lib.Dec.{T, ltb, leb, eqb, ltb→lt, leb→le, lit<}
+use lib.Dec.{T, ltb, leb, eqb, ltb→lt, leb→le}
 use lib.Pow.{pow-add, pow-pos, pow-mono, pow-lt, shl-lt}
 use lib.IntN.{ℤ, pos, negsuc}
-use lib.Ieee.{Float, nan, inf, fin, Format, binary32, binary64, prec, emax, low, up, down, round, fits}
+use lib.Ieee.{Float, nan, inf, fin, Format, prec, emax, low, up, down, round, fits}
 use lib.Ieee.Fits.{and-l, and-r, down-pos, round-fits}
 use lib.Ieee.Exact.{HasValue, round-exact}
-use Rattle.arithmetic.proofs.RoundLaws.{value-unique}
+use Rattle.arithmetic.proofs.RoundLaws.{value-unique, room}
 use Rattle.arithmetic.proofs.Signed.{Is, Rounds}
 
 -- ---- rounding a value of the format
 le-of-pow : (i j : ℕ) → 2 ^ i ≤ 2 ^ j → i ≤ j
 le-of-pow i j h = le-of-suc-le-suc (lt-of-not-le (λ (g : suc j ≤ i). not-le-of-lt (pow-lt g) h))
-
-room : (f : Format) → prec f + low f < low f + suc (emax f)
-room binary32 = lit< tt
-room binary64 = lit< tt
 
 -- what `fits` says of an m above 0
 says : (f : Format) (s : Bool) (m : ℕ) (e : ℤ) → T (fits f (fin s (suc m) e)) → (suc m < 2 ^ prec f) × (down e ≤ 2 ^ low f) × (suc m * up e < 2 ^ suc (emax f) * down e)

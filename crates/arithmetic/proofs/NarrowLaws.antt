@@ -1,7 +1,7 @@
 -- A positive f64 rounded to an f32 by a sum and a difference in f64. A finite x is a / c, and an f32 near it is a multiple of 2 ^ k of binary32's smallest values, k = drop 24 (a * 2 ^ 149) c,
 -- which is 2 ^ (k + 925) of binary64's. Assumes nothing.
 use mathlib.Core.Path.{_≡_, refl, sym, ap, _∙_, subst}
-use mathlib.Core.Bool.{Bool, true, false, not, _&&_, _||_, true≢false, false≢true}
+use mathlib.Core.Bool.{Bool, true, false, not, _&&_, true≢false, false≢true}
 use Prim.Native.Nat.{ℕ, zero, suc, _+_, _-_, _*_, _/_, _^_, _≤_, _<_}
 use native.Mathlib.Nat.{le-trans, le-of-eq, lt-of-lt-of-le, lt-of-le-of-lt, not-le-of-lt, mul-one, mul-comm, mul-assoc, mul-left-comm, mul-right-comm, add-mul, mul-pos, mul-le-mul-right, mul-lt-mul-of-pos-right, lt-of-mul-lt-mul-right, le-of-mul-le-mul-right, zero-lt-suc, div-lt-iff-lt-mul, lt-irrefl, zero-mul}
 use native.Mathlib.Omega.{arith}
@@ -9,7 +9,7 @@ use lib.Dec.{T, ltb, leb, eqb, ltb→lt, lt→ltb, leb→le, le→leb, nleb→lt
 use lib.Pow.{pow-add, pow-pos, pow-mono, shl-lt}
 use lib.IntN.{pos}
 use lib.Ieee.{Float, nan, inf, fin, binary32, binary64, up, down, size, units, round, odd, add, sub, lt, eq, le, ne, neg, fits, isNan}
-use lib.Ieee.Bits.{is-true, cond-no}
+use lib.Ieee.Bits.{cond-no}
 use lib.Ieee.Digits.{size-le}
 use lib.Ieee.Exact.{HasValue, units-val, round-exact}
 use lib.Ieee.Fits.{round-fits, sub-fits, fits-widens, up-pos, down-pos, and-i}
@@ -18,7 +18,7 @@ use lib.Ieee.Order.{drop, round-mono}
 use lib.Ieee.Positive.{num, den, positive, above, own-value, den-pos, first-pos}
 use Rattle.arithmetic.specs.Rounding.{narrowed}
 use Rattle.arithmetic.proofs.RoundLaws.{drop-is, drop-none, drop-covers, round-unit, closest-le, magnet-add, sub-values, value-unique, rescale}
-use Rattle.arithmetic.proofs.RangeLaws.{le-leb, zeroF, Zero, zero-of}
+use Rattle.arithmetic.proofs.RangeLaws.{le-leb, zeroF, Zero, zero-of, below-or-zero}
 
 abbrev pub unit : Float → ℕ
 unit x = drop 24 (num x * 2 ^ 149) (den x)
@@ -119,6 +119,13 @@ kept x M p h v =
 
     take-off : (x y : ℕ) → x + y - x ≡ y
     take-off x y = omega arith
+
+-- a float that equals itself is no NaN, and none that has a value is one
+pub equals-itself : (x : Float) → ne x x ≡ false → T (not (isNan x))
+unfolding ne isNan
+equals-itself nan h = absurd (true≢false h)
+equals-itself (inf s) h = tt
+equals-itself (fin s m e) h = tt
 
 pub no-nan : (x : Float) (s : Bool) (a c : ℕ) → HasValue x s a c → T (not (isNan x))
 unfolding isNan
@@ -264,13 +271,6 @@ unfolding lt eq ne
 pos-above nan n z l = absurd (true≢false n)
 pos-above (inf true) n z l = absurd (true≢false l)
 pos-above (inf false) n z l = tt
-pos-above (fin true m e) n z l = absurd (some (m * up e) (down e) l z)
-  where
-    some : (k d : ℕ) → ltb 0 (k * 1 + 0 * d) ≡ false → (eqb (k * 1) (0 * d) && (false || eqb (k * 1) 0)) ≡ false → ⊥
-    some zero d a c = true≢false (sym (ap (λ (z : ℕ). eqb 0 z && true) (zero-mul d)) ∙ c)
-    some (suc k) d a c = true≢false (sym (is-true (ltb 0 (suc k * 1 + 0 * d)) (lt→ltb 0 (suc k * 1 + 0 * d) (more k d))) ∙ a)
-      where
-        more : (k d : ℕ) → 0 < suc k * 1 + 0 * d
-        more k d = omega arith
+pos-above (fin true m e) n z l = absurd (below-or-zero (m * up e) (down e) l z)
 pos-above (fin false (suc m) e) n z l = lt→ltb 0 (suc m) (zero-lt-suc m)
 pos-above (fin false zero e) n z l = absurd (true≢false (sym (ap (λ (z : ℕ). eqb (z * 1) (0 * down e) && true) (zero-mul (up e)) ∙ ap (λ (z : ℕ). eqb 0 z && true) (zero-mul (down e))) ∙ z))

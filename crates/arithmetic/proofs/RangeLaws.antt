@@ -165,6 +165,20 @@ ceiling-zero x h = go x (zero-of x h)
     go (fin false m e) z =
         ap (λ (a : ℕ). pos (ceiling a (down e))) z ∙ ap (λ (r : ℕ). pos (cond (eqb r 0) (0 / down e) (suc (0 / down e)))) (zero-mod (down e)) ∙ ap pos (zero-div (down e))
 
+pub within-size : (x : Float) → T (within x) → num x ≤ 2 ^ 30 * den x
+unfolding within
+within-size (fin s m e) w = leb→le (m * up e) (2 ^ 30 * down e) w
+within-size nan w = absurd w
+within-size (inf s) w = absurd w
+
+-- a float with the sign set is below zero or zero
+pub below-or-zero : (k d : ℕ) → ltb 0 (k * 1 + 0 * d) ≡ false → (eqb (k * 1) (0 * d) && (false || eqb (k * 1) 0)) ≡ false → ⊥
+below-or-zero zero d a c = true≢false (sym (ap (λ (z : ℕ). eqb 0 z && true) (zero-mul d)) ∙ c)
+below-or-zero (suc k) d a c = true≢false (sym (is-true (ltb 0 (suc k * 1 + 0 * d)) (lt→ltb 0 (suc k * 1 + 0 * d) (more k d))) ∙ a)
+  where
+    more : (k d : ℕ) → 0 < suc k * 1 + 0 * d
+    more k d = omega arith
+
 pub none-within : (x : Float) → lt zeroF x ≡ false → lt x zeroF ≡ false → eq x zeroF ≡ false → within x ≡ false
 unfolding lt eq within
 none-within nan a b c = refl
@@ -177,14 +191,7 @@ none-within (fin false m e) a b c = absurd (some (m * up e) (down e) a c)
       where
         more : (k d : ℕ) → 0 * d < suc k * 1
         more k d = omega (arith, zero-mul d)
-none-within (fin true m e) a b c = absurd (some (m * up e) (down e) b c)
-  where
-    some : (k d : ℕ) → ltb 0 (k * 1 + 0 * d) ≡ false → (eqb (k * 1) (0 * d) && (false || eqb (k * 1) 0)) ≡ false → ⊥
-    some zero d a c = true≢false (sym (ap (λ (z : ℕ). eqb 0 z && true) (zero-mul d)) ∙ c)
-    some (suc k) d a c = true≢false (sym (is-true (ltb 0 (suc k * 1 + 0 * d)) (lt→ltb 0 (suc k * 1 + 0 * d) (more k d))) ∙ a)
-      where
-        more : (k d : ℕ) → 0 < suc k * 1 + 0 * d
-        more k d = omega arith
+none-within (fin true m e) a b c = absurd (below-or-zero (m * up e) (down e) b c)
 
 -- ---- the whole number by the size
 pub nearest-pos : (x : Float) → T (positive x) → nearestWhole x ≡ pos (closest (num x) (den x))

@@ -12,7 +12,7 @@ use lib.Seq.{ext-getD}
 use Rattle.lists.specs.Inside.Seg.{seg, put}
 use Rattle.lists.proofs.SegLaws.{length-seg, getD-seg, length-put, seg-put-below, seg-put-same}
 use Rattle.lists.specs.Seq.{upto, each, sum, All}
-use Rattle.lists.proofs.SeqLaws.{upto-length, upto-at}
+use Rattle.lists.proofs.SeqLaws.{upto-length, upto-at, map-at}
 use Rattle.memory.specs.Inside.Sort.{sorted}
 use Rattle.memory.proofs.SortLaws.{all-sorted}
 use Rattle.edges.specs.Edges.{Shape, Left, Right, Top, Bottom, sees, Pair, difference, pairs, used}
@@ -72,11 +72,6 @@ unfolding upto
 map-places F G [] k h = refl
 map-places F G (x ∷ S) k h = rw (ap F {x = k} {y = k + 0} (omega arith) ∙ h 0 (omega arith), map-places F G S (suc k) (λ i g. ap F {x = suc k + i} {y = k + suc i} (omega arith) ∙ h (suc i) (omega arith))) refl
 
-pub map-getD : {A B : Type 0} (f : A → B) (l : List A) (i : ℕ) (d : A) (e : B) → i < length l → getD (map f l) i e ≡ f (getD l i d)
-map-getD f [] i d e h = absurd (omega arith)
-map-getD f (x ∷ l) zero d e h = refl
-map-getD f (x ∷ l) (suc i) d e h = map-getD f l i d e (omega arith)
-
 keys-same : (w : List ℕ) (vel : List Float) (n : ℕ) (ts : List GatePair) (f : GatePair → ℕ) (key : Pair → ℕ) → ((t : GatePair) → Within n t → key (pairOf (seg w 0 n) vel t) ≡ getD w (f t) 0) → All (Within n) ts → map (λ x. getD w x 0) (map f ts) ≡ map key (map (pairOf (seg w 0 n) vel) ts)
 keys-same w vel n [] f key h s = refl
 keys-same w vel n (t ∷ ts) f key h s = rw (h t (s .0), keys-same w vel n ts f key h (s .1)) refl
@@ -107,10 +102,10 @@ module _ (f : Shape) (u : List ℕ) (a vel : List Float) (n k t : ℕ) (q : Find
     fars-w = adds-fars n u w m (gatePairs f (seg u 0 n)) p (omega (arith, q .scratch)) few
 
     gate-at : (i : ℕ) → i < m → getD w (n + i) 0 ≡ (getD (gatePairs f (seg u 0 n)) i (both 0 0)) .gate
-    gate-at i h = sym (getD-seg w n m i 0 h) ∙ ap (λ (l : List ℕ). getD l i 0) gates-w ∙ map-getD (λ (x : GatePair). x .gate) (gatePairs f (seg u 0 n)) i (both 0 0) 0 (omega (arith, ms))
+    gate-at i h = sym (getD-seg w n m i 0 h) ∙ ap (λ (l : List ℕ). getD l i 0) gates-w ∙ map-at (λ (x : GatePair). x .gate) (gatePairs f (seg u 0 n)) i (both 0 0) 0 (omega (arith, ms))
 
     far-at : (i : ℕ) → i < m → getD w (5 * n + i) 0 ≡ (getD (gatePairs f (seg u 0 n)) i (both 0 0)) .far
-    far-at i h = sym (getD-seg w (5 * n) m i 0 h) ∙ ap (λ (l : List ℕ). getD l i 0) fars-w ∙ map-getD (λ (x : GatePair). x .far) (gatePairs f (seg u 0 n)) i (both 0 0) 0 (omega (arith, ms))
+    far-at i h = sym (getD-seg w (5 * n) m i 0 h) ∙ ap (λ (l : List ℕ). getD l i 0) fars-w ∙ map-at (λ (x : GatePair). x .far) (gatePairs f (seg u 0 n)) i (both 0 0) 0 (omega (arith, ms))
 
     within-at : (i : ℕ) → i < m → Within n (getD (gatePairs f (seg u 0 n)) i (both 0 0))
     within-at i h = all-index (Within n) (gatePairs f (seg u 0 n)) (both 0 0) inside i (omega (arith, ms))
@@ -166,7 +161,7 @@ module _ (f : Shape) (u : List ℕ) (a vel : List Float) (n k t : ℕ) (q : Find
           ∙ ap (λ (y : ℕ). pairOf (seg v 0 n) vel (both y (getD v (5 * n + X) 0))) g
           ∙ ap (λ (y : ℕ). pairOf (seg v 0 n) vel (both ((getD (gatePairs f (seg u 0 n)) X (both 0 0)) .gate) y)) r
           ∙ ap (λ (l : List ℕ). pairOf l vel (getD (gatePairs f (seg u 0 n)) X (both 0 0))) labels-v
-          ∙ sym (map-getD (pairOf (seg u 0 n) vel) (gatePairs f (seg u 0 n)) X (both 0 0) blank (omega (arith, ms)))
+          ∙ sym (map-at (pairOf (seg u 0 n) vel) (gatePairs f (seg u 0 n)) X (both 0 0) blank (omega (arith, ms)))
 
       later-is : later v vel n m 0 ≡ ordered (suc k) (map (pairOf (seg u 0 n) vel) (gatePairs f (seg u 0 n)))
       unfolding later

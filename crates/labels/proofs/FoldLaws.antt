@@ -14,11 +14,10 @@ use borrow.Author.Tests.{ne-eqb, eq-eqb}
 use Rattle.labels.specs.Regions.{inside, within, over, added, grow, regions, nothing, windows, Interval}
 use Rattle.labels.specs.Label.{roots, firsts, rank, labelled, areas, Found}
 use Rattle.labels.specs.Inside.Forest.{Forest}
-use Rattle.lists.proofs.SeqLaws.{tab-at, tab-length}
+use Rattle.lists.proofs.SeqLaws.{tab-at, tab-length, map-at}
 use Rattle.lists.proofs.SegLaws.{eq-or-ne, lt-or-le}
 use Rattle.labels.proofs.RankLaws.{rank-zero, rank-end}
 use Rattle.labels.proofs.OverLaws.{over-old, over-new, added-at, added-long}
-use Rattle.labels.proofs.RegionFacts.{map-at}
 use Rattle.labels.proofs.WindowLaws.{windows-step, windows-end}
 use Rattle.labels.specs.Inside.Bands.{Bands, window, marks, part, joint}
 use Rattle.labels.specs.Inside.Numbering.{final, sizes, CountedBefore}

@@ -1,16 +1,15 @@
 -- The regions of limits that never fall: every number is the label of a gate, and there are no more numbers than gates. Assumes nothing.
 use Prim.Native.Nat.{ℕ, zero, suc, _+_, _-_, _≤_, _<_}
 use native.Mathlib.Omega.{arith}
-use native.Mathlib.Nat.{not-suc-le-zero}
 use mathlib.Core.Path.{_≡_, refl, sym, ap, _∙_}
 use mathlib.Core.Logic.{_⊎_, inl, inr, ⊎-elim}
 use mathlib.Core.Bool.{Bool, true, false}
-use mathlib.Core.List.{List, [], _∷_, map, foldl}
+use mathlib.Core.List.{List, [], _∷_, foldl}
 use lib.Ieee.{Float, nan, lt, le}
 use lib.ListN.{length, getD, replicate, length-replicate, getD-replicate, List·getD-eq-default}
 use Rattle.labels.specs.Label.{own, join, links, roots, firsts, rank, labelled, areas, Found, Neighbours, swap}
 use Rattle.arithmetic.specs.Inside.Asked.{Rising}
-use Rattle.lists.proofs.SeqLaws.{tab-at, tab-length}
+use Rattle.lists.proofs.SeqLaws.{tab-at, tab-length, map-at}
 use Rattle.lists.proofs.SegLaws.{lt-or-le, eq-or-ne}
 use Rattle.labels.specs.Regions.{inside, over, added, grow, regions, nothing, windows, windowsFrom, within}
 use Rattle.labels.proofs.ForestLaws.{join-at, length-join, swap-zero}
@@ -18,12 +17,6 @@ use Rattle.labels.proofs.OwnLaws.{own-out, length-own, within-from, wit
 use Rattle.labels.proofs.RankLaws.{rank-zero, rank-hit, rank-miss, rank-end, rank-le, rank-more}
 use Rattle.labels.proofs.OverLaws.{over-old, over-new, added-at, added-long}
 use Rattle.labels.proofs.FloatOrder.{lt-le, lt-not-le, of-T}
-
--- an element of a mapped list
-pub map-at : {A B : Type 0} (f : A → B) (xs : List A) (i : ℕ) (a : A) (b : B) → i < length xs → getD (map f xs) i b ≡ f (getD xs i a)
-map-at f [] i a b h = absurd (not-suc-le-zero h)
-map-at f (x ∷ xs) zero a b h = refl
-map-at f (x ∷ xs) (suc i) a b h = map-at f xs i a b (omega arith)
 
 -- ---- roots
 long-joins : (ls : List Neighbours) (rs : List ℕ) → length (foldl join rs ls) ≡ length rs

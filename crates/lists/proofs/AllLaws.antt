@@ -21,6 +21,9 @@ pub and-right : (b c : Bool) → (b && c) ≡ true → c ≡ true
 and-right true c h = h
 and-right false c h = absurd (true≢false (sym h))
 
+pub and-three : (a b c : Bool) → (a && b && c) ≡ true → (a ≡ true) × (b ≡ true) × (c ≡ true)
+and-three a b c h = let ab = and-left (a && b) c h in (and-left a b ab, and-right a b ab, and-right (a && b) c h)
+
 -- ---- what holds of each
 
 module _ {A : Type 0} where

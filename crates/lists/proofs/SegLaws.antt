@@ -7,7 +7,7 @@ use native.Mathlib.Nat.{not-suc-le-zero, le-of-suc-le-suc, add-zero}
 use native.Mathlib.Numerals.{add-one}
 use native.Mathlib.Omega.{arith}
 use native.Mathlib.Decide.{decLt, ℕ-discrete}
-use lib.ListN.{length, getD, take, drop, set, replicate, length-set, length-drop, length-replicate, replicate-append-replicate}
+use lib.ListN.{length, getD, take, drop, set, replicate, length-set, length-drop, length-replicate, replicate-append-replicate, getD-replicate}
 use lib.Seq.{getD-set-same, getD-set-other, getD-take, getD-drop, length-take-le, ext-getD, sets, sets-eq, take-suc, set-set, set-comm, drop-drop, take-add, take-all, drop-set-lt}
 use borrow.Rule.Slice.PartMut.{putMid}
 use Rattle.lists.specs.Inside.Seg.{seg, put, Disjoint}
@@ -214,9 +214,12 @@ module _ {A : Type 0} where
 
 -- ---- tables of a function
 -- a list is the table of what it holds
-pub is-tab : (l : List ℕ) (f : ℕ → ℕ) (n : ℕ) → length l ≡ n → ((i : ℕ) → i < n → getD l i 0 ≡ f i) → l ≡ tabulate n f
+is-tab : (l : List ℕ) (f : ℕ → ℕ) (n : ℕ) → length l ≡ n → ((i : ℕ) → i < n → getD l i 0 ≡ f i) → l ≡ tabulate n f
 is-tab l f n e h =
     ext-getD 0 l (tabulate n f) (e ∙ sym (tab-length f n)) (λ i p. h i (omega arith) ∙ sym (tab-at f n i 0 (omega arith)))
+
+pub zeros : (k : ℕ) → replicate {A = ℕ} k 0 ≡ tabulate k (λ _. 0)
+zeros k = is-tab (replicate {A = ℕ} k 0) (λ _. 0) k (length-replicate k 0) (λ i p. getD-replicate k i 0 0 p)
 
 -- one store into a table gives the table of a function that differs there alone
 pub set-tab : (f g : ℕ → ℕ) (n i x : ℕ) → i < n → g i ≡ x → ((j : ℕ) → (j ≡ i → ⊥) → g j ≡ f j) → set (tabulate n f) i x ≡ tabulate n g

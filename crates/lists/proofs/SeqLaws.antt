@@ -72,6 +72,12 @@ pub tab-same : {A : Type 0} (f g : ℕ → A) (n : ℕ) → ((i : ℕ) → i < n
 unfolding tabulate
 tab-same f g n h = map-upto-same f g n 0 (λ i v w. h i (omega arith))
 
+-- an element of a mapped list
+pub map-at : {A B : Type 0} (f : A → B) (l : List A) (i : ℕ) (a : A) (b : B) → i < length l → getD (map f l) i b ≡ f (getD l i a)
+map-at f [] i a b h = absurd (omega arith)
+map-at f (x ∷ l) zero a b h = refl
+map-at f (x ∷ l) (suc i) a b h = map-at f l i a b (omega arith)
+
 pub map-append : {A B : Type 0} (f : A → B) (l m : List A) → map f (l ++ m) ≡ map f l ++ map f m
 map-append f [] m = refl
 map-append f (x ∷ xs) m = rw (map-append f xs m) refl

@@ -13,7 +13,8 @@ use Rattle.labels.specs.Label.{roots, firsts, rank, Found, labelled, areas}
 use Rattle.labels.specs.Regions.{Interval, windows, within, inside, over, added, grow, nothing, regions}
 use Rattle.lists.proofs.AllLaws.{tab-all}
 use Rattle.locality.proofs.Spot.{spot, trues, shift, spot-low, spot-high, trues-append}
-use Rattle.locality.proofs.RootsEcho.{at, roots-length, roots-zero, roots-follow}
+use Rattle.labels.proofs.RegionFacts.{roots-long}
+use Rattle.locality.proofs.RootsEcho.{at, roots-zero, roots-follow}
 use Rattle.locality.proofs.LabelEcho.{Parts, firstGatesOf, labels-at, rank-zero, root-pos, labelled-parts}
 use Rattle.lists.specs.Seq.{All}
 
@@ -41,7 +42,7 @@ added-length f a = tab-length _ (length (f .labels))
 
 areas-length : (gates : ℕ) (ins : List Bool) → length (areas gates ins .labels) ≡ length ins
 unfolding areas labelled
-areas-length gates ins = length-map (roots gates ins) (rank (firsts (roots gates ins))) ∙ roots-length gates ins
+areas-length gates ins = length-map (roots gates ins) (rank (firsts (roots gates ins))) ∙ roots-long gates ins
 
 module _ (E : ℕ → Bool) (bs cs : List Bool) (f f′ a a′ : Found) (P : Parts E bs f f′) (Q : Parts E cs a a′) (long : length (a .labels) ≡ length (f .labels)) where
   long′ : length (a′ .labels) ≡ length (f′ .labels)
@@ -213,7 +214,7 @@ module _ (E : ℕ → Bool) (gates : ℕ) (vel vel′ : List Float) (mask mask�
       (λ g m u v. up-near g m (w (g - gates) u) (w g v))
       (λ g m u v. back-near g m (w (g - 1) u) (w g v))
       (inside-length vel′ mask′ i ∙ long ∙ sym (inside-length vel mask i)))
-      (roots-length gates (inside vel′ mask′ i) ∙ inside-length vel′ mask′ i ∙ long ∙ sym (roots-length gates (inside vel mask i) ∙ inside-length vel mask i))
+      (roots-long gates (inside vel′ mask′ i) ∙ inside-length vel′ mask′ i ∙ long ∙ sym (roots-long gates (inside vel mask i) ∙ inside-length vel mask i))
 
   after-parts : (ws : List Interval) → All Living ws → (fs : List ℕ) (f f′ : Found) → length (f .labels) ≡ length mask → Parts E (map E fs) f f′
       → Parts E (map E (foldl (more gates vel mask) fs ws)) (foldl (grow gates vel mask) f ws) (foldl (grow gates vel′ mask′) f′ ws)

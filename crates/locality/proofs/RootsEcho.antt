@@ -6,12 +6,12 @@ use mathlib.Core.Path.{_≡_, refl, sym, ap, _∙_, subst}
 use mathlib.Core.Bool.{Bool, true, false, cond, not, _&&_, true≢false}
 use mathlib.Core.List.{List, [], _∷_, map, foldl}
 use lib.Dec.{eqb, leb}
-use lib.ListN.{length, getD, length-map, List·getD-map, List·getD-eq-default}
+use lib.ListN.{length, getD, List·getD-map, List·getD-eq-default}
 use borrow.Author.Tests.{eqb-true, eqb-false, eq-eqb, ne-eqb, leb-true, leb-false}
 use Rattle.lists.specs.Seq.{upto, keep, each, All}
-use Rattle.lists.proofs.SeqLaws.{tab-length, keep-append, keep-each, each-same}
+use Rattle.lists.proofs.SeqLaws.{keep-append, keep-each, each-same}
 use Rattle.labels.specs.Label.{Neighbours, own, above, before, linksAt, links, swap, join, roots}
-use Rattle.lists.proofs.AllLaws.{all-append, all-cond, all-each, tab-all, and-left, and-right}
+use Rattle.lists.proofs.AllLaws.{all-append, all-cond, all-each, tab-all, and-three}
 
 abbrev pub at : List ℕ → ℕ → ℕ
 at l g = getD l g 0
@@ -59,23 +59,11 @@ join-at rs l i =
     let y : ℕ = at rs (l .b) in
     subst (λ (d : ℕ). getD (map (swap x y) rs) i d ≡ swap x y (getD rs i 0)) (swap-zero x y) (List·getD-map (swap x y) rs i 0)
 
-joins-length : (ls : List Neighbours) (rs : List ℕ) → length (foldl join rs ls) ≡ length rs
-unfolding join
-joins-length [] rs = refl
-joins-length (l ∷ ls) rs = joins-length ls (join rs l) ∙ length-map rs (swap (at rs (l .a)) (at rs (l .b)))
-
-pub roots-length : (gates : ℕ) (inside : List Bool) → length (roots gates inside) ≡ length inside
-unfolding roots own
-roots-length gates inside = joins-length (links gates inside) (own inside) ∙ tab-length _ (length inside)
-
 own-at : (inside : List Bool) (g : ℕ) → at (own inside) g ≡ cond (getD inside g false) (suc g) 0
 unfolding own
 own-at inside g = tab-all (λ g. cond (getD inside g false) (suc g) 0) (length inside) g 0 (λ h. rw (List·getD-eq-default inside false h) refl)
 
 -- ---- the links
-
-three : (a b c : Bool) → (a && b && c) ≡ true → (a ≡ true) × (b ≡ true) × (c ≡ true)
-three a b c h = (and-left a b (and-left (a && b) c h), and-right a b (and-left (a && b) c h), and-right (a && b) c h)
 
 -- what holds of every two gates of the set that touch holds of all links
 links-all : (P : Neighbours → Type 0) (gates : ℕ) (inside : List Bool)
@@ -84,8 +72,8 @@ links-all : (P : Neighbours → Type 0) (gates : ℕ) (inside : List Bool)
     → All P (links gates inside)
 unfolding links linksAt above before
 links-all P gates inside up back = all-each P (linksAt gates inside) (upto (length inside) 0) (λ g. all-append P (above gates inside g) (before gates inside g)
-    (all-cond P (getD inside g false && leb gates g && getD inside (g - gates) false) (record { a = g - gates; b = g }) (λ h. let t : (getD inside g false ≡ true) × (leb gates g ≡ true) × (getD inside (g - gates) false ≡ true) = three (getD inside g false) (leb gates g) _ h in up g (t .1) (t .2) (t .0)))
-    (all-cond P (getD inside g false && not (eqb (g % gates) 0) && getD inside (g - 1) false) (record { a = g - 1; b = g }) (λ h. let t : (getD inside g false ≡ true) × (not (eqb (g % gates) 0) ≡ true) × (getD inside (g - 1) false ≡ true) = three (getD inside g false) (not (eqb (g % gates) 0)) _ h in back g (t .1) (t .2) (t .0))))
+    (all-cond P (getD inside g false && leb gates g && getD inside (g - gates) false) (record { a = g - gates; b = g }) (λ h. let t : (getD inside g false ≡ true) × (leb gates g ≡ true) × (getD inside (g - gates) false ≡ true) = and-three (getD inside g false) (leb gates g) _ h in up g (t .1) (t .2) (t .0)))
+    (all-cond P (getD inside g false && not (eqb (g % gates) 0) && getD inside (g - 1) false) (record { a = g - 1; b = g }) (λ h. let t : (getD inside g false ≡ true) × (not (eqb (g % gates) 0) ≡ true) × (getD inside (g - 1) false ≡ true) = and-three (getD inside g false) (not (eqb (g % gates) 0)) _ h in back g (t .1) (t .2) (t .0))))
 
 -- ---- gates of the set have roots, others none
 

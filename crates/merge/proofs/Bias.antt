@@ -6,7 +6,7 @@ use native.Mathlib.Omega.{arith}
 use borrow.Author.Tests.{le-ltb, lt-ltb}
 use native.Mathlib.Decide.{decLt}
 use native.Mathlib.Nat.{mul-le-mul}
-use lib.IntN.{ℤ, pos, negsuc, negℤ, _-ℤ_, _*ℤ_}
+use lib.IntN.{ℤ, pos, negsuc, negℤ, _-ℤ_, _*ℤ_, subℕ}
 use lib.Signed.{mag}
 use mir.Syntax.{w64}
 use mir.Val.{SFits, toZ, ofZ}
@@ -15,6 +15,13 @@ use Rattle.merge.specs.Inside.Steps.{unbias}
 
 pub lt-or-le : (m n : ℕ) → (m < n) ⊎ (n ≤ m)
 lt-or-le m n = by-cases (decLt m n) inl (λ k. inr (omega arith))
+
+-- a difference of two numbers, by which is the greater
+pub sub-low : (a b : ℕ) → a < b → subℕ a b ≡ negsuc (b - suc a)
+sub-low a b h = rw (lt-ltb a b h) refl
+
+pub sub-high : (a b : ℕ) → b ≤ a → subℕ a b ≡ pos (a - b)
+sub-high a b h = rw (le-ltb a b h) refl
 
 pub unbias-up : (g : ℕ) → 1000 ≤ g → unbias g ≡ pos (g - 1000)
 unfolding unbias

@@ -15,7 +15,7 @@ use Rattle.lists.proofs.AllLaws.{upto-mem}
 use Rattle.lists.specs.Seq.{tabulate, keep, sum, upto}
 use Rattle.lists.specs.Inside.Seg.{seg}
 use Rattle.arithmetic.specs.Rounding.{narrowed}
-use Rattle.lists.proofs.SeqLaws.{tab-at, map-upto-same}
+use Rattle.lists.proofs.SeqLaws.{tab-at, map-upto-same, map-at}
 use Rattle.lists.proofs.SegLaws.{lt-or-le, getD-seg}
 use Rattle.edges.specs.declared.edges.EdgeRecord.{EdgeRecord}
 use Rattle.edges.specs.Edges.{Pair, difference, used}
@@ -26,7 +26,6 @@ use Rattle.merge.specs.Inside.Tables.{Tables}
 use Rattle.merge.specs.Inside.Table.{weight, first, second, size}
 use Rattle.network.specs.Inside.Net.{edgeOf}
 use Rattle.network.specs.Inside.Begin.{Raw, rawRegion}
-use Rattle.edges.proofs.Assembly.{map-getD}
 use Rattle.edges.proofs.RecordLaws.{Good, used-rise, used-good, all-place, rise-place}
 
 abbrev pub blank : EdgeRecord
@@ -116,18 +115,18 @@ module _ (twoNyquist : Float) (k m : ℕ) (L : List ℕ) (ps : List Pair) (s : T
   good j h = all-place (Good k ps) (used k ps) blank (used-good k ps) j (in-rs j h)
 
   weight-of : (j : ℕ) → j < m → getD (s .at weight) j 0 ≡ getD (used k ps) j blank .count
-  weight-of j h = ap (λ (l : List ℕ). getD l j 0) (F .weight) ∙ map-getD (λ (r : EdgeRecord). r .count) (used k ps) j blank 0 (in-rs j h)
+  weight-of j h = ap (λ (l : List ℕ). getD l j 0) (F .weight) ∙ map-at (λ (r : EdgeRecord). r .count) (used k ps) j blank 0 (in-rs j h)
 
   pub first-of : (j : ℕ) → j < m → getD (s .at first) j 0 ≡ getD (used k ps) j blank .one
-  first-of j h = ap (λ (l : List ℕ). getD l j 0) (F .first) ∙ map-getD (λ (r : EdgeRecord). r .one) (used k ps) j blank 0 (in-rs j h)
+  first-of j h = ap (λ (l : List ℕ). getD l j 0) (F .first) ∙ map-at (λ (r : EdgeRecord). r .one) (used k ps) j blank 0 (in-rs j h)
 
   pub second-of : (j : ℕ) → j < m → getD (s .at second) j 0 ≡ getD (used k ps) j blank .two
-  second-of j h = ap (λ (l : List ℕ). getD l j 0) (F .second) ∙ map-getD (λ (r : EdgeRecord). r .two) (used k ps) j blank 0 (in-rs j h)
+  second-of j h = ap (λ (l : List ℕ). getD l j 0) (F .second) ∙ map-at (λ (r : EdgeRecord). r .two) (used k ps) j blank 0 (in-rs j h)
 
   diff-of : (j : ℕ) → j < m → getD (s .diff) j nan ≡ difference twoNyquist (getD (used k ps) j blank)
   diff-of j h =
       sym (getD-seg (s .diff) 0 m j nan h ∙ ap (λ (i : ℕ). getD (s .diff) i nan) (omega arith))
-      ∙ ap (λ (l : List Float). getD l j nan) (F .diff) ∙ map-getD (difference twoNyquist) (used k ps) j blank nan (in-rs j h)
+      ∙ ap (λ (l : List Float). getD l j nan) (F .diff) ∙ map-at (difference twoNyquist) (used k ps) j blank nan (in-rs j h)
 
   edge-of : (j : ℕ) → j < m → edgeOf s j ≡ Network.edgeOf twoNyquist j (getD (used k ps) j blank)
   unfolding edgeOf Network.edgeOf

@@ -10,14 +10,8 @@ use lib.IntN.{pos, negsuc, subℕ, _+ℤ_, +ℤ-comm}
 use borrow.Author.Tests.{lt-ltb, le-ltb, le-leb, lt-leb, eqb-true}
 use Rattle.network.specs.Network.{Region, Plan, sizeOf, move, bounded, gatesOf}
 use Rattle.merge.specs.Inside.Steps.{unbias, countInRange}
-use Rattle.merge.proofs.Bias.{lt-or-le, unbias-up, unbias-down}
+use Rattle.merge.proofs.Bias.{lt-or-le, unbias-up, unbias-down, sub-low, sub-high}
 use Rattle.network.proofs.Moved.{same-no}
-
-sub-low : (a b : ℕ) → a < b → subℕ a b ≡ negsuc (b - suc a)
-sub-low a b h = rw (lt-ltb a b h) refl
-
-sub-high : (a b : ℕ) → b ≤ a → subℕ a b ≡ pos (a - b)
-sub-high a b h = rw (le-ltb a b h) refl
 
 mixed : (c g : ℕ) → 1000 ≤ c → g < 1000 → unbias c +ℤ unbias g ≡ subℕ (c + g) 2000
 mixed c g p q = ⊎-elim

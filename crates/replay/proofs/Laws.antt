@@ -7,7 +7,7 @@ use mathlib.Core.Bool.{Bool, true, false, cond, not, true≢false, _&&_}
 use mathlib.Core.Logic.{⊎-elim}
 use mathlib.Core.List.{List, _++_}
 use lib.Dec.{T, ltb, eqb}
-use lib.Ieee.{Float, nan, inf, fin, binary32, binary64, nanBits, ofBits, ofFields, div, ne, isNan, toBits}
+use lib.Ieee.{Float, binary32, binary64, nanBits, ofBits, ofFields, div, ne, toBits}
 use lib.Ieee.Compare.{differs-from-itself}
 use lib.IntN.{ℤ, pos, negsuc, natAbs, _-ℤ_, +ℤ-idl}
 use lib.Signed.{nonNeg, ltZ}
@@ -93,13 +93,7 @@ nan-pattern b h k = rw (h, ne-eqb (b % 8388608) 0 k) refl
 
 -- ---- bits of an f64
 
--- a float that equals itself is no NaN, and one that does not is the NaN
-pub no-nan : (x : Float) → ne x x ≡ false → T (not (isNan x))
-unfolding ne isNan
-no-nan nan h = absurd (true≢false h)
-no-nan (inf s) h = tt
-no-nan (fin s m e) h = tt
-
+-- a float that does not equal itself is the NaN
 pub nan-bits : (x : Float) → ne x x ≡ true → 9221120237041090560 ≡ toBits binary64 x
 unfolding toBits
 nan-bits x h = sym (ap (toBits binary64) (differs-from-itself x (subst T (sym h) tt)))

@@ -7,7 +7,7 @@ use mathlib.Core.Logic.{⊎-elim}
 use mathlib.Core.List.{List, [], _∷_, map}
 use lib.IntN.{ℤ, pos, negsuc, negℤ, subℕ, _+ℤ_, _-ℤ_, _*ℤ_, +ℤ-assoc, +ℤ-comm, +ℤ-idl, negℤ-+ℤ}
 use lib.ListN.{length}
-use borrow.Author.Tests.{lt-ltb, le-ltb, ne-eqb}
+use borrow.Author.Tests.{ne-eqb}
 use Rattle.lists.specs.Seq.{upto}
 use Rattle.lists.proofs.SeqLaws.{eqb-refl}
 use Rattle.network.specs.Network.{Region, State, Edge, Plan, plan, at, step, stepTo, merge, move, replay, start, countOf, alone, gatesOf}
@@ -15,18 +15,12 @@ use Rattle.edges.specs.declared.edges.EdgeRecord.{EdgeRecord}
 use mathlib.Core.Option.{Option, none, some}
 use lib.Ieee.{Float}
 use Rattle.merge.specs.Inside.Steps.{unbias}
-use Rattle.merge.proofs.Bias.{lt-or-le, unbias-up, unbias-down}
+use Rattle.merge.proofs.Bias.{lt-or-le, unbias-up, unbias-down, sub-low, sub-high}
 use Rattle.sweep.specs.Sweep.{weighed}
 use Rattle.sweep.specs.Inside.Mean.{sumFrom}
 use Rattle.sweep.proofs.SignedLaws.{sub-is}
 
 -- ---- differences of two numbers
-
-sub-low : (a b : ℕ) → a < b → subℕ a b ≡ negsuc (b - suc a)
-sub-low a b h = rw (lt-ltb a b h) refl
-
-sub-high : (a b : ℕ) → b ≤ a → subℕ a b ≡ pos (a - b)
-sub-high a b h = rw (le-ltb a b h) refl
 
 sub-same : (a b c d : ℕ) → a + d ≡ c + b → subℕ a b ≡ subℕ c d
 sub-same a b c d e = ⊎-elim

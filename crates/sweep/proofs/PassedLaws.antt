@@ -16,7 +16,7 @@ use Rattle.lists.specs.Seq.{all}
 use Rattle.arithmetic.specs.Intervals.{valid, nyquistInRange, velocityInRange}
 use Rattle.arithmetic.specs.Inside.Asked.{Asked}
 use Rattle.arithmetic.proofs.Plans.{T-of}
-use Rattle.lists.proofs.AllLaws.{and-left, and-right}
+use Rattle.lists.proofs.AllLaws.{and-left, and-right, and-three}
 use Rattle.sweep.specs.Sweep.{Sweep, Unfolded, unfolded}
 use Rattle.sweep.specs.Questions.{
   Lent,
@@ -99,9 +99,6 @@ mask-bytes (m ∷ l) zero h = leb-true m 1 (and-left (leb m 1) (all (λ m. leb m
 mask-bytes (m ∷ l) (suc g) h = mask-bytes l g (and-right (leb m 1) (all (λ m. leb m 1) l) h)
 
 -- all parts of a test that passes
-and-three : (a b c : Bool) → (a && b && c) ≡ true → (a ≡ true) × (b ≡ true) × (c ≡ true)
-and-three a b c h = let ab = and-left (a && b) c h in (and-left a b ab, and-right a b ab, and-right (a && b) c h)
-
 and-four : (a b c d : Bool) → (a && b && c && d) ≡ true → (a ≡ true) × (b ≡ true) × (c ≡ true) × (d ≡ true)
 and-four a b c d h = let p = and-three a b c (and-left (a && b && c) d h) in (p .0, p .1, p .2, and-right (a && b && c) d h)
 

@@ -6,7 +6,7 @@ use Prim.Native.Nat.{ℕ, suc, _+_, _*_, _/_, _%_, _^_, _≤_, _<_}
 use native.Mathlib.Nat.{le-trans, lt-of-lt-of-le, mul-right-comm, mul-one, mul-lt-mul-of-pos-right, lt-of-mul-lt-mul-right, div-add-mod'}
 use native.Mathlib.Numerals.{add-one}
 use native.Mathlib.Omega.{arith}
-use lib.Dec.{T, ltb, eqb, leb→le, ltb→lt, lt→ltb, nltb→le, eqb→eq, not-T, lit≤}
+use lib.Dec.{T, ltb, eqb, ltb→lt, lt→ltb, nltb→le, eqb→eq, not-T, lit≤}
 use lib.IntN.{pos}
 use lib.Ieee.{Float, nan, inf, fin, binary64, up, down, round, ofInt, lt}
 use lib.Ieee.Back.{round-whole}
@@ -14,9 +14,10 @@ use lib.Ieee.Bits.{is-false}
 use lib.Ieee.Exact.{HasValue}
 use lib.Ieee.Fits.{down-pos}
 use lib.Ieee.Positive.{num, den, positive}
-use Rattle.arithmetic.specs.Rounding.{within, ceiling}
+use Rattle.arithmetic.specs.Rounding.{ceiling}
 use Rattle.arithmetic.proofs.rounding.ceil_size.Statement.{statement}
 use Rattle.arithmetic.proofs.rounding.ceil_size.Tie as tie
+use Rattle.arithmetic.proofs.RangeLaws.{within-size}
 
 -- a whole number against x, as a test on whole numbers
 lt-whole : (y x : Float) (t : ℕ) → HasValue y false t 1 → T (positive x) → lt y x ≡ ltb (t * den x) (num x)
@@ -39,12 +40,6 @@ lt-whole (fin false n g) (fin false m e) t v p =
     iff true false f g = absurd (f tt)
     iff false true f g = absurd (g tt)
     iff false false f g = refl
-
-bound : (x : Float) → T (within x) → num x ≤ 2 ^ 30 * den x
-unfolding within
-bound (fin s m e) w = leb→le (m * up e) (2 ^ 30 * down e) w
-bound nan w = absurd w
-bound (inf s) w = absurd w
 
 test-is : (x : Float) (t : ℕ) → t ≤ 2 ^ 30 → T (positive x) → lt (ofInt binary64 (pos t)) x ≡ ltb (t * den x) (num x)
 unfolding ofInt
@@ -87,7 +82,7 @@ returns c =
     let f = c .before .before .floor-size in
     let s = c .before .before .before in
     let x = s .args .x in
-    up-one (num x) (den x) (f .result) (f .ensures .0) (bound x (s .pre .1)) (sym (test-is x (f .result) (f .ensures .1) (s .pre .0)) ∙ c .if1 .taken)
+    up-one (num x) (den x) (f .result) (f .ensures .0) (within-size x (s .pre .1)) (sym (test-is x (f .result) (f .ensures .1) (s .pre .0)) ∙ c .if1 .taken)
 
 returns-2 : tie.Need-returns-2
 returns-2 c =

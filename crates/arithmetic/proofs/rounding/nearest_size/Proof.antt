@@ -3,8 +3,8 @@ use mathlib.Core.Path.{_≡_, sym, ap, _∙_, subst}
 use Prim.Native.Nat.{ℕ, _+_, _-_, _*_, _^_, _≤_, _<_}
 use native.Mathlib.Nat.{le-trans, le-of-eq, mul-one}
 use native.Mathlib.Omega.{arith}
-use lib.Dec.{T, leb→le, le→leb, lit<}
-use lib.Ieee.{Float, nan, inf, fin, binary64, up, down, add, ofBits, inFloat, inUnsigned, toUnsigned}
+use lib.Dec.{T, le→leb, lit<}
+use lib.Ieee.{Float, binary64, add, ofBits, inFloat, inUnsigned, toUnsigned}
 use lib.Ieee.Back.{unsigned-back}
 use lib.Ieee.Nearest.{closest, closest-mono}
 use lib.Ieee.Positive.{num, den, positive, own-value, den-pos}
@@ -12,12 +12,7 @@ use Rattle.arithmetic.specs.Rounding.{within}
 use Rattle.arithmetic.proofs.RoundLaws.{whole-sum}
 use Rattle.arithmetic.proofs.rounding.nearest_size.Statement.{statement}
 use Rattle.arithmetic.proofs.rounding.nearest_size.Tie as tie
-
-bound : (x : Float) → T (within x) → num x ≤ 2 ^ 30 * den x
-unfolding within
-bound (fin s m e) w = leb→le (m * up e) (2 ^ 30 * down e) w
-bound nan w = absurd w
-bound (inf s) w = absurd w
+use Rattle.arithmetic.proofs.RangeLaws.{within-size}
 
 under : (a c : ℕ) → 0 < c → a ≤ 2 ^ 30 * c → a < 2 ^ 52 * c
 under a c C h = omega arith
@@ -36,8 +31,8 @@ sum-of x p w =
     let a = num x in
     let c = den x in
     let q = closest a c in
-    let s : q ≤ 2 ^ 30 = closest-mono a c (2 ^ 30) 1 (den-pos x) (lit< tt) (le-trans (le-of-eq (mul-one a)) (bound x w)) in
-    let h = whole-sum binary64 x a c (den-pos x) (own-value x p) (under a c (den-pos x) (bound x w)) in
+    let s : q ≤ 2 ^ 30 = closest-mono a c (2 ^ 30) 1 (den-pos x) (lit< tt) (le-trans (le-of-eq (mul-one a)) (within-size x w)) in
+    let h = whole-sum binary64 x a c (den-pos x) (own-value x p) (under a c (den-pos x) (within-size x w)) in
     let b = unsigned-back binary64 64 (2 ^ 52 + q) (le→leb (2 ^ 52 + q) (2 ^ 53) (h .0)) (fits-64 q s) in
     record { small = s; exact = subst (λ (y : Float). T (inUnsigned binary64 64 y)) (sym (h .1)) (b .0); value = ap (λ (y : Float). toUnsigned 64 y) (h .1) ∙ b .1 }
 

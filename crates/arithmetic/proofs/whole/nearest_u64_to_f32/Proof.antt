@@ -2,7 +2,7 @@
 -- of n rounded to an f32 (`round-large`), so it is that f32 (`value-unique`). Assumes nothing.
 use borrow.Author.Needs.{needs}
 use mathlib.Core.Path.{_≡_, sym, ap, _∙_, subst}
-use mathlib.Core.Bool.{Bool, false, not, _&&_}
+use mathlib.Core.Bool.{false, not, _&&_}
 use Prim.Native.Nat.{ℕ, suc, _+_, _-_, _*_, _/_, _%_, _^_, _≤_, _<_, compare}
 use native.Mathlib.Nat.{le-trans, le-of-eq, lt-of-lt-of-le, one-mul, mod-eq-of-lt, le-div-iff-mul-le, zero-lt-suc, two-pow-succ}
 use native.Mathlib.Omega.{arith}
@@ -10,13 +10,13 @@ use lib.Dec.{T, le→leb, lit<, lit≤}
 use lib.Pow.{pow-add, pow-pos, pow-mono, pow-lt}
 use lib.IntN.{pos}
 use lib.Count.{leadingZeros, leading-length}
-use lib.Ieee.{Float, nan, inf, fin, binary32, binary64, round, mul, ofInt, inFloat, fits, isNan}
+use lib.Ieee.{Float, binary32, binary64, round, mul, ofInt, inFloat, fits, isNan}
 use lib.Ieee.Fits.{round-fits, mul-fits, fits-widens, and-i}
-use lib.Ieee.Exact.{HasValue}
 use lib.Ieee.Nearest.{closest, nearest-ge}
 use Rattle.arithmetic.proofs.RoundLaws.{round-large, mul-exact, value-unique, closest-le}
 use Rattle.arithmetic.proofs.whole.nearest_u64_to_f32.Statement.{statement}
 use Rattle.arithmetic.proofs.whole.nearest_u64_to_f32.Tie as tie
+use Rattle.arithmetic.proofs.NarrowLaws.{no-nan}
 
 short : (n : ℕ) → n < 2 ^ 64 → 40 ≤ leadingZeros 64 n → n ≤ 2 ^ 24
 short n h z =
@@ -96,12 +96,6 @@ product n k g =
 
     room' : (k : ℕ) → k ≤ 40 → 24 + k < 128
     room' k h = omega arith
-
-no-nan : (x : Float) (s : Bool) (a c : ℕ) → HasValue x s a c → T (not (isNan x))
-unfolding isNan
-no-nan nan s a c v = absurd v
-no-nan (inf t) s a c v = tt
-no-nan (fin t m e) s a c v = tt
 
 -- what the last two needs ask, at the closest_to's result q and at the unit u as the shift has it
 narrow-fits : (n k : ℕ) → Long n k → T (fits binary32 (round binary32 false n 1) && not (isNan (round binary32 false n 1)))

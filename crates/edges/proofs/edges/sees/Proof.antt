@@ -31,13 +31,10 @@ inside c =
     let l = c .before .before .before .before .loop in
     next-in (a .f) (l .h) (a .d) (c .before .s .given .0 .0) (l .inv .0) (is-next c)
 
-whole : (m : ℕ) → m - 0 ≡ m
-whole m = omega arith
-
 loop-holds : tie.Need-loop-holds Inv-loop μ-loop
 loop-holds c = (
   c .before .before .pre .inside,
-  (omega arith, begins (c .before .before .args .f) (c .before .before .args .d) (c .before .before .args .labels .now) (c .skip .result - 0) (c .before .before .args .g) (whole (c .skip .result) ∙ c .skip .ensures)),
+  (omega arith, begins (c .before .before .args .f) (c .before .before .args .d) (c .before .before .args .labels .now) (c .skip .result - 0) (c .before .before .args .g) (omega (arith, c .skip .ensures))),
 )
 
 next-requires : tie.Need-next-requires Inv-loop μ-loop

@@ -1,5 +1,6 @@
 -- `replay::lines::bits_of` meets its contract: only a NaN differs from itself. Assumes nothing.
-use Rattle.replay.proofs.Laws.{nan-bits, no-nan}
+use Rattle.replay.proofs.Laws.{nan-bits}
+use Rattle.arithmetic.proofs.NarrowLaws.{equals-itself}
 use borrow.Author.Needs.{needs}
 use Rattle.replay.proofs.lines.bits_of.Statement.{statement}
 use Rattle.replay.proofs.lines.bits_of.Tie as tie
@@ -8,7 +9,7 @@ returns : tie.Need-returns
 returns c = nan-bits _ (c .if1 .taken)
 
 float-to-bits-result : tie.Need-float-to-bits-result
-float-to-bits-result c = no-nan _ (c .if1 .left)
+float-to-bits-result c = equals-itself _ (c .if1 .left)
 
 returns-2 : tie.Need-returns-2
 returns-2 c = search needs
