@@ -3,7 +3,7 @@
 use mathlib.Core.Path.{_≡_, refl, sym, ap, _∙_, subst}
 use mathlib.Core.Bool.{Bool, true, false, not, cond}
 use Prim.Native.Nat.{ℕ, suc, _+_, _-_, _*_, _≤_, _<_}
-use native.Mathlib.Nat.{le-trans, one-mul, mul-le-mul-right}
+use native.Mathlib.Nat.{le-trans, one-mul, mul-le-mul-right, add-comm}
 use native.Mathlib.Omega.{arith}
 use lib.Dec.{T, ltb, ltb→lt, nltb→le, lit≤}
 use lib.IntN.{ℤ, pos, negsuc, natAbs, _+ℤ_}
@@ -87,17 +87,13 @@ widths nyq S n w z a =
     let u = one-under A most in
     record {
       size = X;
-      is = record { sign = sgn z; size = X; has = has; pair = swap (sgn z) X };
+      is = record { sign = sgn z; size = X; has = has; pair = add-comm (plus (sgn z) X) (minus (sgn z) X) };
       plus-over = po z X W tiny o;
       plus-under = pu z X W tiny u;
       minus-over = mo z X W tiny o;
       minus-under = mu z X W tiny u;
     }
   where
-    swap : (s : Bool) (G : ℕ) → plus s G + minus s G ≡ minus s G + plus s G
-    swap false G = omega arith
-    swap true G = omega arith
-
     po : (z : ℤ) (X W t : ℕ) → X ≤ natAbs z * W + t → plus (sgn z) X ≤ zp z * W + t
     po (pos n) X W t h = h
     po (negsuc n) X W t h = omega arith

@@ -3,7 +3,7 @@
 use mathlib.Core.Path.{_≡_, refl, sym, ap, _∙_, subst}
 use mathlib.Core.Bool.{Bool, true, false, not, cond}
 use Prim.Native.Nat.{ℕ, zero, suc, _+_, _-_, _*_, _/_, _%_, _^_, _≤_, _<_}
-use native.Mathlib.Nat.{le-trans, le-of-eq, mul-one, one-mul, mul-pos, mul-le-mul-right, mul-le-mul-left, le-of-mul-le-mul-right, lt-of-not-le, le-of-suc-le-suc, zero-lt-suc, div-mul-le-self}
+use native.Mathlib.Nat.{le-trans, le-of-eq, mul-one, one-mul, mul-pos, mul-le-mul-right, mul-le-mul-left, le-of-mul-le-mul-right, lt-of-not-le, le-of-suc-le-suc, zero-lt-suc, div-mul-le-self, add-comm}
 use native.Mathlib.Omega.{arith}
 use lib.Dec.{T, eqb, le→leb, lit≤, lit<}
 use lib.IntN.{ℤ, pos, negsuc, negℤ, natAbs}
@@ -139,15 +139,11 @@ speed v f h =
     record {
       p = plus s a;
       n = minus s a;
-      at = record { sign = s; size = a; has = g .2; pair = swap s a };
+      at = record { sign = s; size = a; has = g .2; pair = add-comm (plus s a) (minus s a) };
       high = up' s a (281474976710656 * tiny) (values-le v (fin false 1 (pos 14)) s false a (281474976710656 * tiny) unit unit-pos (g .2) (top-has false) k);
       low = down' s a (281474976710656 * tiny) (values-le (fin true 1 (pos 14)) v true s (281474976710656 * tiny) a unit unit-pos (top-has true) (g .2) l);
     }
   where
-    swap : (s : Bool) (G : ℕ) → plus s G + minus s G ≡ minus s G + plus s G
-    swap false G = omega arith
-    swap true G = omega arith
-
     up' : (s : Bool) (a M : ℕ) → plus s a + 0 ≤ M + minus s a → plus s a ≤ minus s a + M
     up' false a M h = omega arith
     up' true a M h = omega arith

@@ -3,7 +3,7 @@
 use mathlib.Core.Path.{_≡_, refl, sym, ap, _∙_, subst}
 use mathlib.Core.Bool.{Bool, true, false, _&&_}
 use Prim.Native.Nat.{ℕ, zero, suc, _+_, _-_, _*_, _%_, _^_, _≤_, _<_}
-use native.Mathlib.Nat.{le-trans, mul-one, zero-mul, mul-le-mul-right, le-of-mul-le-mul-right, lt-of-not-le, not-le-of-lt, le-of-suc-le-suc, zero-lt-suc, mul-assoc}
+use native.Mathlib.Nat.{le-trans, mul-one, zero-mul, mul-le-mul-right, le-of-mul-le-mul-right, lt-of-not-le, not-le-of-lt, le-of-suc-le-suc, zero-lt-suc, mul-assoc, add-comm}
 use native.Mathlib.Omega.{arith}
 use lib.Dec.{T, leb, ltb, eqb, leb→le, lit≤, lit<}
 use lib.Pow.{pow-add, pow-pos, pow-lt}
@@ -103,7 +103,7 @@ approx {z} {p} {n} r h k =
     record {
       q = plus s G;
       m = minus s G;
-      at = record { sign = s; size = G; has = subst (λ (y : Float). HasValue y s G unit) (sym (r .is)) (one-has s a b); pair = swap s G };
+      at = record { sign = s; size = G; has = subst (λ (y : Float). HasValue y s G unit) (sym (r .is)) (one-has s a b); pair = add-comm (plus s G) (minus s G) };
       over = near-over s a G tiny (r .pair) (one-over a b) (one-under a b);
       under = near-under s a G tiny (r .pair) (one-over a b) (one-under a b);
     }
@@ -111,10 +111,6 @@ approx {z} {p} {n} r h k =
     most : (s : Bool) (a M : ℕ) → p + minus s a ≡ n + plus s a → p ≤ n + M → n ≤ p + M → a ≤ M
     most false a M e h k = omega arith
     most true a M e h k = omega arith
-
-    swap : (s : Bool) (G : ℕ) → plus s G + minus s G ≡ minus s G + plus s G
-    swap false G = omega arith
-    swap true G = omega arith
 
     near-over : (s : Bool) (a G t : ℕ) → p + minus s a ≡ n + plus s a → G ≤ a + t → a ≤ G + t → plus s G + n ≤ minus s G + p + t
     near-over false a G t e h k = omega arith

@@ -1,11 +1,11 @@
 -- What `sort_pairs` does between its calls, over plain values. Assumes nothing.
-use Prim.Native.Nat.{ℕ, zero, suc, _+_, _*_, _≤_, _<_}
+use Prim.Native.Nat.{ℕ, suc, _+_, _*_, _≤_, _<_}
 use native.Mathlib.Omega.{arith}
 use mathlib.Core.Path.{_≡_, refl, sym, ap, _∙_}
 use mathlib.Core.List.{List, [], _∷_, map}
 use lib.ListN.{length, getD}
 use Rattle.lists.specs.Seq.{upto}
-use Rattle.lists.proofs.SeqLaws.{upto-length, upto-at}
+use Rattle.lists.proofs.SeqLaws.{upto-length, upto-at, map-at}
 use Rattle.lists.specs.Inside.Seg.{seg, put}
 use Rattle.lists.proofs.SegLaws.{length-put, length-seg, getD-seg, getD-put-below, seg-put-below, seg-put-same}
 use Rattle.memory.specs.Inside.Sort.{sorted}
@@ -25,12 +25,7 @@ labels-kept w b vs src m h r g =
 
 labels-at : (w : List ℕ) (src m k i : ℕ) → src + m ≤ length w → i < m → getD w (getD w (src + i) 0) 0 < k → getD (labelsOf w src m) i 0 < k
 unfolding labelsOf
-labels-at w src m k i r h g = rw (map-at (seg w src m) i (omega (arith, length-seg w src m r)) ∙ ap (λ (x : ℕ). getD w x 0) (getD-seg w src m i 0 h)) g
-  where
-    map-at : (S : List ℕ) (i : ℕ) → i < length S → getD (map (λ x. getD w x 0) S) i 0 ≡ getD w (getD S i 0) 0
-    map-at [] i h = absurd (omega arith)
-    map-at (x ∷ S) zero h = refl
-    map-at (x ∷ S) (suc i) h = map-at S i (omega arith)
+labels-at w src m k i r h g = rw (map-at (λ x. getD w x 0) (seg w src m) i 0 0 (omega (arith, length-seg w src m r)) ∙ ap (λ (x : ℕ). getD w x 0) (getD-seg w src m i 0 h)) g
 
 module _ (u : List ℕ) (n m k : ℕ) (lay : Sorts u n m k) where
   module _ (v : List ℕ) (e : v ≡ put u (9 * n) (upto m 0)) where
