@@ -62,7 +62,7 @@ fn label_in(
 }
 
 // The same, with limits of its own: a sweep of few gates may have more limits than words lent.
-fn label(
+pub fn label(
     o: crate::options::Options,
     p: arithmetic::intervals::Plan,
     velocity: &[f32],

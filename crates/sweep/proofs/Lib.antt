@@ -6,8 +6,10 @@ pub mod MergeNumber
 pub mod MergeLaws
 pub mod FillLaws
 pub mod VelocityLaws
-pub mod PassedLaws
 pub mod QuestionLaws
+pub mod PassedLaws
+pub mod PlanLaws
+pub mod WorkLaws
 pub mod Early
 pub mod EarlyEnd
 pub mod SolveLaws

@@ -35,8 +35,7 @@ use Rattle.sweep.specs.Questions.{
   velocitiesInRange,
   limitsFew,
   seven,
-  room,
-  sevenOf,
+  eight,
   eightOf,
   nineOf,
   ownLimits,
@@ -50,22 +49,16 @@ use Rattle.sweep.specs.declared.questions.Room.{Room}
 use Rattle.sweep.specs.Entry.{answerOf}
 use Rattle.sweep.proofs.QuestionLaws.{orElse, list-after, zero-none, all-yes}
 
--- what a yes to all seven questions gives
-pub record Passed (s : Sweep) (l : Lent) : Type 0 where
+-- what a yes to all seven questions gives, whatever an entry's own part of question 2 is
+pub record Passed (s : Sweep) (r : Room) : Type 0 where
   pub rays : s .shape .rays ≤ 720
   pub gates : s .shape .gates ≤ 2000
   pub vel : length (s .vel) ≡ s .shape .rays * s .shape .gates
   pub mask : length (s .mask) ≡ s .shape .rays * s .shape .gates
-  pub counts : l .counts ≡ s .shape .rays * s .shape .gates
-  pub pair : l .pair ≡ 2
-  pub bytes : (g : ℕ) → getD (s .mask) g 0 ≤ 1
-  pub words : 96 * (s .shape .rays * s .shape .gates) + 64 ≤ l .words
-  pub floats : 16 * (s .shape .rays * s .shape .gates) + 16 ≤ l .floats
+  pub own : r .own ≡ true
+  pub words : 96 * (s .shape .rays * s .shape .gates) + 64 ≤ r .words
+  pub floats : 16 * (s .shape .rays * s .shape .gates) + 16 ≤ r .floats
   pub asked : Asked (s .nyquist) (s .splits)
-  pub «skip_between_rays» : s .shape .«skip_between_rays» ≤ 1000
-  pub «skip_along_ray» : s .shape .«skip_along_ray» ≤ 1000
-  pub centred : s .centred ≤ 1
-  pub wrap : s .shape .wrap ≤ 1
   pub velocityInRange : T (all velocityInRange (valid (s .vel) (s .mask)))
 
 -- ---- an answer that the code negates
@@ -91,16 +84,6 @@ size-product a b n e h = most n (a * b) e (mul-le-mul (size-rays a b h) (size-ga
   where
     most : (n m : ℕ) → n ≡ m → m ≤ 720 * 2000 → n ≤ mostGates
     most n m e h = omega arith
-
-mask-bytes : (l : List ℕ) (g : ℕ) → maskIsBits l ≡ true → getD l g 0 ≤ 1
-unfolding maskIsBits all
-mask-bytes [] g h = omega arith
-mask-bytes (m ∷ l) zero h = leb-true m 1 (and-left (leb m 1) (all (λ m. leb m 1) l) h)
-mask-bytes (m ∷ l) (suc g) h = mask-bytes l g (and-right (leb m 1) (all (λ m. leb m 1) l) h)
-
--- all parts of a test that passes
-and-four : (a b c d : Bool) → (a && b && c && d) ≡ true → (a ≡ true) × (b ≡ true) × (c ≡ true) × (d ≡ true)
-and-four a b c d h = let p = and-three a b c (and-left (a && b && c) d h) in (p .0, p .1, p .2, and-right (a && b && c) d h)
 
 -- question 2's yes
 pub long-are : (n : ℕ) (vs : List Float) (ms : List ℕ) (own : Bool) → lengthsFit n vs ms own ≡ true → (length vs ≡ n) × (length ms ≡ n) × (own ≡ true)
@@ -136,50 +119,35 @@ module _ (s : Sweep) (r : Room) where
 
 -- ---- a yes to all seven
 
--- question 6's yes
-record Options (s : Sweep) : Type 0 where
-  pub some : 1 ≤ s .splits
-  pub few : s .splits ≤ 9999
-  pub «skip_between_rays» : s .shape .«skip_between_rays» ≤ 1000
-  pub «skip_along_ray» : s .shape .«skip_along_ray» ≤ 1000
-  pub centred : s .centred ≤ 1
-  pub wrap : s .shape .wrap ≤ 1
-
-options : (s : Sweep) → optionsInRange s ≡ true → Options s
+-- what question 6's yes says of the splits
+splits-are : (s : Sweep) → optionsInRange s ≡ true → (1 ≤ s .splits) × (s .splits ≤ 9999)
 unfolding optionsInRange
-options s h =
+splits-are s h =
     let a = leb 1 (s .splits) in
     let b = leb (s .splits) 9999 in
     let c = leb (s .shape .«skip_between_rays») 1000 in
     let d = leb (s .shape .«skip_along_ray») 1000 in
     let e = leb (s .centred) 1 in
     let f = leb (s .shape .wrap) 1 in
-    let q = and-four (a && b && c) d e f h in
-    let p = and-four a b c d (rw (q .0, q .1) refl) in
-    record {
-      some = leb-true 1 (s .splits) (p .0);
-      few = leb-true (s .splits) 9999 (p .1);
-      «skip_between_rays» = leb-true (s .shape .«skip_between_rays») 1000 (p .2);
-      «skip_along_ray» = leb-true (s .shape .«skip_along_ray») 1000 (p .3);
-      centred = leb-true (s .centred) 1 (q .2);
-      wrap = leb-true (s .shape .wrap) 1 (q .3);
-    }
+    let q = and-three (a && b) c d (and-three (a && b && c && d) e f h .0) .0 in
+    (leb-true 1 (s .splits) (and-left a b q), leb-true (s .splits) 9999 (and-right a b q))
 
 -- question 5's yes, with question 6's
-nyquist-asked : (s : Sweep) → nyquistInRange (s .nyquist) ≡ true → Options s → Asked (s .nyquist) (s .splits)
+nyquist-asked : (s : Sweep) → nyquistInRange (s .nyquist) ≡ true → optionsInRange s ≡ true → Asked (s .nyquist) (s .splits)
 unfolding nyquistInRange
 nyquist-asked s h o =
     let low = le (fin false 1 (negsuc 2)) (s .nyquist) in
     let high = le (s .nyquist) (fin false 1 (pos 10)) in
-    record { low = T-of (and-left low high h); high = T-of (and-right low high h); some = o .some; few = o .few }
+    let p = splits-are s o in
+    record { low = T-of (and-left low high h); high = T-of (and-right low high h); some = p .0; few = p .1 }
 
 speeds : (vs : List Float) (ms : List ℕ) → velocitiesInRange vs ms ≡ true → T (all velocityInRange (valid vs ms))
 unfolding velocitiesInRange
 speeds vs ms h = T-of h
 
-module _ (s : Sweep) (l : Lent) where
-  pub passed : firstNo (sevenOf s l) ≡ none → Passed s l
-  unfolding seven room gatesIn
+module _ (s : Sweep) (r : Room) where
+  pub passed : firstNo (seven s r) ≡ none → Passed s r
+  unfolding seven gatesIn
   passed h =
       let q1 = all-yes _ _ h in
       let q2 = all-yes _ _ (q1 .1) in
@@ -188,37 +156,41 @@ module _ (s : Sweep) (l : Lent) where
       let q5 = all-yes _ _ (q4 .1) in
       let q6 = all-yes _ _ (q5 .1) in
       let q7 = all-yes _ _ (q6 .1) in
-      let n = s .shape .rays * s .shape .gates in
-      let long = long-are n (s .vel) (s .mask) (eqb (l .counts) n && eqb (l .pair) 2) (q2 .0) in
-      let o = options s (q6 .0) in
+      let long = long-are (s .shape .rays * s .shape .gates) (s .vel) (s .mask) (r .own) (q2 .0) in
       record {
         rays = size-rays (s .shape .rays) (s .shape .gates) (q1 .0);
         gates = size-gates (s .shape .rays) (s .shape .gates) (q1 .0);
         vel = long .0;
         mask = long .1;
-        counts = eqb-true (l .counts) n (and-left (eqb (l .counts) n) (eqb (l .pair) 2) (long .2));
-        pair = eqb-true (l .pair) 2 (and-right (eqb (l .counts) n) (eqb (l .pair) 2) (long .2));
-        bytes = λ g. mask-bytes (s .mask) g (q3 .0);
-        words = room-words s (room n l) (q4 .0);
-        floats = room-floats s (room n l) (q4 .0);
-        asked = nyquist-asked s (q5 .0) o;
-        «skip_between_rays» = o .«skip_between_rays»;
-        «skip_along_ray» = o .«skip_along_ray»;
-        centred = o .centred;
-        wrap = o .wrap;
+        own = long .2;
+        words = room-words s r (q4 .0);
+        floats = room-floats s r (q4 .0);
+        asked = nyquist-asked s (q5 .0) (q6 .0);
         velocityInRange = speeds (s .vel) (s .mask) (q7 .0);
       }
 
   -- no question has the number 0
-  pub seven-none : (r : ℕ) → r ≡ answerOf (firstNo (sevenOf s l)) → r ≡ 0 → firstNo (sevenOf s l) ≡ none
+  pub seven-none : (k : ℕ) → k ≡ answerOf (firstNo (seven s r)) → k ≡ 0 → firstNo (seven s r) ≡ none
   unfolding seven all
-  seven-none r e h = zero-none (sevenOf s l) refl (sym e ∙ h)
+  seven-none k e h = zero-none (seven s r) refl (sym e ∙ h)
 
   -- questions 1 to 8 are questions 1 to 7 and then question 8
-  pub asked-eight : asked s l ≡ orElse (firstNo (sevenOf s l)) (firstNo (ask 8 (limitsFew s) ∷ []))
-  unfolding asked
-  asked-eight = list-after (sevenOf s l) (ask 8 (limitsFew s) ∷ [])
+  pub eight-after : firstNo (eight s r) ≡ orElse (firstNo (seven s r)) (firstNo (ask 8 (limitsFew s) ∷ []))
+  eight-after = list-after (seven s r) (ask 8 (limitsFew s) ∷ [])
 
+  -- where none of the eight gets a no, none of the first seven does
+  pub seven-of-eight : firstNo (eight s r) ≡ none → firstNo (seven s r) ≡ none
+  seven-of-eight h = go (firstNo (seven s r)) (sym (eight-after) ∙ h)
+    where
+      go : (o : Option ℕ) → orElse o (firstNo (ask 8 (limitsFew s) ∷ [])) ≡ none → o ≡ none
+      go none q = refl
+      go (some k) q = q
+
+-- two slices as long as they are to be
+pub two-are : (a n b m : ℕ) → (eqb a n && eqb b m) ≡ true → (a ≡ n) × (b ≡ m)
+two-are a n b m h = (eqb-true a n (and-left (eqb a n) (eqb b m) h), eqb-true b m (and-right (eqb a n) (eqb b m) h))
+
+module _ (s : Sweep) (l : Lent) where
   pub missed-none : answerOf (firstMissed s l) ≡ 0 → firstMissed s l ≡ none
   unfolding firstMissed seven all
   missed-none = zero-none (nineOf s l) refl

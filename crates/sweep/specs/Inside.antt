@@ -1,3 +1,4 @@
 -- What internal contracts need: representation, invariants, and the records that a `requires` names.
 pub mod Finish
 pub mod Mean
+pub mod Planning

@@ -94,6 +94,10 @@ seven s r =
     ∷ ask 7 (velocitiesInRange (s .vel) (s .mask))
     ∷ []
 
+-- and question 8 after them
+abbrev pub eight : Sweep → Room → List Question
+eight s r = seven s r ++ (ask 8 (limitsFew s) ∷ [])
+
 -- the sweep entry's own part of question 2 is the counts and the pair
 unfoldable pub room : ℕ → Lent → Room
 room n l = record { own = eqb (l .counts) n && eqb (l .pair) 2; words = l .words; floats = l .floats }
@@ -102,9 +106,9 @@ room n l = record { own = eqb (l .counts) n && eqb (l .pair) 2; words = l .words
 abbrev pub sevenOf : Sweep → Lent → List Question
 sevenOf s l = seven s (room (gatesIn s) l)
 
--- questions 1 to 8
+-- questions 1 to 8 of the sweep entry
 abbrev pub eightOf : Sweep → Lent → List Question
-eightOf s l = sevenOf s l ++ (ask 8 (limitsFew s) ∷ [])
+eightOf s l = eight s (room (gatesIn s) l)
 
 -- all nine, question 9 being put to the sweep with its own limits
 abbrev pub nineOf : Sweep → Lent → List Question

@@ -2,18 +2,26 @@
 use memory::layout;
 ghost use mathlib.Core.Path.{_≡_};
 ghost use mathlib.Core.Option.{none};
-ghost use Prim.Native.Nat.{_≤_};
 ghost use lib.Dec.{T};
 ghost use lib.ListN.{length};
 ghost use Rattle.lists.specs.Seq.{all};
-ghost use Rattle.arithmetic.specs.Inside.Asked.{Asked, Rising};
-ghost use Rattle.arithmetic.specs.Intervals.{range, adds, planOf, velocityInRange, atLeast0};
+ghost use Rattle.arithmetic.specs.Inside.Asked.{Asked};
+ghost use Rattle.arithmetic.specs.Intervals.{range, adds, planOf, velocityInRange};
 ghost use Rattle.arithmetic.specs.Intervals as I;
+ghost use Rattle.arithmetic.specs.declared.intervals.Plan.{Plan};
 ghost use Rattle.network.specs.Inside.Find.{limitsBy};
 ghost use Rattle.sweep.specs.Sweep.{unfolded};
-ghost use Rattle.sweep.specs.Questions.{firstNo, sevenOf, asked9, gatesIn};
+ghost use Rattle.sweep.specs.Questions.{firstNo, sevenOf, eight, asked9, gatesIn};
 ghost use Rattle.sweep.specs.Call.{call, ending, clearedFor, lengths, memoryOf, answerBy};
 ghost use Rattle.sweep.specs.Entry.{sweepBy};
+ghost use Rattle.sweep.specs.Inside.Planning.{ownPlan, planningBy, Fit};
+ghost use Rattle.sweep.specs.declared.entry.Planning.the-variants.{Limits};
+
+// The plan of a sweep's limits, or the number of the first of questions 1 to 8 that gets a no.
+pub enum Planning {
+    Limits(arithmetic::intervals::Plan),
+    Missed(u32),
+}
 
 // The adds and the number of limits of a sweep.
 fn plan_of(
@@ -29,6 +37,30 @@ fn plan_of(
     arithmetic::intervals::plan_limits(o.nyquist, o.splits, e)
 }
 
+// Questions 1 to 8 of an entry that works on a sweep. A plan that is given has at most 10,000 limits, and they never fall.
+pub fn plan_sweep(
+    o: network::options::Options,
+    velocity: &[f32],
+    valid: &[u8],
+    lent: crate::questions::Room,
+) -> Planning
+    ensures { λ r. ⌜ (
+        let s = sweepBy o (now (velocity .entry)) (now (valid .entry)) in
+        r ≡ planningBy (firstNo (eight s lent)) (ownPlan s)
+        ) ⌝ }
+    ensures { λ r. ⌜ ((p : Plan) → r ≡ Limits p → Fit o p) ⌝ }
+{
+    let missed = crate::questions::first_missed(o, velocity, valid, lent);
+    if missed != 0 {
+        return Planning::Missed(missed);
+    }
+    let p = plan_of(o, velocity, valid);
+    if !crate::questions::limits_few(p) {
+        return Planning::Missed(8);
+    }
+    Planning::Limits(p)
+}
+
 // The sweep by the limits of a plan, questions 1 to 8 having got a yes: just as much of the work memory as is asked for is used.
 fn unfold_sweep(
     o: network::options::Options,
@@ -41,7 +73,7 @@ fn unfold_sweep(
     floats: &mut [f64],
 ) -> u32
     requires { ⌜ firstNo (sevenOf (sweepBy o (now velocity) (now valid)) (lengths (memoryOf (now folds) (now pair) (now words) (now floats)))) ≡ none ⌝ }
-    requires { ⌜ (atLeast0 (p .number) ≤ 10000) × Rising (limitsBy o p) ⌝ }
+    requires { ⌜ Fit o p ⌝ }
     ensures { λ r. ⌜ (
         let s = sweepBy o (now (velocity .entry)) (now (valid .entry)) in
         let m = memoryOf (now (folds .entry)) (now (pair .entry)) (now (words .entry)) (now (floats .entry)) in
@@ -82,13 +114,8 @@ pub fn dealias_sweep(
 {
     let n = crate::questions::gates_in(o.rays, o.gates);
     let lent = crate::questions::room_of(n, folds.len(), pair.len(), words.len(), floats.len());
-    let missed = crate::questions::first_missed(o, velocity, valid, lent);
-    if missed != 0 {
-        return missed;
+    match plan_sweep(o, velocity, valid, lent) {
+        Planning::Limits(p) => unfold_sweep(o, p, velocity, valid, folds, pair, words, floats),
+        Planning::Missed(k) => k,
     }
-    let p = plan_of(o, velocity, valid);
-    if !crate::questions::limits_few(p) {
-        return 8;
-    }
-    unfold_sweep(o, p, velocity, valid, folds, pair, words, floats)
 }

@@ -50,7 +50,7 @@ pub fn gates_in(rays: u32, gates: u32) -> usize
 }
 
 // Two lengths, each as it is to be: what question 2 asks of an entry's own slices.
-fn two_long(one: usize, n: usize, two: usize, m: usize) -> bool
+pub fn two_long(one: usize, n: usize, two: usize, m: usize) -> bool
     ensures { λ r. ⌜ r ≡ (eqb one n && eqb two m) ⌝ }
 {
     one == n && two == m

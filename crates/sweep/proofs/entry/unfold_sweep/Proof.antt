@@ -5,7 +5,8 @@ use Prim.Native.Nat.{_+_, _-_, _*_, _≤_}
 use lib.ListN.{length, take}
 use borrow.Author.Needs.{needs}
 use Rattle.memory.specs.Inside.Layout.{mostGates}
-use Rattle.sweep.proofs.EndLaws.{length-taken, small, words-room, floats-room, finds-ask, outputs, solved-ends}
+use Rattle.sweep.proofs.WorkLaws.{length-taken}
+use Rattle.sweep.proofs.EndLaws.{small, words-room, floats-room, finds-ask, outputs, solved-ends}
 use Rattle.sweep.specs.Entry.{sweepBy}
 use Rattle.sweep.specs.Call.{Memory, memoryOf}
 use Rattle.sweep.proofs.entry.unfold_sweep.Statement.{statement}
@@ -58,7 +59,7 @@ solve-requires : tie.Need-solve-requires
 solve-requires c κs =
     let s = c .before .before .before .before .before .before .before .before .before in
     let a = s .args in
-    (finds-ask (a .o) (a .p) (a .velocity .now) (a .valid .now) (memoryAt s) (s .pre .0) (s .pre .1 .0) (s .pre .1 .1) _ _ (length-taken _ (a .words .now) (words-are s)) (length-taken _ (a .floats .now) (floats-are s)), outputs (a .o) (a .p) (a .velocity .now) (a .valid .now) (memoryAt s) (s .pre .0))
+    (finds-ask (a .o) (a .p) (a .velocity .now) (a .valid .now) (memoryAt s) (s .pre .0) (s .pre .1) _ _ (length-taken _ (a .words .now) (words-are s)) (length-taken _ (a .floats .now) (floats-are s)), outputs (a .o) (a .p) (a .velocity .now) (a .valid .now) (memoryAt s) (s .pre .0))
 
 same-length : tie.Need-same-length
 same-length c = search needs

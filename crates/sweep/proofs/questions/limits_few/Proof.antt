@@ -2,7 +2,7 @@
 use mir.Syntax.{w64}
 use mir.ValLaws.{toZ-ofZ}
 use mathlib.Core.Path.{ap, _∙_}
-use Rattle.sweep.proofs.CallLaws.{limits-test}
+use Rattle.sweep.proofs.PlanLaws.{limits-test}
 use Rattle.sweep.specs.Questions.{atMost}
 use Rattle.sweep.proofs.questions.limits_few.Statement.{statement}
 use Rattle.sweep.proofs.questions.limits_few.Tie as tie

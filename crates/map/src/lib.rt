@@ -1,0 +1,2 @@
+// The region map: the label of each gate, as an answer of its own.
+pub mod map;
