@@ -27,7 +27,7 @@ decide m n = by-cases (decLt m n) (λ k. inl (inl k)) (λ k. by-cases (decLt n m
 
 -- each root is the first gate of its area
 module _ (gates : ℕ) (iv : List ℕ) where
-  rooted : Rooted (laterIn gates iv 0) (joint gates iv)
+  pub rooted : Rooted (laterIn gates iv 0) (joint gates iv)
   unfolding joint
   rooted = rooted-all (laterIn gates iv 0) (laterIn gates iv 0) (own (marks iv)) (λ l m. m) (rooted-own (laterIn gates iv 0) (marks iv))
 
@@ -83,7 +83,7 @@ module _ (gates : ℕ) (vel : List Float) (mask : List ℕ) (limits : List Float
       ∙ ap (λ (t : Bool). cond t 0 (getD starts (getD iv i 0 - 1) 0 + rank (firsts (part iv (joint gates iv) (getD iv i 0 - 1))) (getD (joint gates iv) i 0))) (eq-eqb (getD iv i 0) 0 z)
 
   -- a gate of interval j
-  label-some : (i j : ℕ) → i < length mask → getD iv i 0 ≡ suc j → getD ((regions gates vel mask limits) .labels) i 0 ≡ sizes iv (joint gates iv) j + rank (firsts (part iv (joint gates iv) j)) (getD (joint gates iv) i 0)
+  pub label-some : (i j : ℕ) → i < length mask → getD iv i 0 ≡ suc j → getD ((regions gates vel mask limits) .labels) i 0 ≡ sizes iv (joint gates iv) j + rank (firsts (part iv (joint gates iv) j)) (getD (joint gates iv) i 0)
   unfolding final
   label-some i j l b =
       let k : getD iv i 0 - 1 ≡ j = omega arith in

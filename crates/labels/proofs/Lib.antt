@@ -20,3 +20,4 @@ pub mod BlockLaws
 pub mod PartLaws
 pub mod Ways
 pub mod RegionLaws
+pub mod Order

@@ -73,7 +73,7 @@ module _ (gates : ℕ) (vel : List Float) (mask : List ℕ) (limits : List Float
       (q .0, q .1, joined-way gates vel mask limits (b .iv) (b .are) (q .0) i h (same-label-joined gates vel mask limits (b .iv) (b .are) i h (q .0) (r .0) in-i in-h bi bh (sym e) .1) bi)
 
   -- a gate in an interval has a label
-  lies-labelled : (i j : ℕ) → i < length mask → suc j < length limits → Lies vel mask limits j i → 0 < getD ((regions gates vel mask limits) .labels) i 0
+  pub lies-labelled : (i j : ℕ) → i < length mask → suc j < length limits → Lies vel mask limits j i → 0 < getD ((regions gates vel mask limits) .labels) i 0
   lies-labelled i j h l p =
       let b = banded vel mask limits rising in
       label-pos gates vel mask limits (b .iv) (b .are) i j h (lies-band gates vel mask limits (b .iv) (b .are) i j h l p)

@@ -188,7 +188,7 @@ module _ (gates : ℕ) (iv : List ℕ) where
 
 -- ---- in sweeps
 module _ (gates : ℕ) (vel : List Float) (mask : List ℕ) (limits : List Float) (iv : List ℕ) (B : Bands limits vel mask iv) where
-  in-sweep : (i j : ℕ) → getD iv i 0 ≡ suc j → i < length mask
+  pub in-sweep : (i j : ℕ) → getD iv i 0 ≡ suc j → i < length mask
   in-sweep i j e = ⊎-elim (λ h. h) (λ h. absurd (none (List·getD-eq-default iv 0 (omega (arith, B .long))))) (lt-or-le i (length mask))
     where
       none : getD iv i 0 ≡ 0 → ⊥

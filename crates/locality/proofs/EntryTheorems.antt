@@ -62,7 +62,7 @@ module _ (s : Sweep) (m : Memory) where
 
 -- ---- the theorems
 
-answer-is : AnswerIs
+pub answer-is : AnswerIs
 answer-is s m a c = ap (λ (x : Answer). x .number) (c ∙ call-ends s m) ∙ number-ends s m (firstMissed s (lengths m)) (workedOn s m)
 
 pub refusal-keeps : RefusalKeeps

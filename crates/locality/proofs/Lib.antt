@@ -20,3 +20,5 @@ pub mod RootsEcho
 pub mod LabelEcho
 pub mod RegionsEcho
 pub mod EdgesEcho
+pub mod MapPaths
+pub mod MapTheorems

@@ -47,7 +47,7 @@ use Rattle.sweep.specs.Questions.{
 }
 use Rattle.sweep.specs.declared.questions.Room.{Room}
 use Rattle.sweep.specs.Entry.{answerOf}
-use Rattle.sweep.proofs.QuestionLaws.{orElse, list-after, zero-none, all-yes}
+use Rattle.sweep.proofs.QuestionLaws.{orElse, list-after, zero-none, none-all}
 
 -- what a yes to all seven questions gives, whatever an entry's own part of question 2 is
 pub record Passed (s : Sweep) (r : Room) : Type 0 where
@@ -149,24 +149,19 @@ module _ (s : Sweep) (r : Room) where
   pub passed : firstNo (seven s r) ≡ none → Passed s r
   unfolding seven gatesIn
   passed h =
-      let q1 = all-yes _ _ h in
-      let q2 = all-yes _ _ (q1 .1) in
-      let q3 = all-yes _ _ (q2 .1) in
-      let q4 = all-yes _ _ (q3 .1) in
-      let q5 = all-yes _ _ (q4 .1) in
-      let q6 = all-yes _ _ (q5 .1) in
-      let q7 = all-yes _ _ (q6 .1) in
-      let long = long-are (s .shape .rays * s .shape .gates) (s .vel) (s .mask) (r .own) (q2 .0) in
+      let y = none-all (seven s r) h in
+      let long = long-are (s .shape .rays * s .shape .gates) (s .vel) (s .mask) (r .own) (y .1 .0) in
+      let z = y .1 .1 .1 in
       record {
-        rays = size-rays (s .shape .rays) (s .shape .gates) (q1 .0);
-        gates = size-gates (s .shape .rays) (s .shape .gates) (q1 .0);
+        rays = size-rays (s .shape .rays) (s .shape .gates) (y .0);
+        gates = size-gates (s .shape .rays) (s .shape .gates) (y .0);
         vel = long .0;
         mask = long .1;
         own = long .2;
-        words = room-words s r (q4 .0);
-        floats = room-floats s r (q4 .0);
-        asked = nyquist-asked s (q5 .0) (q6 .0);
-        velocityInRange = speeds (s .vel) (s .mask) (q7 .0);
+        words = room-words s r (z .0);
+        floats = room-floats s r (z .0);
+        asked = nyquist-asked s (z .1 .0) (z .1 .1 .0);
+        velocityInRange = speeds (s .vel) (s .mask) (z .1 .1 .1 .0);
       }
 
   -- no question has the number 0

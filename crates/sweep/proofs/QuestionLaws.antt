@@ -15,7 +15,7 @@ use lib.ListN.{length, getD, drop, drop-of-length-le}
 use lib.Seq.{drop-cons}
 use lib.Ieee.{Float, nan}
 use borrow.Author.Tests.{le-leb, lt-leb, ltb-true, eq-eqb, ne-eqb}
-use Rattle.lists.specs.Seq.{all}
+use Rattle.lists.specs.Seq.{all, All}
 use Rattle.arithmetic.specs.Intervals.{valid, velocityInRange}
 use Rattle.lists.proofs.AllLaws.{and-left, and-right}
 use Rattle.sweep.specs.Questions.{Question, firstNo, maskIsBits, velocitiesInRange}
@@ -49,18 +49,23 @@ list-after (q ∷ qs) rs = go (q .yes) (list-after qs rs)
     go true ih = ih
     go false ih = refl
 
+-- the first no has the number of one of the questions: it meets every test that all of their numbers meet
+pub no-meets : (t : ℕ → Bool) (qs : List Question) (k : ℕ) → all (λ q. t (q .number)) qs ≡ true → firstNo qs ≡ some k → t k ≡ true
+unfolding firstNo all
+no-meets t [] k a h = absurd (Option·none-ne-some k h)
+no-meets t (q ∷ qs) k a h = go (q .yes) h (no-meets t qs k (and-right (t (q .number)) (all (λ q. t (q .number)) qs) a))
+  where
+    go : (b : Bool) → _≡_ {A = Option ℕ} (elim b [ true ↦ firstNo qs | false ↦ some (q .number) ]) (some k) → (firstNo qs ≡ some k → t k ≡ true) → t k ≡ true
+    go true e ih = ih e
+    go false e ih = sym (ap (λ (o : Option ℕ). t (answerOf o)) e) ∙ and-left (t (q .number)) (all (λ q. t (q .number)) qs) a
+
 -- zero is none, where no question has the number 0
 pub zero-none : (qs : List Question) → all (λ q. ltb 0 (q .number)) qs ≡ true → answerOf (firstNo qs) ≡ 0 → firstNo qs ≡ none
-unfolding firstNo all
-zero-none [] t h = refl
-zero-none (q ∷ qs) t h = go (q .yes) h (zero-none qs (and-right (ltb 0 (q .number)) (all (λ q. ltb 0 (q .number)) qs) t))
+zero-none qs t h = go (firstNo qs) refl h
   where
-    above : 0 < q .number
-    above = ltb-true 0 (q .number) (and-left (ltb 0 (q .number)) (all (λ q. ltb 0 (q .number)) qs) t)
-
-    go : (b : Bool) → answerOf (elim b [ true ↦ firstNo qs | false ↦ some (q .number) ]) ≡ 0 → (answerOf (firstNo qs) ≡ 0 → firstNo qs ≡ none) → _≡_ {A = Option ℕ} (elim b [ true ↦ firstNo qs | false ↦ some (q .number) ]) none
-    go true h ih = ih h
-    go false h ih = absurd (omega (arith, above))
+    go : (o : Option ℕ) → firstNo qs ≡ o → answerOf o ≡ 0 → firstNo qs ≡ none
+    go none e z = e
+    go (some k) e z = absurd (omega (arith, ltb-true 0 k (no-meets (ltb 0) qs k t e)))
 
 -- where no question gets a no, the first gets a yes, and none of the rest gets a no
 pub all-yes : (q : Question) (qs : List Question) → firstNo (q ∷ qs) ≡ none → (q .yes ≡ true) × (firstNo qs ≡ none)
@@ -70,6 +75,16 @@ all-yes q qs h = go (q .yes) h
     go : (b : Bool) → _≡_ {A = Option ℕ} (elim b [ true ↦ firstNo qs | false ↦ some (q .number) ]) none → (b ≡ true) × (firstNo qs ≡ none)
     go true h = (refl, h)
     go false h = absurd (Option·none-ne-some (q .number) (sym h))
+
+-- no no is a yes to each
+pub none-all : (qs : List Question) → firstNo qs ≡ none → All (λ q. q .yes ≡ true) qs
+none-all [] h = tt
+none-all (q ∷ qs) h = let t = all-yes q qs h in (t .0, none-all qs (t .1))
+
+pub all-none : (qs : List Question) → All (λ q. q .yes ≡ true) qs → firstNo qs ≡ none
+unfolding firstNo
+all-none [] t = refl
+all-none (q ∷ qs) t = on q qs (t .0) ∙ all-none qs (t .1)
 
 -- ---- the gates of a sweep fit
 
