@@ -150,6 +150,13 @@ impl Sweep {
         self.refused(None)
     }
 
+    /// The Rust's own labels by the sweep's own limits, and the number of regions; for a sweep that passes questions 1 to 8.
+    pub fn region_map(&self) -> (Vec<u32>, u32) {
+        let limits = find_sweep_interval_splits(self.nyquist, self.splits as usize, &self.valid_velocities()).unwrap();
+        let (labels, regions) = find_regions(&self.velocity(), &self.valid(), &limits);
+        (labels.iter().map(|&l| l as u32).collect(), regions as u32)
+    }
+
     /// The second entry: questions 1, 2, 3, 5, 7 and 10, and where all get a yes velocity + count * 2 * Nyquist in f64, 0 at a masked gate.
     pub fn unfold(&self, counts: &[i32]) -> (u32, Vec<f64>) {
         let in_range = || counts.iter().zip(&self.mask).all(|(c, m)| *m != 1 || (-2000..=2000).contains(c));
@@ -245,6 +252,16 @@ impl Sweep {
     }
     pub fn counts(&self) -> Vec<i32> {
         self.counts_or_none().expect("at most 10,000 limits")
+    }
+
+    /// One line for the region map: the number; where it is 0 also the regions and the labels.
+    pub fn map_line(&self) -> String {
+        let number = self.refused_before_merging();
+        if number != 0 {
+            return number.to_string();
+        }
+        let (labels, regions) = self.region_map();
+        std::iter::once(0).chain([regions]).chain(labels).map(|x| x.to_string()).collect::<Vec<_>>().join(" ")
     }
 
     /// One line: rays gates nyquist-bits splits skip-between-rays skip-along-ray centring wrap, then mask:velocity-bits for each gate.

@@ -1,6 +1,7 @@
 //! oracle make SEED COUNT MOST   print COUNT small sweeps of at most MOST gates, one a line
 //! oracle answer                 read sweeps, one a line; print the Rust's answer to each, one a line
 //! oracle counts                 the same with no question put: the counts that `dealias_sweep` gives, or `error`
+//! oracle map                    read sweeps, one a line; print the number of the first of questions 1 to 8 that gets a no, or 0, regions and the Rust's labels
 //! oracle calls                  read recorded calls, one a line; print the lines of both entries
 //! oracle trace                  read one sweep; print limits, labels, records, merges and uncentred counts
 //! oracle time RAYS GATES ROUGHNESS REPS   time `dealias_region_based` on a made weather sweep
@@ -19,11 +20,12 @@ fn main() {
                 writeln!(out, "{}", make::small(number(1) * 1_000_003 + k, number(3)).line()).unwrap();
             }
         }
-        Some(what @ ("answer" | "counts")) => {
+        Some(what @ ("answer" | "counts" | "map")) => {
             for line in std::io::stdin().lock().lines() {
                 let line = line.unwrap();
                 let text = match Sweep::parse(&line) {
                     Some(s) if what == "answer" => s.answer().line(),
+                    Some(s) if what == "map" => s.map_line(),
                     Some(s) => match s.counts_or_none() {
                         Some(counts) => counts.iter().map(|c| c.to_string()).collect::<Vec<_>>().join(" "),
                         None => "error".into(),
@@ -74,7 +76,7 @@ fn main() {
             writeln!(out, "rays {} gates {} regions {} merges {} seconds {:.4}", s.rays, s.gates, t.regions, t.merges, best).unwrap();
         }
         _ => {
-            eprintln!("usage: oracle make SEED COUNT MOST | answer | calls | counts | trace | time RAYS GATES ROUGHNESS REPS");
+            eprintln!("usage: oracle make SEED COUNT MOST | answer | calls | counts | map | trace | time RAYS GATES ROUGHNESS REPS");
             std::process::exit(2);
         }
     }

@@ -2,6 +2,7 @@
 ghost use mathlib.Core.Path.{_≡_};
 ghost use Rattle.sweep.specs.Call.{call, memoryOf, answerBy};
 ghost use Rattle.sweep.specs.Entry.{sweepOf};
+ghost use Rattle.map.specs.Map.{callMap, mapMemoryOf, mapAnswerBy};
 ghost use Rattle.sweep.specs.Velocity.{callVelocity, counted, velocityAnswerBy};
 
 // A sweep's fold counts, with the numbers of regions and of merges.
@@ -39,6 +40,43 @@ pub extern "C" fn jivakkol_dealias_sweep(
         wrap: rays_wrap_around,
     };
     sweep::entry::dealias_sweep(o, velocity, valid, folds, pair, work, work_f64)
+}
+
+// A sweep's region map: the label of each gate, with the number of regions.
+#[no_mangle]
+pub extern "C" fn jivakkol_region_map(
+    rays: u32,
+    gates: u32,
+    nyquist: f32,
+    interval_splits: u32,
+    skip_between_rays: u32,
+    skip_along_ray: u32,
+    centered: u32,
+    rays_wrap_around: u32,
+    velocity: &[f32],
+    valid: &[u8],
+    labels: &mut [u32],
+    regions: &mut [u32],
+    work: &mut [u32],
+    work_f64: &mut [f64],
+) -> u32
+    ensures { λ r. ⌜ (
+        let s = sweepOf rays gates nyquist «interval_splits» «skip_between_rays» «skip_along_ray» centered «rays_wrap_around» (now (velocity .entry)) (now (valid .entry)) in
+        let m = mapMemoryOf (now (labels .entry)) (now (regions .entry)) (now (work .entry)) (now («work_f64» .entry)) in
+        mapAnswerBy r (now (labels .exit)) (now (regions .exit)) (now (work .exit)) (now («work_f64» .exit)) ≡ callMap s m
+        ) ⌝ }
+{
+    let o = network::options::Options {
+        rays: rays,
+        gates: gates,
+        nyquist: nyquist,
+        splits: interval_splits,
+        skip_between_rays: skip_between_rays,
+        skip_along_ray: skip_along_ray,
+        centred: centered,
+        wrap: rays_wrap_around,
+    };
+    map::map::region_map(o, velocity, valid, labels, regions, work, work_f64)
 }
 
 // Unfolded velocities from fold counts.

@@ -126,13 +126,7 @@ pub fn region_map(
         ) ⌝ }
 {
     let n = sweep::questions::gates_in(o.rays, o.gates);
-    let lent = room_of(
-        n,
-        labels.len(),
-        regions.len(),
-        words.len(),
-        floats.len(),
-    );
+    let lent = room_of(n, labels.len(), regions.len(), words.len(), floats.len());
     match sweep::entry::plan_sweep(o, velocity, valid, lent) {
         sweep::entry::Planning::Limits(p) => {
             draw(o, p, velocity, valid, labels, regions, words, floats)

@@ -51,9 +51,11 @@ limits-few-requires c κs = search needs
 returns-2 : tie.Need-returns-2
 returns-2 c =
     let r = c .before .before .plan-of in
-    let s = at-1 (c .before .before .before) in
-    (plan-many (sweepAt s) (r .result) (r .ensures) (s .args .lent) (seven-yes (c .before .before .before)) (answer-no (c .before .limits-few .ensures) (c .if2 .taken))
-    ∙ ap (λ (p : Plan). planningBy (firstNo (eight (sweepAt s) (s .args .lent))) p) (r .ensures), λ p e. absurd (missed-no-plan _ p e))
+    let s = at-1 (c .before .before .before) in (
+      plan-many (sweepAt s) (r .result) (r .ensures) (s .args .lent) (seven-yes (c .before .before .before)) (answer-no (c .before .limits-few .ensures) (c .if2 .taken))
+          ∙ ap (λ (p : Plan). planningBy (firstNo (eight (sweepAt s) (s .args .lent))) p) (r .ensures),
+      λ p e. absurd (missed-no-plan _ p e),
+    )
 
 -- the plan that is given
 fit : (c : tie.Else2) → Fit (at-1 (c .before .before .before) .args .o) (c .before .before .plan-of .result)
@@ -68,10 +70,11 @@ fit c =
 returns-3 : tie.Need-returns-3
 returns-3 c =
     let r = c .before .before .plan-of in
-    let s = at-1 (c .before .before .before) in
-    (plan-given (sweepAt s) (r .result) (r .ensures) (s .args .lent) (seven-yes (c .before .before .before)) (few-yes c)
-    ∙ ap (λ (p : Plan). planningBy (firstNo (eight (sweepAt s) (s .args .lent))) p) (r .ensures),
-    λ p e. subst (Fit (s .args .o)) (same-plan (r .result) p e) (fit c))
+    let s = at-1 (c .before .before .before) in (
+      plan-given (sweepAt s) (r .result) (r .ensures) (s .args .lent) (seven-yes (c .before .before .before)) (few-yes c)
+          ∙ ap (λ (p : Plan). planningBy (firstNo (eight (sweepAt s) (s .args .lent))) p) (r .ensures),
+      λ p e. subst (Fit (s .args .o)) (same-plan (r .result) p e) (fit c),
+    )
 
 pub plan-sweep-spec : {M : Type 1} → statement M
 plan-sweep-spec =
