@@ -1,9 +1,10 @@
-/* The exported entries of Jivakkol: fold counts of a radar sweep, and its unfolded velocities.
+/* The exported entries of Jivakkol: fold counts of a radar sweep, its region map, and its unfolded velocities.
  *
  * Every slice is a pointer and a length. What a host must see to: no slice that a call writes overlaps another that it is given; memory is
  * initialised, and no other thread uses it while the call lasts (calls on different memory may run at once); the thread has about 80 KB of stack
  * left; the processor rounds to nearest and does not flush subnormals.
- * For each input the answer and all memory lent are what crates/sweep/specs/Call.antt (`call`) and Velocity.antt (`callVelocity`) say.
+ * For each input the answer and all memory lent are what crates/sweep/specs/Call.antt (`call`), crates/map/specs/Map.antt (`callMap`) and
+ * crates/sweep/specs/Velocity.antt (`callVelocity`) say.
  */
 #ifndef JIVAKKOL_H
 #define JIVAKKOL_H
@@ -34,6 +35,23 @@ uint32_t jivakkol_dealias_sweep(
     uint32_t centered, uint32_t rays_wrap_around,
     const float *velocity, size_t velocity_len, const uint8_t *valid, size_t valid_len,
     int32_t *folds, size_t folds_len, uint32_t *pair, size_t pair_len,
+    uint32_t *work, size_t work_len, double *work_f64, size_t work_f64_len);
+
+/* The region map: the label of each gate, 0 where it has none; regions gets the number of regions.
+ *
+ * Two gates share a label other than 0 exactly if a path of valid neighbours along and across rays, all inside one interval between
+ * limits, joins them; the first ray does not adjoin the last here. Labels are 1 to the number of regions, interval by interval, and in an
+ * interval by first gate. The sweep entry's looks, merges and counts speak of these regions.
+ * labels has rays * gates elements, regions has 1; all else is as for jivakkol_dealias_sweep, and options that labels do not depend on
+ * (skips, centering, wrap) must be in their ranges too.
+ * Answers 0, or the number of the first of questions 1 to 8 that got a no, with everything lent unchanged; 9 is not asked.
+ * After 0 the asked words of work memory are zero and any further ones unchanged. */
+uint32_t jivakkol_region_map(
+    uint32_t rays, uint32_t gates, float nyquist,
+    uint32_t interval_splits, uint32_t skip_between_rays, uint32_t skip_along_ray,
+    uint32_t centered, uint32_t rays_wrap_around,
+    const float *velocity, size_t velocity_len, const uint8_t *valid, size_t valid_len,
+    uint32_t *labels, size_t labels_len, uint32_t *regions, size_t regions_len,
     uint32_t *work, size_t work_len, double *work_f64, size_t work_f64_len);
 
 /* velocity + folds * 2 * nyquist at each valid gate, 0 at a masked one.
