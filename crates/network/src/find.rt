@@ -33,7 +33,7 @@ fn how_many(number: i64) -> usize
 }
 
 // The limits of a plan at the front of `out`, and how many they are.
-fn limits(o: crate::options::Options, p: arithmetic::intervals::Plan, out: &mut [f64]) -> usize
+pub fn limits(o: crate::options::Options, p: arithmetic::intervals::Plan, out: &mut [f64]) -> usize
     requires { ⌜ Planned o p ⌝ }
     requires { ⌜ 10000 ≤ length (now out) ⌝ }
     ensures { λ r. ⌜ r ≡ atLeast0 (p .number) ⌝ }

@@ -1,13 +1,17 @@
-// The stages of a sweep call, exported one by one so that bench/ can time them. Each is a call of the function that the entry uses, and asks
-// of its caller what that function asks, and promises what it promises: bench/ gets there by the stages before, on sweeps that the entry accepts.
+// The stages of a sweep call, exported one by one so that bench/ can time them and tests/peers can look at them. Each is a call of the functions
+// that the entry uses, and asks of its caller what they ask, and promises what they promise: callers get there by the stages before, on sweeps that
+// the entry accepts.
 ghost use mathlib.Core.Path.{_≡_};
 ghost use mathlib.Core.List.{List, _++_};
 ghost use Prim.Native.Nat.{_+_, _*_, _≤_};
 ghost use lib.IntN.{pos};
 ghost use lib.ListN.{length, replicate};
 ghost use lib.Ieee.{Float};
+ghost use lib.Dec.{T};
 ghost use Rattle.lists.specs.Inside.Seg.{seg, put, Disjoint};
-ghost use Rattle.lists.specs.Seq.{tabulate};
+ghost use Rattle.lists.specs.Seq.{tabulate, all};
+ghost use Rattle.arithmetic.specs.Inside.Asked.{Asked, front};
+ghost use Rattle.arithmetic.specs.Intervals.{velocityInRange};
 ghost use Rattle.arithmetic.specs.Rounding.{real};
 ghost use Rattle.arithmetic.specs.Intervals as I;
 ghost use Rattle.labels.specs.Regions.{regions};
@@ -79,6 +83,35 @@ pub extern "C" fn stage_range(velocity: &[f32], valid: &[u8]) -> u32
         }
         arithmetic::intervals::Extremes::NoneValid => 0,
     }
+}
+
+// The interval limits of a sweep, at the front of `out`: how many there are.
+#[no_mangle]
+pub extern "C" fn stage_limits(
+    nyquist: f32,
+    splits: u32,
+    velocity: &[f32],
+    valid: &[u8],
+    out: &mut [f64],
+) -> usize
+    requires { ⌜ Asked nyquist splits × T (all velocityInRange (I.valid (now velocity) (now valid))) ⌝ }
+    requires { ⌜ (length (now valid) ≡ length (now velocity)) × (10000 ≤ length (now out)) ⌝ }
+    requires { ⌜ I.atLeast0 (I.numberFor nyquist splits (I.range (I.valid (now velocity) (now valid)))) ≤ 10000 ⌝ }
+    ensures { λ r. ⌜ r ≡ I.atLeast0 (I.numberFor nyquist splits (I.range (I.valid (now (velocity .entry)) (now (valid .entry))))) ⌝ }
+    ensures { λ _. ⌜ now (out .exit) ≡ front (I.limitsFor nyquist splits (I.range (I.valid (now (velocity .entry)) (now (valid .entry))))) (now (out .entry)) ⌝ }
+{
+    let o = network::options::Options {
+        rays: 0,
+        gates: 0,
+        nyquist: nyquist,
+        splits: splits,
+        skip_between_rays: 0,
+        skip_along_ray: 0,
+        centred: 0,
+        wrap: 0,
+    };
+    let p = sweep::entry::plan_of(o, velocity, valid);
+    network::find::limits(o, p, out)
 }
 
 // Labels.

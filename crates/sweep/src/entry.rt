@@ -24,7 +24,7 @@ pub enum Planning {
 }
 
 // The adds and the number of limits of a sweep.
-fn plan_of(
+pub fn plan_of(
     o: network::options::Options,
     velocity: &[f32],
     valid: &[u8],
