@@ -1,14 +1,16 @@
 """Makes sweeps of up to 40 x 40 gates and compares the library's answer number, counts, regions, merges and unfolded velocities with those
-of method.py. Prints versions and how many sweeps did what; exits 1 if any sweep differs. usage: compare.py LIBRARY.so COUNT (see run)"""
+of method.py, its limits bit by bit with numpy.linspace's, and its region map interval by interval with scipy.ndimage.label's areas. Prints
+versions and how many sweeps did what; exits 1 if any sweep differs. usage: compare.py LIBRARY.so STAGES.so COUNT (see run)"""
 import platform
 import struct
 import sys
 
 import numpy as np
 import scipy
+from scipy import ndimage
 
-from library import Library
-from method import Sweep, Way, dealias, unfold
+from library import Library, Stages
+from method import Sweep, Way, dealias, limits_of, unfold
 
 MOST = 40
 
@@ -98,16 +100,42 @@ def difference(library, sweep, expected):
     return None
 
 
-def main(path, count):
+def map_difference(library, stages, sweep, seen):
+    """What differs between the library's limits and region map and those of NumPy and SciPy, or nothing; counts what was compared."""
+    limits, (number, labels, regions) = limits_of(sweep, Way()), library.map(sweep)
+    if limits is None:
+        return None if number == 8 and not labels.any() and regions == 0 else f"map: answer {number}, expected 8"
+    if number != 0:
+        return f"map: answer {number}, expected 0"
+    if stages.limits(sweep).tobytes() != limits.tobytes():
+        return "limits"
+    velocity, before, in_none = sweep.velocity.astype(np.float64), 0, np.ones(labels.shape, bool)
+    for lower, upper in zip(limits[:-1], limits[1:]):
+        inside = sweep.valid & (lower <= velocity) & (velocity < upper)
+        if not inside.any():
+            continue
+        areas, found = ndimage.label(inside)
+        if not np.array_equal(labels[inside], areas[inside] + before):
+            return f"map: labels from {lower} to {upper}"
+        before, in_none = before + found, in_none & ~inside
+        seen["intervals with gates"] += 1
+    seen["maps"] += 1
+    seen["limits"] += limits.size
+    seen["labelled gates"] += int(np.count_nonzero(labels))
+    return None if before == regions and not labels[in_none].any() else "map: number of regions, or a gate in no interval"
+
+
+def main(path, stages, count):
     print(f"NumPy {np.__version__}, SciPy {scipy.__version__}, Python {platform.python_version()}")
-    library, differ, tipped = Library(path), 0, 0
+    library, stages, differ, tipped = Library(path), Stages(stages), 0, 0
+    mapped = dict.fromkeys(["maps", "limits", "intervals with gates", "labelled gates"], 0)
     families, regions, merges = dict.fromkeys([*FAMILIES, "tipping sums"], 0), 0, 0
     seen = dict.fromkeys(["accepted", "refused by 8", "refused by 9", "two regions or more", "a count other than 0", "an offset other than 0"], 0)
     for seed in range(count):
         name, sweep = make(seed)
         with np.errstate(invalid="ignore"):  # masked gates hold NaN and infinities
             expected = dealias(sweep)
-            wrong = difference(library, sweep, expected)
+            wrong = difference(library, sweep, expected) or map_difference(library, stages, sweep, mapped)
         if wrong:
             differ += 1
             print(f"DIFFERENT, seed {seed}, {name}: {wrong}\n{line(sweep)}")
@@ -122,10 +150,11 @@ def main(path, count):
             tipped += not np.array_equal(expected.counts, dealias(sweep, Way(summed=np.add.reduceat)).counts)
     print("made:", ", ".join(f"{name} {number}" for name, number in families.items()))
     print("of them:", ", ".join(f"{name} {number}" for name, number in seen.items()))
+    print("limits and region maps compared:", ", ".join(f"{name} {number}" for name, number in mapped.items()))
     print(f"regions {regions}, merges {merges}; tipping sums that get other counts by add.reduceat {tipped}")
     print(f"{count} sweeps, {differ} differ")
     return 1 if differ else 0
 
 
 if __name__ == "__main__":
-    sys.exit(main(sys.argv[1], int(sys.argv[2])))
+    sys.exit(main(*sys.argv[1:3], int(sys.argv[3])))

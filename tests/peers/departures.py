@@ -1,6 +1,6 @@
 """Runs the rows of docs/DIFFERENCES.md that set the scope document's arithmetic against Py-ART's: each row's sweep through the library, through
 method.py in the scope document's way and in Py-ART's, and through the Rust if the folder of tests/oracle/build is given. Exits 1 where one of
-them gives other counts than the page says. usage: departures.py LIBRARY.so [ORACLE] (see run)
+them gives other counts than the page says. usage: departures.py LIBRARY.so STAGES.so [ORACLE] (see run)
 
 Py-ART itself is not run. Its way depends on how NumPy promotes types, which changed with NumPy 2. Both ways are written out here in explicit
 types, so that neither depends on the NumPy at hand, and `promotions` says which of them is what that NumPy does by itself.
@@ -111,7 +111,7 @@ def checks(library, oracle):
     yield "unfolded 0.1 by one fold at Nyquist 10, in f32", (tenth + np.float32(1) * np.float32(2) * np.float32(10)).item(), 20.100000381469727
 
 
-def main(path, oracle=None):
+def main(path, _, oracle=None):
     print(f"NumPy {np.__version__}, SciPy {scipy.__version__}{'' if oracle else '; the Rust is not run'}")
     for what, so in promotions().items():
         print(f"{what}: {'yes' if so else 'no'}")

@@ -1,4 +1,5 @@
-"""The two exported entries, called by ctypes from a shared object of the static library, as include/jivakkol.h declares them."""
+"""The exported entries, called by ctypes from a shared object of the static library, as include/jivakkol.h declares them; and of the stages of
+crates/stages the one that writes a sweep's limits."""
 import ctypes
 
 import numpy as np
@@ -14,20 +15,30 @@ def slices(*arrays):
 class Library:
     def __init__(self, path):
         shared = ctypes.CDLL(path)
-        self.dealias_sweep, self.unfold_velocity = shared.jivakkol_dealias_sweep, shared.jivakkol_unfold_velocity
-        self.dealias_sweep.argtypes = [NUMBER] * 2 + [REAL] + [NUMBER] * 5 + [POINTER, LENGTH] * 6
+        self.dealias_sweep, self.region_map = shared.jivakkol_dealias_sweep, shared.jivakkol_region_map
+        self.unfold_velocity = shared.jivakkol_unfold_velocity
+        self.dealias_sweep.argtypes = self.region_map.argtypes = [NUMBER] * 2 + [REAL] + [NUMBER] * 5 + [POINTER, LENGTH] * 6
         self.unfold_velocity.argtypes = [NUMBER] * 2 + [REAL] + [POINTER, LENGTH] * 4
-        self.dealias_sweep.restype = self.unfold_velocity.restype = NUMBER
+        self.dealias_sweep.restype = self.region_map.restype = self.unfold_velocity.restype = NUMBER
+
+    def on_sweep(self, entry, sweep, *written):
+        """The answer's number of an entry that takes a sweep, its options, slices to write and work memory."""
+        velocity, valid = flat(sweep)
+        words, floats = np.zeros(96 * velocity.size + 64, np.uint32), np.zeros(16 * velocity.size + 16, np.float64)
+        return entry(*sweep.velocity.shape, sweep.nyquist, sweep.splits, sweep.skip_rays, sweep.skip_gates, sweep.centred, sweep.wrap,
+                     *slices(velocity, valid, *written, words, floats))
 
     def dealias(self, sweep):
         """The answer's number, the counts as rays x gates, the regions and the merges."""
-        velocity, valid = flat(sweep)
-        counts, pair = np.zeros(velocity.size, np.int32), np.zeros(2, np.uint32)
-        words, floats = np.zeros(96 * velocity.size + 64, np.uint32), np.zeros(16 * velocity.size + 16, np.float64)
-        number = self.dealias_sweep(
-            *sweep.velocity.shape, sweep.nyquist, sweep.splits, sweep.skip_rays, sweep.skip_gates, sweep.centred, sweep.wrap,
-            *slices(velocity, valid, counts, pair, words, floats))
-        return number, counts.reshape(sweep.velocity.shape), int(pair[0]), int(pair[1])
+        counts, pair = np.zeros(sweep.velocity.shape, np.int32), np.zeros(2, np.uint32)
+        number = self.on_sweep(self.dealias_sweep, sweep, counts, pair)
+        return number, counts, int(pair[0]), int(pair[1])
+
+    def map(self, sweep):
+        """The answer's number, the labels as rays x gates, and the number of regions."""
+        labels, regions = np.zeros(sweep.velocity.shape, np.uint32), np.zeros(1, np.uint32)
+        number = self.on_sweep(self.region_map, sweep, labels, regions)
+        return number, labels, int(regions[0])
 
     def unfold(self, sweep, counts):
         """The answer's number and the unfolded velocities as rays x gates."""
@@ -35,6 +46,18 @@ class Library:
         folds, unfolded = np.ascontiguousarray(counts.ravel(), np.int32), np.zeros(velocity.size, np.float64)
         number = self.unfold_velocity(*sweep.velocity.shape, sweep.nyquist, *slices(velocity, valid, folds, unfolded))
         return number, unfolded.reshape(sweep.velocity.shape)
+
+
+class Stages:
+    """The limits of a sweep that passes questions 1 to 8."""
+    def __init__(self, path):
+        self.stage_limits = ctypes.CDLL(path).stage_limits
+        self.stage_limits.argtypes = [REAL, NUMBER] + [POINTER, LENGTH] * 3
+        self.stage_limits.restype = LENGTH
+
+    def limits(self, sweep):
+        out = np.zeros(10_000)
+        return out[:self.stage_limits(sweep.nyquist, sweep.splits, *slices(*flat(sweep), out))]
 
 
 def flat(sweep):
