@@ -17,7 +17,7 @@ use Rattle.labels.proofs.FoldLaws.{sizes-below}
 use Rattle.labels.proofs.ForestLaws.{some-pred}
 use Rattle.labels.proofs.JointLaws.{joint-own, joint-some}
 use Rattle.labels.proofs.RankLaws.{rank-le, rank-mono}
-use Rattle.labels.proofs.Ways.{Lies, Banded, banded, in-sweep, lies-band}
+use Rattle.labels.proofs.Ways.{Lies, banded, in-sweep, lies-band}
 
 less : (m n : ℕ) → m ≤ n → (m ≡ n → ⊥) → m < n
 less m n h e = ⊎-elim (λ p. p) (λ p. absurd (e (omega arith))) (lt-or-le m n)

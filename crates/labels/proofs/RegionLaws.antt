@@ -4,7 +4,7 @@ use native.Mathlib.Omega.{arith}
 use mathlib.Core.Path.{_≡_, refl, sym}
 use mathlib.Core.Logic.{⊎-elim}
 use mathlib.Core.List.{List}
-use lib.Ieee.{Float, nan}
+use lib.Ieee.{Float}
 use lib.ListN.{length, getD, List·getD-eq-default}
 use Rattle.arithmetic.specs.Inside.Asked.{Rising}
 use Rattle.lists.proofs.SegLaws.{lt-or-le}
@@ -13,8 +13,6 @@ use Rattle.labels.proofs.RegionFacts.{regions-are}
 use Rattle.labels.proofs.BlockLaws.{regions-long}
 use Rattle.labels.proofs.Closed.{label-none, label-pos, same-label-joined, joined-same-label}
 use Rattle.labels.proofs.Ways.{Beside, Way, Lies, banded, band-lies, lies-band, joined-way, beside-joined}
-use Rattle.labels.proofs.OwnLaws.{within-valid}
-use Rattle.labels.specs.Inside.Bands.{window}
 
 -- one label for each gate, for any limits
 pub labels-long : (gates : ℕ) (vel : List Float) (mask : List ℕ) (limits : List Float) → length ((regions gates vel mask limits) .labels) ≡ length mask
@@ -52,12 +50,6 @@ module _ (gates : ℕ) (vel : List Float) (mask : List ℕ) (limits : List Float
       go (suc j) e =
           let q = band-lies gates vel mask limits (banded vel mask limits rising .iv) (banded vel mask limits rising .are) i j e in
           (j, q .0, q .1)
-
-  -- and is valid
-  pub labelled-valid : (i : ℕ) → 0 < getD ((regions gates vel mask limits) .labels) i 0 → getD mask i 0 ≡ 1
-  labelled-valid i p =
-      let q = labelled-lies i p in
-      within-valid (window limits (q .0)) (getD vel i nan) (getD mask i 0) (q .2)
 
   -- gates of one label, not 0, are joined by a way of neighbouring gates that all lie in one interval
   pub one-label-joined : (i h : ℕ) → 0 < getD ((regions gates vel mask limits) .labels) i 0 → getD ((regions gates vel mask limits) .labels) h 0 ≡ getD ((regions gates vel mask limits) .labels) i 0

@@ -1,5 +1,5 @@
 -- Questions 1 to 7: what each yes gives, what a yes to all seven gives, and question 8 after them. Assumes nothing.
-use Prim.Native.Nat.{ℕ, zero, suc, _+_, _*_, _≤_}
+use Prim.Native.Nat.{ℕ, _+_, _*_, _≤_}
 use native.Mathlib.Omega.{arith}
 use native.Mathlib.Nat.{mul-le-mul}
 use mathlib.Core.Path.{_≡_, refl, sym, ap, _∙_}
@@ -7,7 +7,7 @@ use mathlib.Core.Bool.{Bool, true, false, not, _&&_}
 use mathlib.Core.List.{List, [], _∷_}
 use mathlib.Core.Option.{Option, none, some}
 use lib.Dec.{T, eqb, leb}
-use lib.ListN.{length, getD}
+use lib.ListN.{length}
 use lib.IntN.{pos, negsuc}
 use lib.Ieee.{Float, fin, le}
 use borrow.Author.Tests.{leb-true, eqb-true, not-true, not-false}
@@ -29,7 +29,6 @@ use Rattle.sweep.specs.Questions.{
   floatsFor,
   sizeInRange,
   lengthsFit,
-  maskIsBits,
   workSuffices,
   optionsInRange,
   velocitiesInRange,
