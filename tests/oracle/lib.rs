@@ -255,13 +255,13 @@ impl Sweep {
     }
 
     /// One line for the region map: the number; where it is 0 also the regions and the labels.
-    pub fn map_line(&self) -> String {
-        let number = self.refused_before_merging();
+    pub fn map_line(&self, lent: Option<Lent>) -> String {
+        let number = self.refused(lent);
         if number != 0 {
             return number.to_string();
         }
         let (labels, regions) = self.region_map();
-        std::iter::once(0).chain([regions]).chain(labels).map(|x| x.to_string()).collect::<Vec<_>>().join(" ")
+        [0, regions].into_iter().chain(labels).map(|x| x.to_string()).collect::<Vec<_>>().join(" ")
     }
 
     /// One line: rays gates nyquist-bits splits skip-between-rays skip-along-ray centring wrap, then mask:velocity-bits for each gate.
@@ -324,24 +324,27 @@ impl Call {
         Some(Call { lent, more, sweep: Sweep::parse(w.next()?)? })
     }
 
-    /// The line of the sweep entry: the number, where it is 0 regions, merges and counts, and whether the work memory asked for is cleared.
-    /// Where it is 0, the line of the second entry too: the number, and where that is 0 the bits of each unfolded velocity.
+    /// The line of the sweep entry: the number, where it is 0 regions, merges and counts, and whether the work memory asked for is cleared. The line
+    /// of the region map, which is lent labels as the sweep entry counts: likewise, with regions and labels. Where the first number is 0, the
+    /// line of the second entry: the number, and where that is 0 the bits of each unfolded velocity.
     pub fn lines(&self) -> Vec<String> {
         let a = self.sweep.answer_lent(Some(self.lent));
-        let words = |numbers: Vec<String>| numbers.join(" ");
+        let left = |cleared: bool| if cleared { "cleared" } else { "kept" };
         let mut first = vec![a.number.to_string()];
         if a.number == 0 {
             first.extend([a.regions.to_string(), a.merges.to_string()]);
             first.extend(a.counts.iter().map(|c| c.to_string()));
         }
-        first.push((if a.number == 0 || a.number == 9 { "cleared" } else { "kept" }).into());
+        first.push(left(a.number == 0 || a.number == 9).into());
+        let map = self.sweep.map_line(Some(self.lent));
+        let mapped = format!("map {map} {}", left(map.starts_with('0')));
         if a.number != 0 {
-            return vec![words(first)];
+            return vec![first.join(" "), mapped];
         }
         let counts: Vec<i32> = a.counts.iter().map(|c| c + self.more).collect();
         let (number, unfolded) = self.sweep.unfold(&counts);
         let mut second = vec![number.to_string()];
         second.extend(unfolded.iter().map(|x| format!("{:016x}", x.to_bits())));
-        vec![words(first), words(second)]
+        vec![first.join(" "), mapped, second.join(" ")]
     }
 }

@@ -2,7 +2,7 @@
 //! oracle answer                 read sweeps, one a line; print the Rust's answer to each, one a line
 //! oracle counts                 the same with no question put: the counts that `dealias_sweep` gives, or `error`
 //! oracle map                    read sweeps, one a line; print the number of the first of questions 1 to 8 that gets a no, or 0, regions and the Rust's labels
-//! oracle calls                  read recorded calls, one a line; print the lines of the sweep entry and of the second entry
+//! oracle calls                  read recorded calls, one a line; print the lines of the entries
 //! oracle trace                  read one sweep; print limits, labels, records, merges and uncentred counts
 //! oracle time RAYS GATES ROUGHNESS REPS   time `dealias_region_based` on a made weather sweep
 
@@ -25,7 +25,7 @@ fn main() {
                 let line = line.unwrap();
                 let text = match Sweep::parse(&line) {
                     Some(s) if what == "answer" => s.answer().line(),
-                    Some(s) if what == "map" => s.map_line(),
+                    Some(s) if what == "map" => s.map_line(None),
                     Some(s) => match s.counts_or_none() {
                         Some(counts) => counts.iter().map(|c| c.to_string()).collect::<Vec<_>>().join(" "),
                         None => "error".into(),

@@ -48,10 +48,10 @@ clearedWords number n = cond (clearsWork number) (wordsFor n) 0
 unfoldable pub clearedFloats : ℕ → ℕ → ℕ
 clearedFloats number n = cond (clearsWork number) (floatsFor n) 0
 
--- what a call on n gates left, by its answer's number: a refusal leaves counts and pair as they were
-unfoldable pub leftBy : ℕ → ℕ → List ℤ → List ℕ → List ℕ → List Float → Left
-leftBy number n cs p w d =
+-- what a call on n gates left, by its answer's number; kept says whether what it writes beside the work memory still holds the pattern, as a refusal leaves it
+unfoldable pub leftBy : ℕ → ℕ → Bool → List ℕ → List Float → Left
+leftBy number n kept w d =
     cond
-    (wordsLeft (clearedWords number n) w && floatsLeft (clearedFloats number n) d && (eqb number 0 || (countsKept cs && wordsLeft 0 p)))
+    (wordsLeft (clearedWords number n) w && floatsLeft (clearedFloats number n) d && (eqb number 0 || kept))
     (cond (clearsWork number) Cleared Kept)
     Wrong

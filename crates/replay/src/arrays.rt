@@ -49,6 +49,18 @@ pub fn pair() -> [u32; 4]
     [WORD; 4]
 }
 
+pub fn labels() -> [u32; 136]
+    ensures { λ r. ⌜ 136 ≡ length r ⌝ }
+{
+    [WORD; 136]
+}
+
+pub fn regions() -> [u32; 4]
+    ensures { λ r. ⌜ 4 ≡ length r ⌝ }
+{
+    [WORD; 4]
+}
+
 // 96 words a gate and 64, and 64 more.
 pub fn words() -> [u32; 12416]
     ensures { λ r. ⌜ 12416 ≡ length r ⌝ }

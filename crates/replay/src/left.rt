@@ -1,5 +1,6 @@
 // What a call left of the memory lent to it, which held the pattern before: 7 in each place.
 ghost use mathlib.Core.Path.{_≡_};
+ghost use mathlib.Core.Bool.{_&&_};
 ghost use Prim.Native.Nat.{_≤_};
 ghost use Rattle.replay.specs.Left.{dueWord, dueFloat, wordsLeft, floatsLeft, countsKept, clearsWork, clearedWords, clearedFloats, leftBy};
 use crate::arrays;
@@ -108,17 +109,30 @@ fn cleared_floats(number: u32, n: usize) -> usize
     0
 }
 
-// What a call on n gates left, by its answer's number.
-pub fn left_by(
-    number: u32,
-    n: usize,
-    counts: &[i32],
-    pair: &[u32],
-    words: &[u32],
-    floats: &[f64],
-) -> Left
+// Whether the counts and the pair, which a sweep call writes, still hold the pattern.
+pub fn folds_kept(counts: &[i32], pair: &[u32]) -> bool
+    ensures { λ r. ⌜ r ≡ (countsKept (now (counts .entry)) && wordsLeft 0 (now (pair .entry))) ⌝ }
+{
+    if !counts_kept(counts) {
+        return false;
+    }
+    words_left(pair, 0)
+}
+
+// The same of the labels and the number of regions, which a region map writes.
+pub fn map_kept(labels: &[u32], regions: &[u32]) -> bool
+    ensures { λ r. ⌜ r ≡ (wordsLeft 0 (now (labels .entry)) && wordsLeft 0 (now (regions .entry))) ⌝ }
+{
+    if !words_left(labels, 0) {
+        return false;
+    }
+    words_left(regions, 0)
+}
+
+// What a call on n gates left, by its answer's number and by whether what it writes beside the work memory is as before.
+pub fn left_by(number: u32, n: usize, kept: bool, words: &[u32], floats: &[f64]) -> Left
     requires { ⌜ n ≤ 128 ⌝ }
-    ensures { λ r. ⌜ r ≡ leftBy number n (now (counts .entry)) (now (pair .entry)) (now (words .entry)) (now (floats .entry)) ⌝ }
+    ensures { λ r. ⌜ r ≡ leftBy number n kept (now (words .entry)) (now (floats .entry)) ⌝ }
 {
     if !words_left(words, cleared_words(number, n)) {
         return Left::Wrong;
@@ -129,10 +143,7 @@ pub fn left_by(
     if number == 0 {
         return Left::Cleared;
     }
-    if !counts_kept(counts) {
-        return Left::Wrong;
-    }
-    if !words_left(pair, 0) {
+    if !kept {
         return Left::Wrong;
     }
     if number == 9 {

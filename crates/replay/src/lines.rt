@@ -1,4 +1,5 @@
 // The line of an answer: its number, where it is 0 the regions, the merges and the counts, in decimal, and what is left of the memory.
+// The line of a region map: the word map, the number, where it is 0 the regions and the labels, and what is left of the memory.
 // The line of unfolded velocities: the number, and where it is 0 the bits of each, in hexadecimal.
 ghost use mathlib.Core.Path.{_≡_};
 ghost use lib.IntN.{natAbs};
@@ -30,11 +31,11 @@ fn write_number(n: u32) {
     io::print_decimal(1, n as u64);
 }
 
-// The regions and the merges.
-fn write_pair(pair: &[u32]) {
+// Regions and merges, or labels.
+fn write_numbers(words: &[u32]) {
     let mut i = 0;
-    while i < pair.len() {
-        write_number(pair[i]);
+    while i < words.len() {
+        write_number(words[i]);
         i += 1;
     }
 }
@@ -67,8 +68,19 @@ fn write_left(left: Left) {
 pub fn write_answer(number: u32, pair: &[u32], counts: &[i32], left: Left) {
     io::print_decimal(1, number as u64);
     if number == 0 {
-        write_pair(pair);
+        write_numbers(pair);
         write_counts(counts);
+    }
+    write_left(left);
+}
+
+// The whole line of a region map.
+pub fn write_map(number: u32, regions: &[u32], labels: &[u32], left: Left) {
+    io::write_all(1, b"map ");
+    io::print_decimal(1, number as u64);
+    if number == 0 {
+        write_numbers(regions);
+        write_numbers(labels);
     }
     write_left(left);
 }

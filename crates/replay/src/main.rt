@@ -32,7 +32,76 @@ fn call_velocity(s: gates::Setting, velocity: &[f32], valid: &[u8], counts: &mut
     lines::write_velocities(number, &unfolded[..n]);
 }
 
-// Calls the sweep entry with a sweep and memory that holds the pattern, and writes its answer; where it is 0, calls the second entry.
+// Calls the region map with a sweep, and writes its answer.
+fn put_map(
+    s: gates::Setting,
+    velocity: &[f32],
+    valid: &[u8],
+    labels: &mut [u32],
+    regions: &mut [u32],
+    words: &mut [u32],
+    floats: &mut [f64],
+)
+    requires { ⌜ length (now velocity) ≤ 128 ⌝ }
+{
+    let number = jivakkol::exports::jivakkol_region_map(
+        s.rays,
+        s.gates,
+        s.nyquist,
+        s.splits,
+        s.skip_between_rays,
+        s.skip_along_ray,
+        s.centred,
+        s.wrap,
+        velocity,
+        valid,
+        labels,
+        regions,
+        words,
+        floats,
+    );
+    let kept = left::map_kept(labels, regions);
+    let left = left::left_by(number, velocity.len(), kept, words, floats);
+    lines::write_map(number, regions, labels, left);
+}
+
+// One less, and 0 of 0.
+fn one_less(k: u32) -> usize
+    ensures { λ r. ⌜ r ≤ k ⌝ }
+{
+    if k == 0 {
+        return 0;
+    }
+    (k - 1) as usize
+}
+
+// Lends as many labels as the record has counts, and for the number of regions one word less than it has for the pair.
+fn call_map(
+    s: gates::Setting,
+    velocity: &[f32],
+    valid: &[u8],
+    words: &mut [u32],
+    floats: &mut [f64],
+)
+    requires { ⌜ (length (now velocity) ≤ 128) × (held s ≡ true) ⌝ }
+{
+    let c = s.counts as usize;
+    let r = one_less(s.pair);
+    let mut labels = arrays::labels();
+    let mut regions = arrays::regions();
+    put_map(
+        s,
+        velocity,
+        valid,
+        &mut labels[..c],
+        &mut regions[..r],
+        words,
+        floats,
+    );
+}
+
+// Calls the sweep entry with a sweep and memory that holds the pattern, and writes its answer; then the region map, with the work memory as it
+// was left, and where the answer is 0 the second entry.
 fn call_sweep(
     s: gates::Setting,
     velocity: &[f32],
@@ -42,7 +111,7 @@ fn call_sweep(
     words: &mut [u32],
     floats: &mut [f64],
 )
-    requires { ⌜ length (now velocity) ≤ 128 ⌝ }
+    requires { ⌜ (length (now velocity) ≤ 128) × (held s ≡ true) ⌝ }
 {
     let number = jivakkol::exports::jivakkol_dealias_sweep(
         s.rays,
@@ -60,8 +129,10 @@ fn call_sweep(
         words,
         floats,
     );
-    let left = left::left_by(number, velocity.len(), counts, pair, words, floats);
+    let kept = left::folds_kept(counts, pair);
+    let left = left::left_by(number, velocity.len(), kept, words, floats);
     lines::write_answer(number, pair, counts, left);
+    call_map(s, velocity, valid, words, floats);
     if number == 0 {
         call_velocity(s, velocity, valid, counts);
     }

@@ -67,7 +67,7 @@ slice-aggregate-call-sweep-4 c =
     part (s .args .s .floats) 2080 (m .floats .result) (m .floats .ensures) (held-parts _ (s .pre .1) .floats)
 
 call-sweep-requires : tie.Need-call-sweep-requires
-call-sweep-requires c κs = c .before .before .before .before .before .before .before .before .before .before .before .before .before .before .pre .0
+call-sweep-requires c κs = c .before .before .before .before .before .before .before .before .before .before .before .before .before .before .pre
 
 returns : tie.Need-returns
 returns c = tt

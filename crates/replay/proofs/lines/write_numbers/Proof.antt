@@ -1,15 +1,15 @@
--- `replay::lines::write_pair` is safe and ends. The invariant: i is at most the number of words. Assumes nothing.
+-- `replay::lines::write_numbers` is safe and ends. The invariant: i is at most the number of words. Assumes nothing.
 use borrow.Author.Needs.{needs}
 use Prim.Native.Nat.{_-_, _≤_}
 use lib.ListN.{length}
-use Rattle.replay.proofs.lines.write_pair.Statement.{statement}
-use Rattle.replay.proofs.lines.write_pair.Tie as tie
+use Rattle.replay.proofs.lines.write_numbers.Statement.{statement}
+use Rattle.replay.proofs.lines.write_numbers.Tie as tie
 
 abbrev Inv-loop : tie.InvT-loop
-Inv-loop pair i₀ i = i ≤ length pair
+Inv-loop words i₀ i = i ≤ length words
 
 abbrev μ-loop : tie.MeasureT-loop
-μ-loop pair i₀ i = length pair - i
+μ-loop words i₀ i = length words - i
 
 loop-holds : tie.Need-loop-holds Inv-loop μ-loop
 loop-holds c = search needs
@@ -35,8 +35,8 @@ loop-again c = search needs
 returns : tie.Need-returns Inv-loop μ-loop
 returns c = search needs
 
-pub write-pair-spec : {M : Type 1} → statement M
-write-pair-spec =
+pub write-numbers-spec : {M : Type 1} → statement M
+write-numbers-spec =
     tie.close
     (tie.spec
     Inv-loop

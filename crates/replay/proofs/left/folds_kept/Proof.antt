@@ -1,0 +1,21 @@
+-- `replay::left::folds_kept` meets its contract. Assumes nothing.
+use mathlib.Core.Path.{refl, sym, _∙_}
+use borrow.Author.Needs.{needs}
+use borrow.Author.Tests.{not-true, not-false}
+use Rattle.replay.proofs.left.folds_kept.Statement.{statement}
+use Rattle.replay.proofs.left.folds_kept.Tie as tie
+
+counts-kept-requires : tie.Need-counts-kept-requires
+counts-kept-requires c κs = search needs
+
+returns : tie.Need-returns
+returns c = rw (sym (c .before .counts-kept .ensures) ∙ not-true _ (c .if1 .taken)) refl
+
+words-left-requires : tie.Need-words-left-requires
+words-left-requires c κs = search needs
+
+returns-2 : tie.Need-returns-2
+returns-2 c = c .words-left .ensures ∙ rw (sym (c .before .before .counts-kept .ensures) ∙ not-false _ (c .before .if1 .left)) refl
+
+pub folds-kept-spec : {M : Type 1} → statement M
+folds-kept-spec = tie.close (tie.spec counts-kept-requires returns words-left-requires returns-2)
