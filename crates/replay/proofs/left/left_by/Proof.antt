@@ -1,5 +1,5 @@
 -- `replay::left::left_by` meets its contract: each return by what was found so far. Assumes nothing.
-use mathlib.Core.Path.{_≡_, refl, sym, _∙_}
+use mathlib.Core.Path.{_≡_, refl}
 use Rattle.replay.specs.Left.{wordsLeft, floatsLeft, clearsWork, clearedWords, clearedFloats, leftBy}
 use mathlib.Core.Bool.{true, false}
 use Rattle.replay.proofs.LeftLaws.{words-are, floats-are}
