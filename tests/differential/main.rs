@@ -31,24 +31,17 @@ fn lent(r: &mut Rng, n: usize) -> Lent {
     }
 }
 
-fn call(s: &Sweep, l: &mut Lent) -> u32 {
-    unsafe {
-        jivakkol_dealias_sweep(
-            s.rays as u32, s.gates as u32, s.nyquist, s.splits, s.skip_between_rays, s.skip_along_ray, s.centred, s.wrap,
-            s.velocities.as_ptr(), s.velocities.len(), s.mask.as_ptr(), s.mask.len(), l.folds.as_mut_ptr(), l.folds.len(),
-            l.pair.as_mut_ptr(), l.pair.len(), l.words.as_mut_ptr(), l.words.len(), l.floats.as_mut_ptr(), l.floats.len(),
-        )
-    }
-}
-
-fn call_map(s: &Sweep, l: &mut Lent) -> u32 {
-    unsafe {
-        jivakkol_region_map(
-            s.rays as u32, s.gates as u32, s.nyquist, s.splits, s.skip_between_rays, s.skip_along_ray, s.centred, s.wrap,
-            s.velocities.as_ptr(), s.velocities.len(), s.mask.as_ptr(), s.mask.len(), l.labels.as_mut_ptr(), l.labels.len(),
-            l.regions.as_mut_ptr(), l.regions.len(), l.words.as_mut_ptr(), l.words.len(), l.floats.as_mut_ptr(), l.floats.len(),
-        )
-    }
+/// The call of an entry that takes a sweep, its options, two slices of `Lent` to write, and the work memory.
+macro_rules! on_sweep {
+    ($entry:ident, $s:ident, $l:ident, $one:ident, $two:ident) => {
+        unsafe {
+            $entry(
+                $s.rays as u32, $s.gates as u32, $s.nyquist, $s.splits, $s.skip_between_rays, $s.skip_along_ray, $s.centred, $s.wrap,
+                $s.velocities.as_ptr(), $s.velocities.len(), $s.mask.as_ptr(), $s.mask.len(), $l.$one.as_mut_ptr(), $l.$one.len(),
+                $l.$two.as_mut_ptr(), $l.$two.len(), $l.words.as_mut_ptr(), $l.words.len(), $l.floats.as_mut_ptr(), $l.floats.len(),
+            )
+        }
+    };
 }
 
 fn bits(d: &[f64]) -> Vec<u64> {
@@ -70,7 +63,7 @@ fn work_left(n: usize, clears: bool, before: &Lent, after: &Lent) -> Result<(), 
 /// The number that must come, and whether all that is lent is as it must be afterwards.
 fn compare(s: &Sweep, l: &mut Lent, expected: u32) -> Result<u32, String> {
     let before = l.clone();
-    let number = call(s, l);
+    let number = on_sweep!(jivakkol_dealias_sweep, s, l, folds, pair);
     if number != expected {
         return Err(format!("answer {number}, expected {expected}"));
     }
@@ -89,7 +82,7 @@ fn compare(s: &Sweep, l: &mut Lent, expected: u32) -> Result<u32, String> {
 /// The same of the region map, held to the Rust's own labels.
 fn compare_map(s: &Sweep, l: &mut Lent, expected: u32) -> Result<u32, String> {
     let before = l.clone();
-    let number = call_map(s, l);
+    let number = on_sweep!(jivakkol_region_map, s, l, labels, regions);
     if number != expected {
         return Err(format!("map: answer {number}, expected {expected}"));
     }

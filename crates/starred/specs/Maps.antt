@@ -27,7 +27,7 @@ two = rays 2 (pos 9 ∷ pos 9 ∷ negsuc 8 ∷ pos 9 ∷ negsuc 8 ∷ pos 9 ∷ 
 
 -- three rays, the middle one masked, the first and the last alike: wrap joins nothing
 abbrev three : Sweep
-three = rays 3 (pos 9 ∷ pos 9 ∷ pos 9 ∷ pos 9 ∷ pos 0 ∷ pos 0 ∷ pos 0 ∷ pos 0 ∷ pos 9 ∷ pos 9 ∷ pos 9 ∷ pos 9 ∷ []) (1 ∷ 1 ∷ 1 ∷ 1 ∷ 0 ∷ 0 ∷ 0 ∷ 0 ∷ 1 ∷ 1 ∷ 1 ∷ 1 ∷ [])
+three = rays 3 (replicate 4 (pos 9) ++ replicate 4 (pos 0) ++ replicate 4 (pos 9)) (replicate 4 1 ++ replicate 4 0 ++ replicate 4 1)
 
 -- one ray of Nyquist 1 and splits 1, which the sweep entry refuses with 9; a valid 10 at Nyquist 10, which lies in no interval
 abbrev one : ℤ → List ℤ → Sweep
