@@ -93,7 +93,7 @@ impl Sweep {
         self.velocities.iter().zip(&self.mask).filter(|(_, m)| **m == 1).map(|(v, _)| *v).collect()
     }
 
-    // The questions that both entries put, each by its number in the scope document.
+    // The questions that the entries share, each by its number in the scope document.
     fn yes_1(&self) -> bool {
         self.rays <= 720 && self.gates <= 2000
     }

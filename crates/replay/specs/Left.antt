@@ -1,4 +1,5 @@
--- What a call is to leave of the memory lent to it, which held the pattern before: 7 in each place.
+-- What a call is to leave of the memory lent to it. Before it, what it writes holds the pattern, 7 in each place, and so does the work memory, but
+-- for the words that a call before has cleared.
 use Prim.Native.Nat.{ℕ}
 use mathlib.Core.Bool.{Bool, false, cond, _&&_, _||_}
 use mathlib.Core.List.{List}

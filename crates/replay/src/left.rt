@@ -1,4 +1,5 @@
-// What a call left of the memory lent to it, which held the pattern before: 7 in each place.
+// What a call left of the memory lent to it. Before it, what it writes holds the pattern, 7 in each place, and so does the work memory, but for
+// the words that a call before has cleared.
 ghost use mathlib.Core.Path.{_≡_};
 ghost use mathlib.Core.Bool.{_&&_};
 ghost use Prim.Native.Nat.{_≤_};

@@ -9,7 +9,7 @@ mod words;
 
 ghost use mathlib.Core.Path.{_≡_};
 ghost use mathlib.Core.Bool.{true};
-ghost use Prim.Native.Nat.{_≤_};
+ghost use Prim.Native.Nat.{_-_, _≤_};
 ghost use lib.ListN.{length};
 ghost use Rattle.replay.specs.Record.{held};
 
@@ -67,7 +67,7 @@ fn put_map(
 
 // One less, and 0 of 0.
 fn one_less(k: u32) -> usize
-    ensures { λ r. ⌜ r ≤ k ⌝ }
+    ensures { λ r. ⌜ r ≡ k - 1 ⌝ }
 {
     if k == 0 {
         return 0;

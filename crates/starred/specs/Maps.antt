@@ -29,7 +29,7 @@ two = rays 2 (pos 9 ∷ pos 9 ∷ negsuc 8 ∷ pos 9 ∷ negsuc 8 ∷ pos 9 ∷ 
 abbrev three : Sweep
 three = rays 3 (replicate 4 (pos 9) ++ replicate 4 (pos 0) ++ replicate 4 (pos 9)) (replicate 4 1 ++ replicate 4 0 ++ replicate 4 1)
 
--- one ray of Nyquist 1 and splits 1, which the sweep entry refuses with 9; a valid 10 at Nyquist 10, which lies in no interval
+-- one ray, all valid, at this Nyquist velocity; splits 1, no wrap
 abbrev one : ℤ → List ℤ → Sweep
 one nyq vs = record {
   shape = record { rays = 1; gates = length vs; «skip_between_rays» = 0; «skip_along_ray» = 0; wrap = 0 };
@@ -66,6 +66,7 @@ rows =
     -- one word and one float more than is asked for
     row two (lent 8 833 145) 0 (mapMemoryOf (3 ∷ 3 ∷ 1 ∷ 4 ∷ 2 ∷ 3 ∷ 3 ∷ 0 ∷ []) (4 ∷ []) (words 832 1) (floats 144 1))
     ∷ row three (lent 12 1216 208) 0 (mapMemoryOf (1 ∷ 1 ∷ 1 ∷ 1 ∷ 0 ∷ 0 ∷ 0 ∷ 0 ∷ 2 ∷ 2 ∷ 2 ∷ 2 ∷ []) (2 ∷ []) (words 1216 0) (floats 208 0))
+    -- 9, 10, -10: 10 lies in no interval
     ∷ row (one (pos 10) (pos 9 ∷ pos 10 ∷ negsuc 9 ∷ [])) (lent 3 352 64) 0 (mapMemoryOf (1 ∷ 0 ∷ 2 ∷ []) (2 ∷ []) (words 352 0) (floats 64 0))
     -- -2000, 2000: the sweep entry refuses it with 9
     ∷ row (one (pos 1) (negsuc 1999 ∷ pos 2000 ∷ [])) (lent 2 256 48) 0 (mapMemoryOf (1 ∷ 2 ∷ []) (2 ∷ []) (words 256 0) (floats 48 0))
