@@ -16,7 +16,7 @@ use Rattle.lists.specs.Seq.{upto, keep}
 -- ---- one join
 
 -- both ends get the lesser root
-swap-ends : (x y : ℕ) → swap x y x ≡ swap x y y
+pub swap-ends : (x y : ℕ) → swap x y x ≡ swap x y y
 unfolding swap
 swap-ends x y = go (eqb x (max x y)) (eqb y (max x y)) refl refl
   where

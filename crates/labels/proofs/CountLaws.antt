@@ -1,4 +1,4 @@
--- Counting and numbering, one gate at a time. Assumes nothing.
+-- Numbering, one gate at a time. Assumes nothing.
 use Prim.Native.Nat.{ℕ, zero, suc, _+_, _-_, _≤_, _<_, _^_}
 use native.Mathlib.Omega.{arith}
 use native.Mathlib.Numerals.{add-one}
@@ -7,7 +7,7 @@ use mathlib.Core.Logic.{⊎-elim}
 use mathlib.Core.Bool.{Bool, false, cond}
 use mathlib.Core.List.{List}
 use lib.Dec.{eqb}
-use lib.ListN.{length, getD, set, replicate, length-set, getD-replicate}
+use lib.ListN.{length, getD, set, length-set}
 use borrow.Author.Tests.{eq-eqb, ne-eqb}
 use Rattle.labels.specs.Label.{firsts, rank}
 use Rattle.labels.specs.Inside.Forest.{Forest}
@@ -15,15 +15,15 @@ use Rattle.lists.proofs.SegLaws.{eq-or-ne}
 use Rattle.labels.proofs.ForestLaws.{not-both, read-set, gate-in, gate-out}
 use Rattle.labels.proofs.RankLaws.{rank-zero, rank-hit, rank-miss, rank-le}
 use Rattle.labels.specs.Inside.Bands.{marks, part}
-use Rattle.labels.specs.Inside.Numbering.{final, CountedBefore, Numbering, Ahead}
+use Rattle.labels.specs.Inside.Numbering.{final, Numbering, Ahead}
 use Rattle.labels.proofs.BandLaws.{marks-in, marks-out, length-marks}
 use Rattle.labels.proofs.JointLaws.{part-in, part-out, length-part}
 
 module _ (iv w rs : List ℕ) (F : Forest (marks iv) w rs) where
-  pub iv-long : length w ≡ length iv
+  iv-long : length w ≡ length iv
   iv-long = F .long ∙ length-marks iv
 
-  pub band-of : (g : ℕ) → (getD w g 0 ≡ 0 → ⊥) → getD iv g 0 ≡ 0 → ⊥
+  band-of : (g : ℕ) → (getD w g 0 ≡ 0 → ⊥) → getD iv g 0 ≡ 0 → ⊥
   band-of g n z = not-both (getD (marks iv) g false) (gate-in (marks iv) w rs F g (omega arith)) (marks-out iv g z)
 
   no-band : (g : ℕ) → getD w g 0 ≡ 0 → getD iv g 0 ≡ 0
@@ -32,13 +32,13 @@ module _ (iv w rs : List ℕ) (F : Forest (marks iv) w rs) where
       bad : 0 < getD w g 0 → ⊥
       bad p = omega arith
 
-  pub outside-not-first : (g : ℕ) → getD w g 0 ≡ 0 → getD rs g 0 ≡ suc g → ⊥
+  outside-not-first : (g : ℕ) → getD w g 0 ≡ 0 → getD rs g 0 ≡ suc g → ⊥
   outside-not-first g e f = bad (F .out-root g (gate-out (marks iv) w rs F g e))
     where
       bad : getD rs g 0 ≡ 0 → ⊥
       bad z = omega arith
 
-  pub under-not-first : (g : ℕ) → (getD w g 0 ≡ 0 → ⊥) → (getD w g 0 - 1 ≡ g → ⊥) → getD rs g 0 ≡ suc g → ⊥
+  under-not-first : (g : ℕ) → (getD w g 0 ≡ 0 → ⊥) → (getD w g 0 - 1 ≡ g → ⊥) → getD rs g 0 ≡ suc g → ⊥
   under-not-first g n m e =
       let P = F .parent g (gate-in (marks iv) w rs F g (omega arith)) in
       m (omega (arith, F .low (getD w g 0 - 1), P .same, P .not-later))
@@ -46,7 +46,7 @@ module _ (iv w rs : List ℕ) (F : Forest (marks iv) w rs) where
   parent-less : (g : ℕ) → (getD w g 0 ≡ 0 → ⊥) → (getD w g 0 - 1 ≡ g → ⊥) → getD w g 0 - 1 < g
   parent-less g n m = omega (arith, F .parent g (gate-in (marks iv) w rs F g (omega arith)) .not-later)
 
-  pub first-root : (g : ℕ) → (getD w g 0 ≡ 0 → ⊥) → getD w g 0 - 1 ≡ g → getD rs g 0 ≡ suc g
+  first-root : (g : ℕ) → (getD w g 0 ≡ 0 → ⊥) → getD w g 0 - 1 ≡ g → getD rs g 0 ≡ suc g
   first-root g n m = F .first g (omega arith)
 
   module _ (g : ℕ) (h : g < length w) where
@@ -72,16 +72,6 @@ module _ (iv w rs : List ℕ) (F : Forest (marks iv) w rs) where
     hit e j b =
         let k : rank (firsts (part iv rs j)) (suc g) ≡ rank (firsts (part iv rs j)) g + 1 = rank-hit (part iv rs j) g (in-part j) (part-in iv rs j g b ∙ e) in
         (ap (rank (firsts (part iv rs j))) (add-one g) ∙ k, k)
-
-    -- ---- counting
-    pub count-skip : (c : List ℕ) → (getD rs g 0 ≡ suc g → ⊥) → CountedBefore iv rs c g → CountedBefore iv rs c (g + 1)
-    count-skip c n C j q = C j q ∙ sym (miss n j)
-
-    pub count-first : (c : List ℕ) (b : ℕ) → getD rs g 0 ≡ suc g → getD iv g 0 ≡ suc b → b < length c → CountedBefore iv rs c g → CountedBefore iv rs (set c b (getD c b 0 + 1)) (g + 1)
-    count-first c b e f l C j q = ⊎-elim
-        (λ k. k .1 ∙ omega (arith, C b l, hit e b f .0) ∙ ap (λ (y : ℕ). rank (firsts (part iv rs y)) (g + 1)) (sym (k .0)))
-        (λ k. k .1 ∙ C j (omega (arith, length-set c b (getD c b 0 + 1))) ∙ sym (other j (λ s. k .0 (omega arith))))
-        (read-set c b (getD c b 0 + 1) j l)
 
     -- ---- numbering
     module _ (c₀ labels c : List ℕ) (N : Numbering iv rs c₀ labels c g) where
@@ -177,16 +167,6 @@ module _ (iv w rs : List ℕ) (F : Forest (marks iv) w rs) where
               go (suc s) z = sym (N .bands p s z) ∙ N .bands g s (sym q ∙ z)
 
 -- ---- bounds
-rank-upto : (rs : List ℕ) (g : ℕ) → g ≤ length rs → rank (firsts rs) g ≤ g
-rank-upto rs zero h = omega (arith, rank-zero rs)
-rank-upto rs (suc g) h = ⊎-elim (λ e. omega (arith, rank-hit rs g h e, rank-upto rs g (omega arith))) (λ n. omega (arith, rank-miss rs g h n, rank-upto rs g (omega arith))) (eq-or-ne (getD rs g 0) (suc g))
-
-pub count-begin : (iv rs c : List ℕ) → c ≡ replicate (length c) 0 → CountedBefore iv rs c 0
-count-begin iv rs c e j q = ap (λ (y : List ℕ). getD y j 0) e ∙ getD-replicate (length c) j 0 0 q ∙ sym (rank-zero (part iv rs j))
-
-pub count-bound : (iv w rs : List ℕ) → Forest (marks iv) w rs → (c : List ℕ) (g : ℕ) → g ≤ length w → CountedBefore iv rs c g → (j : ℕ) → j < length c → getD c j 0 ≤ g
-count-bound iv w rs F c g h C j q = omega (arith, C j q, rank-upto (part iv rs j) g (omega (arith, length-part iv rs j, iv-long iv w rs F)))
-
 pub number-begin : (iv rs c : List ℕ) → ((i r : ℕ) → getD rs i 0 ≡ suc r → getD iv r 0 ≡ getD iv i 0) → Numbering iv rs c iv c 0
 number-begin iv rs c b =
     record { long = refl; long-c = refl; bands = b; count = λ j q. omega (arith, rank-zero (part iv rs j)); done = λ i q. absurd (no i q); rest = λ i q. refl; numbered = λ i q t. absurd (no i q) }
@@ -197,7 +177,7 @@ number-begin iv rs c b =
 pub number-fits : (iv rs c₀ labels c : List ℕ) (g : ℕ) → Numbering iv rs c₀ labels c g → (j : ℕ) → j < length c → getD c j 0 ≤ getD c₀ j 0 + length (firsts (part iv rs j))
 number-fits iv rs c₀ labels c g N j q = omega (arith, N .count j q, rank-le (firsts (part iv rs j)) g)
 
--- ---- what `label_one` asks
+-- ---- what `label_gate` asks
 module _ (w labels c : List ℕ) (g : ℕ) (A : Ahead w labels c g) where
   pub ahead-band : getD labels g 0 ≤ length c
   ahead-band = omega (arith, A .band, A .numbering .rest g (omega arith))

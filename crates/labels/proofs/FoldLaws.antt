@@ -13,21 +13,14 @@ use lib.Seq.{ext-getD}
 use borrow.Author.Tests.{ne-eqb, eq-eqb}
 use Rattle.labels.specs.Regions.{inside, within, over, added, grow, regions, nothing, windows, Interval}
 use Rattle.labels.specs.Label.{roots, firsts, rank, labelled, areas, Found}
-use Rattle.labels.specs.Inside.Forest.{Forest}
 use Rattle.lists.proofs.SeqLaws.{tab-at, tab-length, map-at}
 use Rattle.lists.proofs.SegLaws.{eq-or-ne, lt-or-le}
-use Rattle.labels.proofs.RankLaws.{rank-zero, rank-end}
+use Rattle.labels.proofs.RankLaws.{rank-zero}
 use Rattle.labels.proofs.OverLaws.{over-old, over-new, added-at, added-long}
 use Rattle.labels.proofs.WindowLaws.{windows-step, windows-end}
-use Rattle.labels.specs.Inside.Bands.{Bands, window, marks, part, joint}
-use Rattle.labels.specs.Inside.Numbering.{final, sizes, CountedBefore}
+use Rattle.labels.specs.Inside.Bands.{Bands, window, part, joint}
+use Rattle.labels.specs.Inside.Numbering.{final, sizes}
 use Rattle.labels.proofs.JointLaws.{roots-part, length-part, part-in, part-out}
-use Rattle.labels.proofs.CountLaws.{iv-long}
-
--- the counters hold the sizes, by which the sums of sizes grow
-pub sizes-grow : (iv w rs c : List ℕ) → Forest (marks iv) w rs → CountedBefore iv rs c (length w) → (j : ℕ) → j < length c → sizes iv rs (suc j) ≡ sizes iv rs j + getD c j 0
-unfolding sizes
-sizes-grow iv w rs c F C j h = ap (λ (x : ℕ). sizes iv rs j + x) (sym (C j h ∙ ap (rank (firsts (part iv rs j))) (iv-long iv w rs F ∙ sym (length-part iv rs j)) ∙ rank-end (part iv rs j)))
 
 module _ (gates : ℕ) (vel : List Float) (mask : List ℕ) (limits : List Float) (iv : List ℕ) (B : Bands limits vel mask iv) where
   R : List ℕ
@@ -179,7 +172,7 @@ module _ (gates : ℕ) (vel : List Float) (mask : List ℕ) (limits : List Float
             pos-of : (getD iv i 0 ≡ 0 → ⊥) → 0 < getD iv i 0
             pos-of m = omega arith
 
-sizes-suc : (iv rs : List ℕ) (j : ℕ) → sizes iv rs (suc j) ≡ sizes iv rs j + length (firsts (part iv rs j))
+pub sizes-suc : (iv rs : List ℕ) (j : ℕ) → sizes iv rs (suc j) ≡ sizes iv rs j + length (firsts (part iv rs j))
 unfolding sizes
 sizes-suc iv rs j = refl
 

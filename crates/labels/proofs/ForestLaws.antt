@@ -4,12 +4,12 @@ use native.Mathlib.Omega.{arith}
 use native.Mathlib.Numerals.{add-one}
 use mathlib.Core.Path.{_≡_, refl, sym, ap, _∙_, subst}
 use mathlib.Core.Logic.{_⊎_, inl, inr, ⊎-elim}
-use mathlib.Core.Bool.{Bool, true, false, cond}
+use mathlib.Core.Bool.{Bool, true, false, cond, not}
 use mathlib.Core.List.{List, [], _∷_, map}
-use lib.Dec.{eqb}
+use lib.Dec.{eqb, ltb}
 use lib.ListN.{length, getD, set, length-set, length-map, List·getD-map}
 use lib.Seq.{getD-set-same, getD-set-other}
-use borrow.Author.Tests.{eqb-true, eqb-false}
+use borrow.Author.Tests.{eqb-true, eqb-false, eq-eqb, ne-eqb, lt-ltb, le-ltb}
 use Rattle.lists.proofs.SegLaws.{eq-or-ne}
 use Rattle.labels.specs.Label.{Neighbours, swap, join}
 use Rattle.labels.specs.Inside.Forest.{Parent, Forest, Some, Root}
@@ -151,7 +151,7 @@ pub join-keeps : (rs : List ℕ) (l : Neighbours) (i j : ℕ) → getD rs i 0 �
 join-keeps rs l i j e = join-at rs l i ∙ ap (swap (getD rs (l .a) 0) (getD rs (l .b) 0)) e ∙ sym (join-at rs l j)
 
 -- a root after a join, where the greater root was 1 + hi and the lesser 1 + lo
-join-cases : (rs : List ℕ) (l : Neighbours) (lo hi i : ℕ) → max (getD rs (l .a) 0) (getD rs (l .b) 0) ≡ suc hi → min (getD rs (l .a) 0) (getD rs (l .b) 0) ≡ suc lo
+pub join-cases : (rs : List ℕ) (l : Neighbours) (lo hi i : ℕ) → max (getD rs (l .a) 0) (getD rs (l .b) 0) ≡ suc hi → min (getD rs (l .a) 0) (getD rs (l .b) 0) ≡ suc lo
     → ((getD rs i 0 ≡ suc hi) × (getD (join rs l) i 0 ≡ suc lo)) ⊎ ((getD rs i 0 ≡ suc hi → ⊥) × (getD (join rs l) i 0 ≡ getD rs i 0))
 unfolding swap
 join-cases rs l lo hi i p q = go (eqb (getD rs i 0) (max x y)) refl (join-at rs l i)
@@ -270,3 +270,13 @@ module _ (inside : List Bool) (w₁ w₂ rs : List ℕ) (a b r s : ℕ) (A : Roo
   united-right h =
       rw add-one
       (merged inside w₂ rs (B .forest) (record { a = a; b = b }) s r (omega (arith, A .root, B .root)) (omega (arith, A .root, B .root)) (A .self) (B .self) (A .in-r) (B .in-r))
+
+  -- the areas were two where their roots differ
+  pub two-left : r < s → true ≡ not (eqb (getD rs a 0) (getD rs b 0))
+  two-left h = sym (ap not (ne-eqb (getD rs a 0) (getD rs b 0) (λ e. omega (arith, A .root, B .root))))
+
+  pub two-right : s ≤ r → ltb s r ≡ not (eqb (getD rs a 0) (getD rs b 0))
+  two-right h = ⊎-elim
+      (λ e. le-ltb s r (omega arith) ∙ sym (ap not (eq-eqb (getD rs a 0) (getD rs b 0) (omega (arith, A .root, B .root)))))
+      (λ n. lt-ltb s r (omega arith) ∙ sym (ap not (ne-eqb (getD rs a 0) (getD rs b 0) (λ e. n (omega (arith, A .root, B .root))))))
+      (eq-or-ne r s)

@@ -1,21 +1,17 @@
--- One gate counted and one gate labelled, in the slice. Assumes nothing.
+-- One gate labelled, in the slice. Assumes nothing.
 use Prim.Native.Nat.{ℕ, _+_, _-_, _≤_, _<_, _^_}
 use native.Mathlib.Omega.{arith}
-use mathlib.Core.Path.{_≡_, refl, sym, ap, _∙_, subst}
+use mathlib.Core.Path.{_≡_, sym, ap, _∙_, subst}
 use mathlib.Core.List.{List}
 use lib.ListN.{length, getD, set, drop, length-set}
 use Rattle.lists.specs.Inside.Seg.{seg}
 use Rattle.labels.specs.Inside.Forest.{Forest}
-use Rattle.labels.specs.Inside.Bands.{marks, Treed}
-use Rattle.labels.specs.Inside.Numbering.{CountedBefore, Numbering, Ahead, NumbersGates}
-use Rattle.labels.specs.Inside.Sheet.{CountersDiffer}
-use Rattle.labels.proofs.CountLaws.{band-of, outside-not-first, under-not-first, first-root, count-skip, count-first, number-out, number-first, number-under, ahead-band, ahead-some, ahead-fits, ahead-less, number-fits, count-bound}
+use Rattle.labels.specs.Inside.Bands.{marks}
+use Rattle.labels.specs.Inside.Numbering.{Numbering, Ahead, NumbersGates}
+use Rattle.labels.proofs.CountLaws.{number-out, number-first, number-under, ahead-band, ahead-some, ahead-fits, ahead-less, number-fits}
 use Rattle.labels.proofs.SheetLaws.{words-long, counts-long, band-at, word-at, count-at, store-band, store-count}
 
 module _ (u : List ℕ) (n : ℕ) (fits : n + n ≤ length u) (g : ℕ) (here : g < n) where
-  in-words : g < length (seg u n n)
-  in-words = omega (arith, words-long u n fits)
-
   zero-word : getD u (n + g) 0 ≡ 0 → getD (seg u n n) g 0 ≡ 0
   zero-word z = word-at u n fits g here ∙ z
 
@@ -27,51 +23,6 @@ module _ (u : List ℕ) (n : ℕ) (fits : n + n ≤ length u) (g : ℕ) (here : 
 
   other-word : (getD u (n + g) 0 - 1 ≡ g → ⊥) → getD (seg u n n) g 0 - 1 ≡ g → ⊥
   other-word b z = b (ap (λ (y : ℕ). y - 1) (sym (word-at u n fits g here)) ∙ z)
-
-  -- ---- a gate is counted
-  module _ (t : Treed (seg u 0 n) (seg u n n)) (few : getD (seg u 0 n) g 0 ≤ length (drop (n + n) u)) where
-    -- the band of a gate that has a word, and its counter's place
-    pub band-some : (getD u (n + g) 0 ≡ 0 → ⊥) → 1 ≤ getD u g 0
-    band-some a =
-        let z : getD (seg u 0 n) g 0 ≡ 0 → ⊥ = band-of (seg u 0 n) (seg u n n) (t .rs) (t .forest) g (some-word a) in
-        omega (arith, band-at u n fits g here)
-
-    pub count-in : (getD u (n + g) 0 ≡ 0 → ⊥) → n + n + (getD u g 0 - 1) < length u
-    count-in a = omega (arith, band-some a, band-at u n fits g here, counts-long u n fits)
-
-    pub count-fits : ((j : ℕ) → j < length (drop (n + n) u) → getD (drop (n + n) u) j 0 + 1 < 2 ^ 32) → (getD u (n + g) 0 ≡ 0 → ⊥) → getD u (n + n + (getD u g 0 - 1)) 0 + 1 < 2 ^ 32
-    count-fits f a = omega (arith, f (getD u g 0 - 1) (omega (arith, count-in a, counts-long u n fits)), count-at u n fits (getD u g 0 - 1))
-
-    pub none-counted : getD u (n + g) 0 ≡ 0 → (rs : List ℕ) → Forest (marks (seg u 0 n)) (seg u n n) rs → CountedBefore (seg u 0 n) rs (drop (n + n) u) g → CountedBefore (seg u 0 n) rs (drop (n + n) u) (g + 1)
-    none-counted z rs F = count-skip (seg u 0 n) (seg u n n) rs F g in-words (drop (n + n) u) (outside-not-first (seg u 0 n) (seg u n n) rs F g (zero-word z))
-
-    pub later-counted : (getD u (n + g) 0 ≡ 0 → ⊥) → (getD u (n + g) 0 - 1 ≡ g → ⊥) → (rs : List ℕ) → Forest (marks (seg u 0 n)) (seg u n n) rs → CountedBefore (seg u 0 n) rs (drop (n + n) u) g → CountedBefore (seg u 0 n) rs (drop (n + n) u) (g + 1)
-    later-counted a b rs F = count-skip (seg u 0 n) (seg u n n) rs F g in-words (drop (n + n) u) (under-not-first (seg u 0 n) (seg u n n) rs F g (some-word a) (other-word b))
-
-    module _ (a : getD u (n + g) 0 ≡ 0 → ⊥) (b : getD u (n + g) 0 - 1 ≡ g) where
-      at : ℕ
-      at = getD u g 0 - 1
-
-      v : List ℕ
-      v = set u (n + n + at) (getD u (n + n + at) 0 + 1)
-
-      pub first-counted : (rs : List ℕ) → Forest (marks (seg u 0 n)) (seg u n n) rs → CountedBefore (seg u 0 n) rs (drop (n + n) u) g
-          → CountedBefore (seg u 0 n) rs (drop (n + n) (set u (n + n + (getD u g 0 - 1)) (getD u (n + n + (getD u g 0 - 1)) 0 + 1))) (g + 1)
-      unfolding at v
-      first-counted rs F C =
-          let e : drop (n + n) v ≡ set (drop (n + n) u) at (getD (drop (n + n) u) at 0 + 1) = store-count u n fits at (getD u (n + n + at) 0 + 1) .2 ∙ ap (λ (y : ℕ). set (drop (n + n) u) at (y + 1)) (sym (count-at u n fits at)) in
-          subst (λ (d : List ℕ). CountedBefore (seg u 0 n) rs d (g + 1)) (sym e)
-          (count-first (seg u 0 n) (seg u n n) rs F g in-words (drop (n + n) u) at (first-root (seg u 0 n) (seg u n n) rs F g (some-word a) (own-word b)) (omega (arith, band-some a, band-at u n fits g here)) (omega (arith, count-in a, counts-long u n fits)) C)
-
-      pub first-counts : CountersDiffer u (set u (n + n + (getD u g 0 - 1)) (getD u (n + n + (getD u g 0 - 1)) 0 + 1)) n
-      unfolding at v
-      first-counts = let s = store-count u n fits at (getD u (n + n + at) 0 + 1) in record { bands = s .0; words = s .1 }
-
-pub counts-none : (u : List ℕ) (n : ℕ) → CountersDiffer u u n
-counts-none u n = record { bands = refl; words = refl }
-
-pub counts-both : (u v w : List ℕ) (n : ℕ) → CountersDiffer u v n → CountersDiffer v w n → CountersDiffer u w n
-counts-both u v w n a b = record { bands = b .bands ∙ a .bands; words = b .words ∙ a .words }
 
 -- ---- a gate is labelled
 module _ (u : List ℕ) (n : ℕ) (fits : n + n ≤ length u) (g : ℕ) (A : Ahead (seg u n n) (seg u 0 n) (drop (n + n) u) g) where
@@ -126,26 +77,6 @@ module _ (u : List ℕ) (n : ℕ) (fits : n + n ≤ length u) (g : ℕ) (A : Ahe
 
   pub first-words : (x : ℕ) → seg (set (set u (n + n + (getD u g 0 - 1)) x) g x) n n ≡ seg u n n
   first-words x = store-band (set u (n + n + (getD u g 0 - 1)) x) n (omega (arith, length-set u (n + n + (getD u g 0 - 1)) x)) g x ahead-here .1 ∙ store-count u n fits (getD u g 0 - 1) x .1
-
--- ---- gates counted in u, as far as v
-module _ (u v : List ℕ) (n : ℕ) (fits : n + n ≤ length u) (long : length v ≡ length u) (C : CountersDiffer u v n) where
-  pub counts-asks : (t : Treed (seg u 0 n) (seg u n n)) → ((i : ℕ) → getD (seg u 0 n) i 0 ≤ length (drop (n + n) u)) → (g : ℕ) → g < n
-      → ((rs : List ℕ) → Forest (marks (seg u 0 n)) (seg u n n) rs → CountedBefore (seg u 0 n) rs (drop (n + n) v) g)
-      → Treed (seg v 0 n) (seg v n n) × (((g < n) × (n + n ≤ length v) × (getD (seg v 0 n) g 0 ≤ length (drop (n + n) v))) × ((j : ℕ) → j < length (drop (n + n) v) → getD (drop (n + n) v) j 0 + 1 < 2 ^ 32))
-  counts-asks t few g h K =
-      let fv : n + n ≤ length v = omega arith in
-      let e : length (drop (n + n) v) ≡ length (drop (n + n) u) = counts-long v n fv ∙ ap (λ (y : ℕ). y - (n + n)) long ∙ sym (counts-long u n fits) in
-      let lw : length (seg u n n) ≡ n = words-long u n fits in (
-        rw (C .bands, C .words) t,
-        ((h, fv, rw (C .bands) (omega (arith, few g))), λ j q. omega (arith, count-bound (seg u 0 n) (seg u n n) (t .rs) (t .forest) (drop (n + n) v) g (omega arith) (K (t .rs) (t .forest)) j q, t .small)),
-      )
-
-pub counted-after : (u v x : List ℕ) (n : ℕ) → CountersDiffer u v n → (rs : List ℕ) (g : ℕ)
-    → ((rs : List ℕ) → Forest (marks (seg v 0 n)) (seg v n n) rs → CountedBefore (seg v 0 n) rs (drop (n + n) v) g → CountedBefore (seg v 0 n) rs (drop (n + n) x) (g + 1))
-    → Forest (marks (seg u 0 n)) (seg u n n) rs → CountedBefore (seg u 0 n) rs (drop (n + n) v) g → CountedBefore (seg u 0 n) rs (drop (n + n) x) (g + 1)
-counted-after u v x n C rs g E F K =
-    let E₂ = subst (λ (b : List ℕ). (rs : List ℕ) → Forest (marks b) (seg v n n) rs → CountedBefore b rs (drop (n + n) v) g → CountedBefore b rs (drop (n + n) x) (g + 1)) (C .bands) E in
-    E₂ rs (rw (C .words) F) K
 
 -- ---- gates labelled in u, as far as v
 module _ (u v : List ℕ) (n : ℕ) (fits : n + n ≤ length u) (long : length v ≡ length u) (words : seg v n n ≡ seg u n n) where

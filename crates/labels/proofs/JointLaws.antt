@@ -1,8 +1,7 @@
 -- The links within bands, and the roots of one band among the joint roots. Assumes nothing.
-use Prim.Native.Nat.{ℕ, zero, suc, _+_, _-_, _%_, _≤_, _<_, min, max}
+use Prim.Native.Nat.{ℕ, zero, suc, _-_, _%_, _≤_, _<_, min, max}
 use native.Mathlib.Omega.{arith}
 use native.Mathlib.Nat.{zero-mod}
-use native.Mathlib.Numerals.{add-one}
 use mathlib.Core.Path.{_≡_, refl, sym, ap, _∙_, subst}
 use mathlib.Core.Logic.{_⊎_, inl, inr, ⊎-elim}
 use mathlib.Core.Bool.{Bool, true, false, cond, not, _&&_}
@@ -13,7 +12,6 @@ use lib.ListN.{length, getD, length-map, List·getD-map, List·getD-eq-default}
 use lib.Seq.{ext-getD}
 use borrow.Author.Tests.{lt-leb, le-leb, leb-true, leb-false, eq-eqb, ne-eqb, eqb-true}
 use Rattle.labels.specs.Label.{Neighbours, own, join, swap, above, before, linksAt, links, roots}
-use Rattle.labels.specs.Inside.Forest.{Forest}
 use Rattle.lists.proofs.SeqLaws.{tab-at, tab-length}
 use Rattle.lists.proofs.SegLaws.{eq-or-ne, lt-or-le}
 use Rattle.labels.proofs.ForestLaws.{join-at, swap-zero, some-pred}
@@ -92,47 +90,6 @@ module _ (gates : ℕ) (iv : List ℕ) (g : ℕ) where
       ap (λ (t : Bool). cond (not t && leb gates g && eqb (getD iv (g - gates) 0) (getD iv g 0)) (record { a = g - gates; b = g } ∷ []) [] ++ cond (not t && not (eqb (g % gates) 0) && eqb (getD iv (g - 1) 0) (getD iv g 0)) (record { a = g - 1; b = g } ∷ []) []) (eq-eqb (getD iv g 0) 0 h)
       ∙ ap (λ (t : List Neighbours). t ++ cond (false && not (eqb (g % gates) 0) && eqb (getD iv (g - 1) 0) (getD iv g 0)) (record { a = g - 1; b = g } ∷ []) []) (none-first (leb gates g) (eqb (getD iv (g - gates) 0) (getD iv g 0)) (record { a = g - gates; b = g }))
       ∙ none-first (not (eqb (g % gates) 0)) (eqb (getD iv (g - 1) 0) (getD iv g 0)) (record { a = g - 1; b = g })
-
-  pub by-both : (w rs : List ℕ) → Forest (marks iv) w (foldl join (foldl join rs (aboveIn gates iv g)) (beforeIn gates iv g)) → Forest (marks iv) w (foldl join rs (linksIn gates iv g))
-  unfolding linksIn
-  by-both w rs F = subst (λ (t : List ℕ). Forest (marks iv) w t) (sym (foldl-append join rs (aboveIn gates iv g) (beforeIn gates iv g))) F
-
-pub by-none : (iv w rs : List ℕ) (ls : List Neighbours) → ls ≡ [] → Forest (marks iv) w rs → Forest (marks iv) w (foldl join rs ls)
-by-none iv w rs ls e F = subst (λ (l : List Neighbours). Forest (marks iv) w (foldl join rs l)) (sym e) F
-
-pub by-one : (iv w rs : List ℕ) (ls : List Neighbours) (l : Neighbours) → ls ≡ l ∷ [] → Forest (marks iv) w (join rs l) → Forest (marks iv) w (foldl join rs ls)
-by-one iv w rs ls l e F = subst (λ (k : List Neighbours). Forest (marks iv) w (foldl join rs k)) (sym e) F
-
--- ---- the links that are left
-later-none : (gates : ℕ) (iv : List ℕ) (g : ℕ) → length iv ≤ g → laterIn gates iv g ≡ []
-unfolding laterIn upto each
-later-none gates iv g h =
-    let e : length iv - g ≡ 0 = omega arith in
-    ap (λ (k : ℕ). each (linksIn gates iv) (upto k g)) e
-
-later-cons : (gates : ℕ) (iv : List ℕ) (g : ℕ) → g < length iv → laterIn gates iv g ≡ linksIn gates iv g ++ laterIn gates iv (g + 1)
-unfolding laterIn upto each
-later-cons gates iv g h =
-    let e : length iv - g ≡ suc (length iv - (g + 1)) = omega arith in
-    ap (λ (k : ℕ). each (linksIn gates iv) (upto k g)) e
-    ∙ ap (λ (k : ℕ). linksIn gates iv g ++ each (linksIn gates iv) (upto (length iv - (g + 1)) k)) (sym (add-one g))
-
-pub record Joining (gates : ℕ) (iv rs₀ w : List ℕ) (g : ℕ) : Type 0 where
-  pub rs : List ℕ
-  pub forest : Forest (marks iv) w rs
-  pub left : foldl join rs (laterIn gates iv g) ≡ foldl join rs₀ (laterIn gates iv 0)
-
-pub step : (gates : ℕ) (iv rs₀ w w₂ : List ℕ) (g : ℕ) → g < length iv → (J : Joining gates iv rs₀ w g) → Forest (marks iv) w₂ (foldl join (J .rs) (linksIn gates iv g)) → Joining gates iv rs₀ w₂ (g + 1)
-step gates iv rs₀ w w₂ g h J F =
-    record {
-      rs = foldl join (J .rs) (linksIn gates iv g);
-      forest = F;
-      left = sym (foldl-append join (J .rs) (linksIn gates iv g) (laterIn gates iv (g + 1))) ∙ ap (foldl join (J .rs)) (sym (later-cons gates iv g h)) ∙ J .left;
-    }
-
-pub end : (gates : ℕ) (iv rs₀ w : List ℕ) (g : ℕ) → length iv ≤ g → Joining gates iv rs₀ w g → Forest (marks iv) w (foldl join rs₀ (laterIn gates iv 0))
-end gates iv rs₀ w g h J =
-    subst (λ (t : List ℕ). Forest (marks iv) w t) (sym (ap (foldl join (J .rs)) (later-none gates iv g h)) ∙ J .left) (J .forest)
 
 -- ---- one band of the joint roots: rs of band j against R of all
 module _ (iv : List ℕ) (j : ℕ) where

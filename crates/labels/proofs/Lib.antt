@@ -11,11 +11,15 @@ pub mod JointLaws
 pub mod CountLaws
 pub mod FoldLaws
 pub mod WholeLaws
-pub mod SpreadLaws
+pub mod AreaCounts
+pub mod NextLaws
+pub mod ForestEnd
+pub mod PlaceLaws
+pub mod PlacedLaws
+pub mod ScanLaws
 pub mod Closed
 pub mod SheetLaws
 pub mod GateLaws
-pub mod TallyLaws
 pub mod BlockLaws
 pub mod PartLaws
 pub mod Ways

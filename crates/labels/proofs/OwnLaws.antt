@@ -1,5 +1,5 @@
 -- Every gate its own root, and whether a velocity lies in an interval, test by test. Assumes nothing.
-use Prim.Native.Nat.{ℕ, suc, _-_, _≤_, _<_}
+use Prim.Native.Nat.{ℕ, suc, _<_}
 use native.Mathlib.Omega.{arith}
 use mathlib.Core.Path.{_≡_, refl, ap, _∙_}
 use mathlib.Core.Logic.{⊎-elim}
@@ -13,7 +13,6 @@ use Rattle.lists.proofs.SeqLaws.{tab-at, tab-length}
 use Rattle.lists.proofs.SegLaws.{lt-or-le}
 use Rattle.labels.specs.Label.{own}
 use Rattle.labels.specs.Regions.{within, Interval}
-use Rattle.labels.specs.Inside.Forest.{Parent, Forest}
 use Rattle.labels.proofs.ForestLaws.{in-length}
 use Rattle.labels.proofs.FloatOrder.{and-both}
 
@@ -31,33 +30,6 @@ own-in inside i e = own-at inside i (in-length inside i e) ∙ ap (λ (t : Bool)
 
 pub own-out : (inside : List Bool) (i : ℕ) → getD inside i false ≡ false → getD (own inside) i 0 ≡ 0
 own-out inside i e = ⊎-elim (λ h. own-at inside i h ∙ ap (λ (t : Bool). cond t (suc i) 0) e) (λ h. List·getD-eq-default (own inside) 0 (omega (arith, length-own inside))) (lt-or-le i (length inside))
-
--- at first each gate is alone
-pub alone : (inside : List Bool) → Forest inside (own inside) (own inside)
-alone inside =
-    record {
-      long = length-own inside;
-      roots-long = length-own inside;
-      out = own-out inside;
-      out-root = own-out inside;
-      parent = λ i e. parent i e (own-in inside i e);
-      first = λ i e. e;
-      low = λ i. low i (getD inside i false) refl;
-    }
-  where
-    parent : (i : ℕ) → getD inside i false ≡ true → getD (own inside) i 0 ≡ suc i → Parent inside (own inside) (own inside) i
-    parent i e f =
-        let k : getD (own inside) i 0 - 1 ≡ i = omega arith in
-        record {
-          some = omega arith;
-          not-later = omega arith;
-          here = ap (λ (y : ℕ). getD inside y false) k ∙ e;
-          same = ap (λ (y : ℕ). getD (own inside) y 0) k;
-        }
-
-    low : (i : ℕ) (b : Bool) → getD inside i false ≡ b → getD (own inside) i 0 ≤ suc i
-    low i true e = omega (arith, own-in inside i e)
-    low i false e = omega (arith, own-out inside i e)
 
 -- ---- within, test by test
 pub within-not : (i : Interval) (x : Float) (m : ℕ) → (m ≡ 1 → ⊥) → within i x m ≡ false

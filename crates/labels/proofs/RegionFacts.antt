@@ -19,7 +19,7 @@ use Rattle.labels.proofs.OverLaws.{over-old, over-new, added-at, added-
 use Rattle.labels.proofs.FloatOrder.{lt-le, lt-not-le, of-T}
 
 -- ---- roots
-long-joins : (ls : List Neighbours) (rs : List ℕ) → length (foldl join rs ls) ≡ length rs
+pub long-joins : (ls : List Neighbours) (rs : List ℕ) → length (foldl join rs ls) ≡ length rs
 long-joins [] rs = refl
 long-joins (l ∷ ls) rs = long-joins ls (join rs l) ∙ length-join rs l
 

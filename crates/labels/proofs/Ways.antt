@@ -47,6 +47,26 @@ pub one-interval : (limits : List Float) → Rising limits → (x : Float) (m j 
 unfolding window
 one-interval limits R x m j k h l p q = lt-not-le x (getD limits k nan) (climbs limits R x (suc j) k h (omega arith) (within-to (window limits j) x m p)) (within-from (window limits k) x m q)
 
+-- so one that holds it gives the band
+pub tried : (limits : List Float) → Rising limits → (x : Float) (m last : ℕ) → 0 < last → last < length limits → within (record { lower = getD limits (last - 1) nan; upper = getD limits last nan }) x m ≡ true → Band limits x m last
+unfolding window
+tried limits R x m last s l w =
+    record {
+      small = λ p. l;
+      is = λ j h. ⊎-elim
+          (λ e. ap (λ (y : ℕ). within (window limits y) x m) e ∙ held ∙ sym (eq-eqb last (suc j) (omega arith)))
+          (λ n. flag (within (window limits j) x m) (λ t. ⊎-elim (λ b. one-interval limits R x m j (last - 1) b (omega arith) t held) (λ b. one-interval limits R x m (last - 1) j (above j b n) h held t) (lt-or-le j (last - 1))) ∙ sym (ne-eqb last (suc j) (λ e. n (omega arith))))
+          (eq-or-ne j (last - 1));
+    }
+  where
+    held : within (window limits (last - 1)) x m ≡ true
+    held =
+        let k : suc (last - 1) ≡ last = omega arith in
+        ap (λ (y : ℕ). within (record { lower = getD limits (last - 1) nan; upper = getD limits y nan }) x m) k ∙ w
+
+    above : (j : ℕ) → last - 1 ≤ j → (j ≡ last - 1 → ⊥) → last - 1 < j
+    above j b n = omega arith
+
 module _ (limits : List Float) (R : Rising limits) (x : Float) (m : ℕ) where
   sought : (k : ℕ) → k ≤ length limits - 1 → (seek limits x m k ≤ k) × ((j : ℕ) → j < k → within (window limits j) x m ≡ eqb (seek limits x m k) (suc j))
   unfolding seek
@@ -139,7 +159,7 @@ in-one true l k (there p) = absurd (no-in [] p refl)
 in-one false l k p = absurd (no-in [] p refl)
 
 -- what a link within bands is
-record Touching (gates : ℕ) (iv : List ℕ) (l : Neighbours) : Type 0 where
+pub record Touching (gates : ℕ) (iv : List ℕ) (l : Neighbours) : Type 0 where
   pub beside : Beside gates (l .a) (l .b)
   pub some : getD iv (l .b) 0 ≡ 0 → ⊥
   pub same : getD iv (l .a) 0 ≡ getD iv (l .b) 0
@@ -167,14 +187,14 @@ module _ (gates : ℕ) (iv : List ℕ) where
       let s = and-both (not (eqb (getD iv g 0) 0)) (not (eqb (g % gates) 0)) (t .0) in
       subst (Touching gates iv) (sym (q .1)) (record { beside = inr (nonzero (g % gates) (s .1), refl); some = nonzero (getD iv g 0) (s .0); same = eqb-true (getD iv (g - 1) 0) (getD iv g 0) (t .1) })
 
-  touching : (l : Neighbours) → In l (laterIn gates iv 0) → Touching gates iv l
+  pub touching : (l : Neighbours) → In l (laterIn gates iv 0) → Touching gates iv l
   unfolding laterIn linksIn
   touching l p =
       let q = in-each (linksIn gates iv) l (upto (length iv - 0) 0) p in
       ⊎-elim (of-above (q .0) l) (of-before (q .0) l) (in-append (aboveIn gates iv (q .0)) (beforeIn gates iv (q .0)) (q .1))
 
   -- and neighbours of one band are linked
-  linked : (a b : ℕ) → b < length iv → Beside gates a b → (getD iv b 0 ≡ 0 → ⊥) → getD iv a 0 ≡ getD iv b 0 → In (record { a = a; b = b }) (laterIn gates iv 0)
+  pub linked : (a b : ℕ) → b < length iv → Beside gates a b → (getD iv b 0 ≡ 0 → ⊥) → getD iv a 0 ≡ getD iv b 0 → In (record { a = a; b = b }) (laterIn gates iv 0)
   unfolding laterIn linksIn
   linked a b h s n e =
       let k : Neighbours = record { a = a; b = b } in

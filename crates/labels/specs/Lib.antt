@@ -1,4 +1,5 @@
 pub mod Label
 pub mod Regions
+pub mod Locals
 pub mod Evaluating
 pub mod Inside

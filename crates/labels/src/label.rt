@@ -1,17 +1,20 @@
 // label.rs: the areas of gates that touch, by union-find, and their numbers by first gate.
 // One slice holds it all: a band for each of n gates, then a word of the union-find for each, then a counter for each band.
-// A band is 0 for a gate in no interval; gates are joined within their band.
+// A band is 0 for a gate in no interval; gates are joined within their band. Gates are placed in scan order: the words of those before gate g
+// hold their areas, and nothing is known of the rest.
 ghost use mathlib.Core.Path.{_≡_};
-ghost use mathlib.Core.Bool.{Bool};
+ghost use mathlib.Core.Bool.{Bool, true, cond, not};
 ghost use mathlib.Core.List.{List};
-ghost use Prim.Native.Nat.{ℕ, _+_, _≤_, _<_, _^_};
-ghost use lib.ListN.{length, getD, replicate};
+ghost use Prim.Native.Nat.{ℕ, suc, _+_, _-_, _≤_, _<_, _^_};
+ghost use lib.Dec.{eqb};
+ghost use lib.ListN.{length, getD, set};
+ghost use Rattle.lists.specs.Inside.Seg.{seg};
 ghost use Rattle.labels.specs.Label.{join};
 ghost use Rattle.labels.specs.Inside.Forest.{Forest, Some, Gate, Root};
-ghost use Rattle.labels.specs.Inside.Areas.{JoinsAreas, CountsGate, CountsGates, LabelsGate, LabelsGates};
-ghost use Rattle.labels.specs.Inside.Bands.{aboveIn, beforeIn, linksIn, laterIn, Treed};
+ghost use Rattle.labels.specs.Inside.Areas.{Next, Corner, Placed, LabelsGate, LabelsGates};
+ghost use Rattle.labels.specs.Inside.Bands.{bandBefore};
 ghost use Rattle.labels.specs.Inside.Numbering.{Ahead, NumbersGates};
-ghost use Rattle.labels.specs.Inside.Sheet.{bandsOf, wordsOf, countsOf, WordsDiffer, CountersDiffer};
+ghost use Rattle.labels.specs.Inside.Sheet.{bandsOf, wordsOf, countsOf};
 
 // The first gate of the area of gate `start`. Halves the path there.
 fn find(w: &mut [u32], start: u32) -> u32
@@ -30,126 +33,115 @@ fn find(w: &mut [u32], start: u32) -> u32
     x
 }
 
-// The areas of the gates `a` and `b` made one.
-fn unite(w: &mut [u32], a: u32, b: u32)
+// The areas of the gates `a` and `b` made one. Whether they were two.
+fn unite(w: &mut [u32], a: u32, b: u32) -> bool
     requires { ⌜ Some (now w) ⌝ }
     requires { ⌜ Gate (now w) a × Gate (now w) b ⌝ }
+    ensures { λ r. ⌜ ((inside : List Bool) (rs : List ℕ) → Forest inside (now (w .entry)) rs → r ≡ not (eqb (getD rs a 0) (getD rs b 0))) ⌝ }
     ensures { λ _. ⌜ ((inside : List Bool) (rs : List ℕ) → Forest inside (now (w .entry)) rs → Forest inside (now (w .exit)) (join rs (record { a = a; b = b }))) ⌝ }
 {
     let r = find(w, a);
     let s = find(w, b);
     if r < s {
         w[s as usize] = r + 1;
-    } else {
-        w[r as usize] = s + 1;
+        return true;
     }
+    w[r as usize] = s + 1;
+    s < r
 }
 
-// Gate `g` joined with the gate of the ray before, if both are of one band.
-fn link_above(u: &mut [u32], n: usize, gates: u32, g: u32)
-    requires { ⌜ Treed (bandsOf (now u) n) (wordsOf (now u) n) ⌝ }
-    requires { ⌜ n + n ≤ length (now u) ⌝ }
-    requires { ⌜ Gate (bandsOf (now u) n) g ⌝ }
-    ensures { λ _. ⌜ JoinsAreas (now (u .entry)) (now (u .exit)) n (aboveIn gates (bandsOf (now (u .entry)) n) g) ⌝ }
-    ensures { λ _. ⌜ WordsDiffer (now (u .entry)) (now (u .exit)) n ⌝ }
+// Gate `g` begins an area of band `b`, which has one more. Its word: itself.
+fn begin(u: &mut [u32], n: usize, g: usize, b: u32) -> u32
+    requires { ⌜ (0 < b) × (g + 1 < 2 ^ 32) × (n + n + (b - 1) < length (now u)) ⌝ }
+    requires { ⌜ getD (now u) (n + n + (b - 1)) 0 + 1 < 2 ^ 32 ⌝ }
+    ensures { λ r. ⌜ r ≡ suc g ⌝ }
+    ensures { λ _. ⌜ now (u .exit) ≡ set (now (u .entry)) (n + n + (b - 1)) (getD (now (u .entry)) (n + n + (b - 1)) 0 + 1) ⌝ }
 {
-    if g < gates {
-        return;
-    }
-    let h = g - gates;
-    let b = u[g as usize];
-    if u[h as usize] != b {
-        return;
-    }
-    let e = n + n;
-    unite(&mut u[n..e], h, g);
-}
-
-// And with the gate before on its ray.
-fn link_before(u: &mut [u32], n: usize, gates: u32, g: u32)
-    requires { ⌜ Treed (bandsOf (now u) n) (wordsOf (now u) n) ⌝ }
-    requires { ⌜ (n + n ≤ length (now u)) × (0 < gates) ⌝ }
-    requires { ⌜ Gate (bandsOf (now u) n) g ⌝ }
-    ensures { λ _. ⌜ JoinsAreas (now (u .entry)) (now (u .exit)) n (beforeIn gates (bandsOf (now (u .entry)) n) g) ⌝ }
-    ensures { λ _. ⌜ WordsDiffer (now (u .entry)) (now (u .exit)) n ⌝ }
-{
-    if g % gates == 0 {
-        return;
-    }
-    let h = g - 1;
-    let b = u[g as usize];
-    if u[h as usize] != b {
-        return;
-    }
-    let e = n + n;
-    unite(&mut u[n..e], h, g);
-}
-
-// Gate `g` joined with both, if it has a band.
-fn link(u: &mut [u32], n: usize, gates: u32, g: u32)
-    requires { ⌜ Treed (bandsOf (now u) n) (wordsOf (now u) n) ⌝ }
-    requires { ⌜ (n + n ≤ length (now u)) × (0 < gates) ⌝ }
-    requires { ⌜ g < n ⌝ }
-    ensures { λ _. ⌜ JoinsAreas (now (u .entry)) (now (u .exit)) n (linksIn gates (bandsOf (now (u .entry)) n) g) ⌝ }
-    ensures { λ _. ⌜ WordsDiffer (now (u .entry)) (now (u .exit)) n ⌝ }
-{
-    if u[g as usize] == 0 {
-        return;
-    }
-    link_above(u, n, gates, g);
-    link_before(u, n, gates, g);
-}
-
-// Every gate joined with its neighbours of the same band, in scan order.
-pub fn link_all(u: &mut [u32], n: usize, gates: u32)
-    requires { ⌜ Treed (bandsOf (now u) n) (wordsOf (now u) n) ⌝ }
-    requires { ⌜ (n + n ≤ length (now u)) × (0 < n → 0 < gates) ⌝ }
-    ensures { λ _. ⌜ JoinsAreas (now (u .entry)) (now (u .exit)) n (laterIn gates (bandsOf (now (u .entry)) n) 0) ⌝ }
-    ensures { λ _. ⌜ WordsDiffer (now (u .entry)) (now (u .exit)) n ⌝ }
-{
-    let m = n as u32;
-    let mut g: u32 = 0;
-    while g < m {
-        link(u, n, gates, g);
-        g += 1;
-    }
-}
-
-// Gate `g` counted for its band, if it is the first of its area.
-fn count_gate(u: &mut [u32], n: usize, g: usize)
-    requires { ⌜ Treed (bandsOf (now u) n) (wordsOf (now u) n) ⌝ }
-    requires { ⌜ (g < n) × (n + n ≤ length (now u)) × (getD (bandsOf (now u) n) g 0 ≤ length (countsOf (now u) n)) ⌝ }
-    requires { ⌜ ((j : ℕ) → j < length (countsOf (now u) n) → getD (countsOf (now u) n) j 0 + 1 < 2 ^ 32) ⌝ }
-    ensures { λ _. ⌜ CountsGate (now (u .entry)) (now (u .exit)) n g ⌝ }
-    ensures { λ _. ⌜ CountersDiffer (now (u .entry)) (now (u .exit)) n ⌝ }
-{
-    let v = u[n + g];
-    if v == 0 {
-        return;
-    }
-    let p = (v - 1) as usize;
-    if p != g {
-        return;
-    }
-    let b = (u[g] - 1) as usize;
-    let at = n + n + b;
+    let at = n + n + (b - 1) as usize;
     let k = u[at];
     u[at] = k + 1;
+    g as u32 + 1
 }
 
-// How many regions each band has, over counters that are 0.
-pub fn count(u: &mut [u32], n: usize)
-    requires { ⌜ Treed (bandsOf (now u) n) (wordsOf (now u) n) ⌝ }
-    requires { ⌜ (n + n ≤ length (now u)) × ((i : ℕ) → getD (bandsOf (now u) n) i 0 ≤ length (countsOf (now u) n)) ⌝ }
-    requires { ⌜ countsOf (now u) n ≡ replicate (length (countsOf (now u) n)) 0 ⌝ }
-    ensures { λ _. ⌜ CountsGates (now (u .entry)) (now (u .exit)) n ⌝ }
-    ensures { λ _. ⌜ CountersDiffer (now (u .entry)) (now (u .exit)) n ⌝ }
+// Band `b` has one area less, if two were made one.
+fn one_less(u: &mut [u32], n: usize, b: u32, two: bool)
+    requires { ⌜ (0 < b) × (n + n + (b - 1) < length (now u)) ⌝ }
+    requires { ⌜ (two ≡ true → 0 < getD (now u) (n + n + (b - 1)) 0) ⌝ }
+    ensures { λ _. ⌜ now (u .exit) ≡ cond two (set (now (u .entry)) (n + n + (b - 1)) (getD (now (u .entry)) (n + n + (b - 1)) 0 - 1)) (now (u .entry)) ⌝ }
 {
-    let mut g = 0;
-    while g < n {
-        count_gate(u, n, g);
-        g += 1;
+    if !two {
+        return;
     }
+    let at = n + n + (b - 1) as usize;
+    let k = u[at];
+    u[at] = k - 1;
+}
+
+// The areas of the gates before and above gate `g` made one, which it joins. Its word: that of the gate before.
+fn meet(u: &mut [u32], n: usize, gates: usize, g: usize, b: u32) -> u32
+    requires { ⌜ Next gates (now u) n g b ⌝ }
+    requires { ⌜ Corner gates (bandsOf (now u) g) g b ⌝ }
+    ensures { λ r. ⌜ Placed gates (now (u .entry)) (now (u .exit)) n g b r ⌝ }
+{
+    let h = g - gates;
+    let e = n + g;
+    let two = unite(&mut u[n..e], h as u32, (g - 1) as u32);
+    one_less(u, n, b, two);
+    u[n + (g - 1)]
+}
+
+// Gate `g` joins the area of the gate before, whose word it gets. Where the gate above is of its band too, their areas are made one, unless the
+// gate before that one is of the band: then they are one already.
+fn beside(u: &mut [u32], n: usize, gates: usize, g: usize, b: u32, word: u32) -> u32
+    requires { ⌜ Next gates (now u) n g b ⌝ }
+    requires { ⌜ (0 < b) × (bandBefore gates (bandsOf (now u) g) g ≡ b) ⌝ }
+    requires { ⌜ word ≡ getD (seg (now u) n g) (g - 1) 0 ⌝ }
+    ensures { λ r. ⌜ Placed gates (now (u .entry)) (now (u .exit)) n g b r ⌝ }
+{
+    if g < gates {
+        return word;
+    }
+    let h = g - gates;
+    if u[h] != b {
+        return word;
+    }
+    if u[h - 1] == b {
+        return word;
+    }
+    meet(u, n, gates, g, b)
+}
+
+// Gate `g`, which does not go with the gate before, joins the area of the gate above or begins one.
+fn below(u: &mut [u32], n: usize, gates: usize, g: usize, b: u32) -> u32
+    requires { ⌜ Next gates (now u) n g b ⌝ }
+    requires { ⌜ (0 < b) × (bandBefore gates (bandsOf (now u) g) g ≡ b → ⊥) ⌝ }
+    ensures { λ r. ⌜ Placed gates (now (u .entry)) (now (u .exit)) n g b r ⌝ }
+{
+    if g < gates {
+        return begin(u, n, g, b);
+    }
+    let h = g - gates;
+    if u[h] == b {
+        return u[n + h];
+    }
+    begin(u, n, g, b)
+}
+
+// Gate `g`, of band `b`, joined with the gates before and above that are of its band: `before` is the band of the gate before on its ray,
+// `word` that gate's word. Gives its own word.
+pub fn place(u: &mut [u32], n: usize, gates: usize, g: usize, b: u32, before: u32, word: u32) -> u32
+    requires { ⌜ Next gates (now u) n g b ⌝ }
+    requires { ⌜ before ≡ bandBefore gates (bandsOf (now u) g) g ⌝ }
+    requires { ⌜ (0 < g → word ≡ getD (seg (now u) n g) (g - 1) 0) ⌝ }
+    ensures { λ r. ⌜ Placed gates (now (u .entry)) (now (u .exit)) n g b r ⌝ }
+{
+    if b == 0 {
+        return 0;
+    }
+    if b == before {
+        return beside(u, n, gates, g, b, word);
+    }
+    below(u, n, gates, g, b)
 }
 
 // The label of gate `g` over its band, where all gates before have theirs.

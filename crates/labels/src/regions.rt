@@ -1,19 +1,18 @@
 // regions.rs: the regions of a sweep. The gates of each interval between neighbouring limits are labelled by area, numbers going on from one
-// interval to the next. All intervals are done at once: each gate's interval is found by halving, and gates are joined only within one interval.
+// interval to the next. All intervals are done at once: a gate's interval is that of the gate before or found by halving, and gates are joined only
+// within one interval. No gate of an interval is marked in memory: a velocity is compared with the two limits when its gate is placed.
 // Where the intervals outnumber the words lent for counters, they are done in blocks of 64, each put over those before.
 use crate::label;
 ghost use mathlib.Core.Path.{_≡_};
 ghost use mathlib.Core.List.{_++_};
-ghost use Prim.Native.Nat.{ℕ, suc, _+_, _*_, _-_, _≤_, _<_, _^_};
+ghost use Prim.Native.Nat.{ℕ, _+_, _*_, _-_, _≤_, _<_, _^_};
 ghost use lib.ListN.{length, getD, replicate};
 ghost use Rattle.arithmetic.specs.Inside.Asked.{Rising};
-ghost use Rattle.labels.specs.Label.{own, Found};
+ghost use Rattle.labels.specs.Label.{Found};
 ghost use Rattle.labels.specs.Regions.{within, regions, over, added};
-ghost use Rattle.labels.specs.Inside.Forest.{Forest};
-ghost use Rattle.labels.specs.Inside.Bands.{Band, Bands, marks, joint};
-ghost use Rattle.labels.specs.Inside.Numbering.{Tally};
-ghost use Rattle.labels.specs.Inside.Areas.{Tallies, PutsOver};
-ghost use Rattle.labels.specs.Inside.Sheet.{bandsOf, wordsOf, countsOf, CountersDiffer, Same, Fitting, Block, Ample, FindsRegions};
+ghost use Rattle.labels.specs.Inside.Bands.{Band, Bands};
+ghost use Rattle.labels.specs.Inside.Areas.{AreasOf, PutsOver};
+ghost use Rattle.labels.specs.Inside.Sheet.{bandsOf, wordsOf, countsOf, Same, Fitting, Block, Ample, FindsRegions};
 
 // Whether a valid velocity lies in an interval: at or above its lower limit, below its upper one.
 fn holds(lower: f64, upper: f64, x: f32, m: u8) -> bool
@@ -61,58 +60,91 @@ fn band(limits: &[f64], x: f32, m: u8) -> u32
     0
 }
 
-// The first word of a gate in the union-find: itself, or 0 if it has no band.
-fn word(b: u32, g: usize) -> u32
-    requires { ⌜ g + 1 < 2 ^ 32 ⌝ }
-    ensures { λ r. ⌜ (b ≡ 0 → r ≡ 0) × ((b ≡ 0 → ⊥) → r ≡ suc g) ⌝ }
+// The band of a gate, where `last` is one found before: its interval is tried first.
+fn near(limits: &[f64], x: f32, m: u8, last: u32) -> u32
+    requires { ⌜ Rising (now limits) ⌝ }
+    requires { ⌜ (length (now limits) < 2 ^ 32) × (0 < last → last < length (now limits)) ⌝ }
+    ensures { λ r. ⌜ Band (now (limits .entry)) x m r ⌝ }
 {
-    if b == 0 {
-        return 0;
+    if last == 0 {
+        return band(limits, x, m);
     }
-    g as u32 + 1
+    let lower = limits[(last - 1) as usize];
+    let upper = limits[last as usize];
+    if holds(lower, upper, x, m) {
+        return last;
+    }
+    band(limits, x, m)
 }
 
-// Every gate's band, and every gate alone.
-fn spread(velocity: &[f32], valid: &[u8], limits: &[f64], u: &mut [u32], n: usize)
-    requires { ⌜ Same n (now velocity) (now valid) ⌝ }
-    requires { ⌜ n + n ≤ length (now u) ⌝ }
-    requires { ⌜ Rising (now limits) ⌝ }
-    requires { ⌜ length (now limits) < 2 ^ 32 ⌝ }
-    ensures { λ _. ⌜ Bands (now (limits .entry)) (now (velocity .entry)) (now (valid .entry)) (bandsOf (now (u .exit)) n) ⌝ }
-    ensures { λ _. ⌜ wordsOf (now (u .exit)) n ≡ own (marks (bandsOf (now (u .exit)) n)) ⌝ }
+// The last band that was found: `b`, unless it is none.
+fn kept(last: u32, b: u32) -> u32
+    ensures { λ r. ⌜ (b ≡ 0 → r ≡ last) × ((b ≡ 0 → ⊥) → r ≡ b) ⌝ }
 {
+    if b == 0 {
+        return last;
+    }
+    b
+}
+
+// How many gates of its ray come before the next gate, where `along` come before this one.
+fn next_along(along: usize, gates: usize) -> usize
+    requires { ⌜ along < gates ⌝ }
+    ensures { λ r. ⌜ (along + 1 ≡ gates → r ≡ 0) × ((along + 1 ≡ gates → ⊥) → r ≡ along + 1) ⌝ }
+{
+    if along + 1 == gates {
+        return 0;
+    }
+    along + 1
+}
+
+// The band of the gate before on the ray: none where a ray starts.
+fn on_ray(along: usize, b: u32) -> u32
+    ensures { λ r. ⌜ (along ≡ 0 → r ≡ 0) × ((along ≡ 0 → ⊥) → r ≡ b) ⌝ }
+{
+    if along == 0 {
+        return 0;
+    }
+    b
+}
+
+// Bands, gates joined within them, and how many areas each band has, in one pass over the gates. Counters are 0 before.
+fn join_all(gates: u32, velocity: &[f32], valid: &[u8], limits: &[f64], u: &mut [u32], n: usize)
+    requires { ⌜ Same n (now velocity) (now valid) ⌝ }
+    requires { ⌜ Fitting gates (now limits) (now u) n ⌝ }
+    requires { ⌜ countsOf (now u) n ≡ replicate (length (now limits) - 1) 0 ⌝ }
+    ensures { λ _. ⌜ Bands (now (limits .entry)) (now (velocity .entry)) (now (valid .entry)) (bandsOf (now (u .exit)) n) ⌝ }
+    ensures { λ _. ⌜ AreasOf gates (bandsOf (now (u .exit)) n) (wordsOf (now (u .exit)) n) (countsOf (now (u .exit)) n) ⌝ }
+{
+    let m = gates as usize;
+    let mut last: u32 = 0;
+    let mut before: u32 = 0;
+    let mut word: u32 = 0;
+    let mut along = 0;
     let mut g = 0;
     while g < n {
-        let b = band(limits, velocity[g], valid[g]);
+        let b = near(limits, velocity[g], valid[g], last);
+        word = label::place(u, n, m, g, b, before, word);
         u[g] = b;
-        u[n + g] = word(b, g);
+        u[n + g] = word;
+        last = kept(last, b);
+        along = next_along(along, m);
+        before = on_ray(along, b);
         g += 1;
     }
 }
 
-// Bands, and all gates joined within them.
+// The same, over counters of any contents.
 fn prepare(gates: u32, velocity: &[f32], valid: &[u8], limits: &[f64], u: &mut [u32], n: usize)
     requires { ⌜ Same n (now velocity) (now valid) ⌝ }
     requires { ⌜ Fitting gates (now limits) (now u) n ⌝ }
     ensures { λ _. ⌜ Bands (now (limits .entry)) (now (velocity .entry)) (now (valid .entry)) (bandsOf (now (u .exit)) n) ⌝ }
-    ensures { λ _. ⌜ Forest (marks (bandsOf (now (u .exit)) n)) (wordsOf (now (u .exit)) n) (joint gates (bandsOf (now (u .exit)) n)) ⌝ }
-{
-    spread(velocity, valid, limits, u, n);
-    label::link_all(u, n, gates);
-}
-
-// How many regions the bands before each have, and how many there are.
-fn tally(u: &mut [u32], n: usize) -> u32
-    requires { ⌜ n + n ≤ length (now u) ⌝ }
-    requires { ⌜ Tally (bandsOf (now u) n) (wordsOf (now u) n) (countsOf (now u) n) ⌝ }
-    ensures { λ r. ⌜ Tallies (now (u .entry)) (now (u .exit)) n r ⌝ }
-    ensures { λ _. ⌜ CountersDiffer (now (u .entry)) (now (u .exit)) n ⌝ }
+    ensures { λ _. ⌜ AreasOf gates (bandsOf (now (u .exit)) n) (wordsOf (now (u .exit)) n) (countsOf (now (u .exit)) n) ⌝ }
 {
     let a = n + n;
     let k = u.len() - a;
     memory::words::fill(u, a, k, 0);
-    label::count(u, n);
-    memory::words::starts(u, a, k)
+    join_all(gates, velocity, valid, limits, u, n);
 }
 
 // The regions of all intervals at once: labels in the first n words.
@@ -129,7 +161,9 @@ fn at_once(
     ensures { λ r. ⌜ record { labels = bandsOf (now (u .exit)) n; number = r } ≡ regions gates (now (velocity .entry)) (now (valid .entry)) (now (limits .entry)) ⌝ }
 {
     prepare(gates, velocity, valid, limits, u, n);
-    let r = tally(u, n);
+    let a = n + n;
+    let k = u.len() - a;
+    let r = memory::words::starts(u, a, k);
     label::number(u, n);
     r
 }
@@ -231,19 +265,16 @@ fn spans(m: usize) -> usize
     m - 1
 }
 
-// Labels in the first n words: all intervals at once where each has a counter, else block after block.
-fn label_gates(
-    gates: u32,
-    velocity: &[f32],
-    valid: &[u8],
-    limits: &[f64],
-    u: &mut [u32],
-    n: usize,
-) -> u32
-    requires { ⌜ Same n (now velocity) (now valid) ⌝ }
-    requires { ⌜ Ample gates (now limits) (now u) n ⌝ }
-    ensures { λ r. ⌜ record { labels = bandsOf (now (u .exit)) n; number = r } ≡ regions gates (now (velocity .entry)) (now (valid .entry)) (now (limits .entry)) ⌝ }
+// The regions of a sweep: a label for each gate in the first n words, and how many regions there are. The other 2n + 64 words hold anything
+// at the end. All intervals at once where each has a counter, else block after block.
+pub fn label_gates(gates: u32, velocity: &[f32], valid: &[u8], limits: &[f64], u: &mut [u32]) -> u32
+    requires { ⌜ FindsRegions gates (now velocity) (now valid) (now limits) (now u) ⌝ }
+    ensures { λ r. ⌜ (
+        let labels = bandsOf (now (u .exit)) (length (now (velocity .entry))) in
+        record { labels = labels; number = r } ≡ regions gates (now (velocity .entry)) (now (valid .entry)) (now (limits .entry))
+        ) ⌝ }
 {
+    let n = velocity.len();
     let k = spans(limits.len());
     if n + 64 < k {
         return blocks(gates, velocity, valid, limits, u, n);
@@ -253,7 +284,7 @@ fn label_gates(
     at_once(gates, velocity, valid, limits, &mut u[z..e], n)
 }
 
-// The regions of a sweep: a label for each gate and how many regions there are. All other words lent are 0 at the end.
+// The same, for callers that need zeros: all words lent but the labels are 0 at the end.
 pub fn find_regions(
     gates: u32,
     velocity: &[f32],
@@ -266,7 +297,7 @@ pub fn find_regions(
     ensures { λ _. ⌜ now (u .exit) ≡ (regions gates (now (velocity .entry)) (now (valid .entry)) (now (limits .entry))) .labels ++ replicate (2 * length (now (velocity .entry)) + 64) 0 ⌝ }
 {
     let n = velocity.len();
-    let r = label_gates(gates, velocity, valid, limits, u, n);
+    let r = label_gates(gates, velocity, valid, limits, u);
     memory::words::fill(u, n, 2 * n + 64, 0);
     r
 }

@@ -2,10 +2,10 @@
 use Prim.Native.Nat.{ℕ, zero, suc, _+_, _*_, _-_, _≤_}
 use native.Mathlib.Omega.{arith}
 use mathlib.Core.Path.{_≡_, refl, sym, ap, _∙_, subst}
-use mathlib.Core.List.{List, [], _∷_, _++_, append-assoc}
-use lib.ListN.{length, drop, take, replicate, length-append}
-use borrow.Rule.Slice.PartMut.{postOf}
-use lib.Seq.{take-append-seam, length-take-le}
+use mathlib.Core.List.{List, [], _∷_, _++_}
+use lib.ListN.{length, drop, take, length-append}
+use borrow.Rule.Slice.PartMut.{postOf, post-is}
+use lib.Seq.{take-append-seam, take-append-le, drop-append-seam, length-take-le}
 use lib.IntN.{ℤ}
 use lib.Ieee.{Float}
 use Rattle.arithmetic.specs.Inside.Asked.{front}
@@ -14,9 +14,9 @@ use Rattle.lists.specs.Inside.Seg.{seg}
 use Rattle.lists.specs.Seq.{tabulate}
 use Rattle.arithmetic.specs.declared.intervals.Plan.{Plan}
 use Rattle.lists.proofs.SeqLaws.{tab-length}
+use Rattle.labels.specs.Label.{Found}
 use Rattle.labels.specs.Regions.{regions}
 use Rattle.labels.specs.Inside.Sheet as Sheet
-use Rattle.labels.proofs.RegionLaws.{labels-long}
 use Rattle.network.specs.Inside.Find.{limitsBy, regionsBy, Limited, Labelled}
 use Rattle.network.specs.declared.options.Options.{Options}
 
@@ -58,22 +58,17 @@ module _ (o : Options) (p : Plan) (vel : List Float) (mask : List ℕ) (w : List
     some-gates = h .some-gates;
     rising = h .rising;
     few-limits = omega (arith, long, h .planned .few);
-    long = length-take-le (3 * length vel + 64 - 0) w (omega (arith, h .room)) ∙ omega arith;
+    long = omega (arith, length-take-le (3 * length vel + 64 - 0) w (omega (arith, h .room)));
   })
 
   -- and what it leaves
-  pub regions-left : (r : ℕ) (u : List ℕ) → r ≡ (regions (o .gates) vel mask (take (m - 0) l)) .number → u ≡ (regions (o .gates) vel mask (take (m - 0) l)) .labels ++ replicate (2 * length vel + 64) 0
-      → Labelled (regionsBy o p vel mask) (length vel) r (u ++ postOf 0 (3 * length vel + 64 - 0) w)
+  pub regions-left : (r : ℕ) (u : List ℕ) → length u ≡ length (take (3 * length vel + 64 - 0) w) → record { labels = seg u 0 (length vel); number = r } ≡ regions (o .gates) vel mask (take (m - 0) l)
+      → Labelled (regionsBy o p vel mask) (length vel) r (u ++ postOf 0 (3 * length vel + 64 - 0) w) × (drop (3 * length vel + 64) (u ++ postOf 0 (3 * length vel + 64 - 0) w) ≡ drop (3 * length vel + 64) w)
   unfolding seg
-  regions-left r u a q =
-      let L = limitsBy o p in
-      let z : List ℕ = replicate (2 * length vel + 64) 0 in
+  regions-left r u k q =
       let rest : List ℕ = postOf 0 (3 * length vel + 64 - 0) w in
-      let u-is : u ≡ (regions (o .gates) vel mask L) .labels ++ z = q ∙ ap (λ (y : List Float). (regions (o .gates) vel mask y) .labels ++ z) limits-read in
-      let labels = (regions (o .gates) vel mask L) .labels in
-      record {
-        number = a ∙ ap (λ (y : List Float). (regions (o .gates) vel mask y) .number) limits-read;
-        labels =
-            ap (λ (x : List ℕ). take (length vel) (x ++ rest)) u-is ∙ ap (take (length vel)) (append-assoc labels z rest)
-            ∙ ap (λ (k : ℕ). take k (labels ++ (z ++ rest))) (sym (h .masks) ∙ sym (labels-long (o .gates) vel mask L)) ∙ take-append-seam labels (z ++ rest);
-      }
+      let long-u : length u ≡ 3 * length vel + 64 = omega (arith, k, length-take-le (3 * length vel + 64 - 0) w (omega (arith, h .room))) in
+      let is : record { labels = seg u 0 (length vel); number = r } ≡ regionsBy o p vel mask = q ∙ ap (regions (o .gates) vel mask) limits-read in (
+        record { number = ap (λ (f : Found). f .number) is; labels = take-append-le (length vel) u rest (omega (arith, long-u)) ∙ ap (λ (f : Found). f .labels) is },
+        ap (λ (j : ℕ). drop j (u ++ rest)) (sym long-u) ∙ drop-append-seam u rest ∙ post-is 0 (3 * length vel + 64) w (omega arith),
+      )

@@ -1,8 +1,8 @@
 // Finding: from a sweep's limits to its merged regions. Labels, sizes and counts are left in the work memory; nothing else is written.
 use memory::layout;
 ghost use mathlib.Core.Path.{_≡_};
-ghost use Prim.Native.Nat.{_+_, _≤_};
-ghost use lib.ListN.{length, replicate};
+ghost use Prim.Native.Nat.{_+_, _*_, _≤_};
+ghost use lib.ListN.{length, drop, replicate};
 ghost use Rattle.arithmetic.specs.Inside.Asked.{front};
 ghost use Rattle.arithmetic.specs.Intervals.{atLeast0};
 ghost use Rattle.lists.specs.Inside.Seg.{seg, put};
@@ -43,7 +43,8 @@ pub fn limits(o: crate::options::Options, p: arithmetic::intervals::Plan, out: &
     how_many(p.number)
 }
 
-// The label of each gate, at the front of `work`, by the limits of a plan, which are written into `out`. The number of regions.
+// The label of each gate, at the front of `work`, by the limits of a plan, which are written into `out`. The number of regions. Of `work` the
+// labels and 2n + 64 words after them are lent on; the rest is not touched.
 fn label_in(
     out: &mut [f64],
     o: crate::options::Options,
@@ -55,10 +56,11 @@ fn label_in(
     requires { ⌜ Limited o p (now velocity) (now valid) (length (now work)) ⌝ }
     requires { ⌜ 10000 ≤ length (now out) ⌝ }
     ensures { λ r. ⌜ Labelled (regionsBy o p (now (velocity .entry)) (now (valid .entry))) (length (now (velocity .entry))) r (now (work .exit)) ⌝ }
+    ensures { λ _. ⌜ drop (3 * length (now (velocity .entry)) + 64) (now (work .exit)) ≡ drop (3 * length (now (velocity .entry)) + 64) (now (work .entry)) ⌝ }
 {
     let m = limits(o, p, out);
     let end = 3 * velocity.len() + layout::WORDS_MORE;
-    labels::regions::find_regions(o.gates, velocity, valid, &out[0..m], &mut work[0..end])
+    labels::regions::label_gates(o.gates, velocity, valid, &out[0..m], &mut work[0..end])
 }
 
 // The same, with limits of its own: a sweep of few gates may have more limits than words lent.
@@ -71,6 +73,7 @@ pub fn label(
 ) -> u32
     requires { ⌜ Limited o p (now velocity) (now valid) (length (now work)) ⌝ }
     ensures { λ r. ⌜ Labelled (regionsBy o p (now (velocity .entry)) (now (valid .entry))) (length (now (velocity .entry))) r (now (work .exit)) ⌝ }
+    ensures { λ _. ⌜ drop (3 * length (now (velocity .entry)) + 64) (now (work .exit)) ≡ drop (3 * length (now (velocity .entry)) + 64) (now (work .entry)) ⌝ }
 {
     let mut out = [0.0; 10000];
     label_in(&mut out, o, p, velocity, valid, work)

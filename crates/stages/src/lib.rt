@@ -2,7 +2,7 @@
 // that the entry uses, and asks of its caller what they ask, and promises what they promise: callers get there by the stages before, on sweeps that
 // the entry accepts.
 ghost use mathlib.Core.Path.{_≡_};
-ghost use mathlib.Core.List.{List, _++_};
+ghost use mathlib.Core.List.{List};
 ghost use Prim.Native.Nat.{_+_, _*_, _≤_};
 ghost use lib.IntN.{pos};
 ghost use lib.ListN.{length, replicate};
@@ -15,7 +15,7 @@ ghost use Rattle.arithmetic.specs.Intervals.{velocityInRange};
 ghost use Rattle.arithmetic.specs.Rounding.{real};
 ghost use Rattle.arithmetic.specs.Intervals as I;
 ghost use Rattle.labels.specs.Regions.{regions};
-ghost use Rattle.labels.specs.Inside.Sheet.{FindsRegions};
+ghost use Rattle.labels.specs.Inside.Sheet.{bandsOf, FindsRegions};
 ghost use Rattle.edges.specs.declared.edges.Shape.{Shape};
 ghost use Rattle.edges.specs.Inside.GatePairs.{gatePairs, AddsPairs, Sheet};
 ghost use Rattle.edges.specs.Inside.Sorts.{Sorts, Sorted};
@@ -114,7 +114,7 @@ pub extern "C" fn stage_limits(
     network::find::limits(o, p, out)
 }
 
-// Labels.
+// Labels, as the entry has them found: the words after them are left as they come.
 #[no_mangle]
 pub extern "C" fn stage_labels(
     gates: u32,
@@ -124,13 +124,12 @@ pub extern "C" fn stage_labels(
     work: &mut [u32],
 ) -> u32
     requires { ⌜ FindsRegions gates (now velocity) (now valid) (now limits) (now work) ⌝ }
-    ensures { λ r. ⌜ r ≡ (regions gates (now (velocity .entry)) (now (valid .entry)) (now (limits .entry))) .number ⌝ }
-    ensures { λ _. ⌜ (
-        let f = regions gates (now (velocity .entry)) (now (valid .entry)) (now (limits .entry)) in
-        now (work .exit) ≡ f .labels ++ replicate (2 * length (now (velocity .entry)) + 64) 0
+    ensures { λ r. ⌜ (
+        let labels = bandsOf (now (work .exit)) (length (now (velocity .entry))) in
+        record { labels = labels; number = r } ≡ regions gates (now (velocity .entry)) (now (valid .entry)) (now (limits .entry))
         ) ⌝ }
 {
-    labels::regions::find_regions(gates, velocity, valid, limits, work)
+    labels::regions::label_gates(gates, velocity, valid, limits, work)
 }
 
 // Looks: how many pairs there are.

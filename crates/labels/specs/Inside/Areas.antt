@@ -1,36 +1,41 @@
--- What joining, counting and numbering do to the lent slice u, which becomes v: whatever areas it holds, rs being their roots.
-use Prim.Native.Nat.{ℕ, suc, _+_, _<_}
+-- What placing, numbering and putting over do to the lent slice u, which becomes v.
+use Prim.Native.Nat.{ℕ, suc, _+_, _-_, _%_, _≤_, _<_, _^_}
 use mathlib.Core.Path.{_≡_}
-use mathlib.Core.List.{List, foldl}
+use mathlib.Core.List.{List, [], _∷_, _++_}
 use lib.ListN.{length, getD}
-use Rattle.labels.specs.Label.{Neighbours, join}
+use Rattle.lists.specs.Inside.Seg.{seg}
 use Rattle.labels.specs.Regions.{over}
 use Rattle.labels.specs.Inside.Forest.{Forest}
-use Rattle.labels.specs.Inside.Bands.{marks}
-use Rattle.labels.specs.Inside.Numbering.{sizes, CountedBefore, Numbering}
+use Rattle.labels.specs.Inside.Bands.{marks, joint}
+use Rattle.labels.specs.Inside.Numbering.{Counted, Numbering}
 use Rattle.labels.specs.Inside.Sheet.{bandsOf, wordsOf, countsOf}
 
--- the words of v hold these areas of the bands of u
-abbrev pub Areas : List ℕ → List ℕ → ℕ → List ℕ → Type 0
-Areas u v n rs = Forest (marks (bandsOf u n)) (wordsOf v n) rs
+-- words that hold the areas of bands, and counters that hold how many each band has
+pub record AreasOf (gates : ℕ) (iv w c : List ℕ) : Type 0 where
+  pub forest : Forest (marks iv) w (joint gates iv)
+  pub counts : Counted iv (joint gates iv) c
 
--- these neighbours were joined
-abbrev pub JoinsAreas : List ℕ → List ℕ → ℕ → List Neighbours → Type 0
-JoinsAreas u v n ls = (rs : List ℕ) → Areas u u n rs → Areas u v n (foldl join rs ls)
+-- gate g, of band b, is the next to be placed
+pub record Next (gates : ℕ) (u : List ℕ) (n g b : ℕ) : Type 0 where
+  pub areas : AreasOf gates (bandsOf u g) (seg u n g) (countsOf u n)
+  pub here : g < n
+  pub room : n + n ≤ length u
+  pub small : n + 1 < 2 ^ 32
+  pub some-gates : 0 < gates
+  pub band : b ≤ length (countsOf u n)
 
--- gate g was counted for its band, if it is the first of its area
-abbrev pub CountsGate : List ℕ → List ℕ → ℕ → ℕ → Type 0
-CountsGate u v n g = (rs : List ℕ) → Areas u u n rs → CountedBefore (bandsOf u n) rs (countsOf u n) g → CountedBefore (bandsOf u n) rs (countsOf v n) (g + 1)
+-- gates above and before gate g, of its band b
+pub record Corner (gates : ℕ) (iv : List ℕ) (g b : ℕ) : Type 0 where
+  pub some : 0 < b
+  pub inner : g % gates ≡ 0 → ⊥
+  pub before : getD iv (g - 1) 0 ≡ b
+  pub ray : gates ≤ g
+  pub above : getD iv (g - gates) 0 ≡ b
 
--- all gates were
-abbrev pub CountsGates : List ℕ → List ℕ → ℕ → Type 0
-CountsGates u v n = (rs : List ℕ) → Areas u u n rs → CountedBefore (bandsOf u n) rs (countsOf v n) n
-
--- r regions, and for each band how many those before it have
-abbrev pub Tallies : List ℕ → List ℕ → ℕ → ℕ → Type 0
-Tallies u v n r =
-    (rs : List ℕ) → Areas u u n rs
-    → (r ≡ sizes (bandsOf u n) rs (length (countsOf u n))) × ((j : ℕ) → j < length (countsOf u n) → getD (countsOf v n) j 0 ≡ sizes (bandsOf u n) rs j)
+-- gate g, of band b, has its place by the word x
+pub record Placed (gates : ℕ) (u v : List ℕ) (n g b x : ℕ) : Type 0 where
+  pub bands : bandsOf v g ≡ bandsOf u g
+  pub areas : AreasOf gates (bandsOf u g ++ b ∷ []) (seg v n g ++ x ∷ []) (countsOf v n)
 
 -- gate g got its label
 abbrev pub LabelsGate : List ℕ → List ℕ → ℕ → ℕ → Type 0
@@ -41,7 +46,7 @@ LabelsGate u v n g =
 -- all gates did; an area lies in one band
 abbrev pub LabelsGates : List ℕ → List ℕ → ℕ → Type 0
 LabelsGates u v n =
-    (rs : List ℕ) → Areas u u n rs → ((i r : ℕ) → getD rs i 0 ≡ suc r → getD (bandsOf u n) r 0 ≡ getD (bandsOf u n) i 0)
+    (rs : List ℕ) → Forest (marks (bandsOf u n)) (wordsOf u n) rs → ((i r : ℕ) → getD rs i 0 ≡ suc r → getD (bandsOf u n) r 0 ≡ getD (bandsOf u n) i 0)
     → Numbering (bandsOf u n) rs (countsOf u n) (bandsOf v n) (countsOf v n) n
 
 -- the labels of the second n words were put over those of the first

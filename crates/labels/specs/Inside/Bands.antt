@@ -1,5 +1,5 @@
 -- All intervals at once: a gate's band is 1 + the number of the interval that holds it, or 0; gates are joined within their band.
-use Prim.Native.Nat.{ℕ, suc, _+_, _-_, _%_, _<_, _^_}
+use Prim.Native.Nat.{ℕ, suc, _-_, _%_, _<_}
 use mathlib.Core.Path.{_≡_}
 use mathlib.Core.Bool.{Bool, cond, not, _&&_}
 use mathlib.Core.List.{List, [], _∷_, _++_, map, foldl}
@@ -9,7 +9,6 @@ use lib.ListN.{length, getD}
 use Rattle.lists.specs.Seq.{upto, tabulate, each}
 use Rattle.labels.specs.Label.{Neighbours, own, join}
 use Rattle.labels.specs.Regions.{Interval, within}
-use Rattle.labels.specs.Inside.Forest.{Forest}
 
 -- interval j of the limits
 unfoldable pub window : List Float → ℕ → Interval
@@ -53,8 +52,6 @@ joint gates iv = foldl join (own (marks iv)) (laterIn gates iv 0)
 unfoldable pub part : List ℕ → List ℕ → ℕ → List ℕ
 part iv rs j = tabulate (length iv) (λ g. cond (eqb (getD iv g 0) (suc j)) (getD rs g 0) 0)
 
--- words that hold areas within the bands
-pub record Treed (iv w : List ℕ) : Type 0 where
-  pub rs : List ℕ
-  pub forest : Forest (marks iv) w rs
-  pub small : length w + 1 < 2 ^ 32
+-- the band of the gate before gate g on its ray; 0 where g starts a ray
+unfoldable pub bandBefore : ℕ → List ℕ → ℕ → ℕ
+bandBefore gates iv g = cond (eqb (g % gates) 0) 0 (getD iv (g - 1) 0)

@@ -7,7 +7,7 @@ use lib.Dec.{eqb}
 use lib.ListN.{length, getD}
 use Rattle.labels.specs.Label.{firsts, rank}
 use Rattle.labels.specs.Inside.Forest.{Forest}
-use Rattle.labels.specs.Inside.Bands.{marks, part, Treed}
+use Rattle.labels.specs.Inside.Bands.{marks, part}
 
 -- how many regions the first j bands have
 unfoldable pub sizes : List ℕ → List ℕ → ℕ → ℕ
@@ -18,9 +18,9 @@ sizes iv rs (suc j) = sizes iv rs j + length (firsts (part iv rs j))
 unfoldable pub final : List ℕ → List ℕ → List ℕ → ℕ → ℕ
 final iv rs c i = cond (eqb (getD iv i 0) 0) 0 (getD c (getD iv i 0 - 1) 0 + rank (firsts (part iv rs (getD iv i 0 - 1))) (getD rs i 0))
 
--- the counters after the gates before g
-abbrev pub CountedBefore : List ℕ → List ℕ → List ℕ → ℕ → Type 0
-CountedBefore iv rs c g = (j : ℕ) → j < length c → getD c j 0 ≡ rank (firsts (part iv rs j)) g
+-- counters that hold how many regions each band has
+abbrev pub Counted : List ℕ → List ℕ → List ℕ → Type 0
+Counted iv rs c = (j : ℕ) → j < length c → getD c j 0 ≡ length (firsts (part iv rs j))
 
 -- the numbering before gate g: labels of the gates before, bands of the others, and counters over their starts c₀
 pub record Numbering (iv rs c₀ labels c : List ℕ) (g : ℕ) : Type 0 where
@@ -52,9 +52,3 @@ pub record NumbersGates (w labels c : List ℕ) : Type 0 where
   pub band : (i : ℕ) → getD labels i 0 ≤ length c
   pub bands : (i r : ℕ) → getD rs i 0 ≡ suc r → getD labels r 0 ≡ getD labels i 0
   pub fits : (j : ℕ) → j < length c → getD c j 0 + length (firsts (part labels rs j)) + 1 < 2 ^ 32
-
--- bands and words before the counting
-pub record Tally (iv w c : List ℕ) : Type 0 where
-  pub treed : Treed iv w
-  pub band : (i : ℕ) → getD iv i 0 ≤ length c
-  pub fits : sizes iv (treed .rs) (length c) < 2 ^ 32

@@ -19,16 +19,6 @@ wordsOf u n = seg u n n
 abbrev pub countsOf : List ℕ → ℕ → List ℕ
 countsOf u n = drop (n + n) u
 
--- only words of the union-find differ
-pub record WordsDiffer (u v : List ℕ) (n : ℕ) : Type 0 where
-  pub bands : bandsOf v n ≡ bandsOf u n
-  pub counts : countsOf v n ≡ countsOf u n
-
--- only counters differ
-pub record CountersDiffer (u v : List ℕ) (n : ℕ) : Type 0 where
-  pub bands : bandsOf v n ≡ bandsOf u n
-  pub words : wordsOf v n ≡ wordsOf u n
-
 -- one velocity and one mask byte for each of n gates
 pub record Same (n : ℕ) (velocity : List Float) (valid : List ℕ) : Type 0 where
   pub velocities : length velocity ≡ n
@@ -57,11 +47,11 @@ pub record Ample (gates : ℕ) (limits : List Float) (u : List ℕ) (n : ℕ) : 
   pub few-limits : length limits < 2 ^ 32
   pub long : length u ≡ n + n + n + 64
 
--- what a sweep's gates and limits are to be, and the words lent for them
+-- what a sweep's gates and limits are to be, and the words lent for them: a label for each of n gates, and 2n + 64 more
 pub record FindsRegions (gates : ℕ) (velocity : List Float) (valid : List ℕ) (limits : List Float) (u : List ℕ) : Type 0 where
   pub masks : length valid ≡ length velocity
   pub small : length velocity + 1 < 2 ^ 32
   pub some-gates : 0 < length velocity → 0 < gates
   pub rising : Rising limits
   pub few-limits : length limits < 2 ^ 32
-  pub long : length u ≡ 3 * length velocity + 64
+  pub long : length u ≡ length velocity + (2 * length velocity + 64)

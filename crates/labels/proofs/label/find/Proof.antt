@@ -7,8 +7,13 @@ use lib.ListN.{length, getD, length-set}
 use mathlib.Core.Bool.{Bool}
 use Rattle.labels.specs.Inside.Forest.{Forest}
 use Rattle.labels.proofs.ForestLaws.{Turn, turn, gate-in, in-length, At, next, found}
+use Rattle.labels.specs.Locals.{NoArray}
+use Rattle.labels.proofs.label.find.Code.Mir.{function}
 use Rattle.labels.proofs.label.find.Statement.{statement}
 use Rattle.labels.proofs.label.find.Tie as tie
+
+no-array : NoArray function
+no-array = refl
 
 abbrev Inv-loop : tie.InvT-loop
 Inv-loop w₀ start x₀ p₀ w x p = (p ≡ getD w x 0) × ((inside : List Bool) (rs : List ℕ) → Forest inside w₀ rs → At inside w rs start x)

@@ -5,8 +5,13 @@ use mathlib.Core.Path.{_≡_, refl}
 use Prim.Native.Nat.{_+_, _-_, _≤_, _<_}
 use lib.ListN.{length, getD, length-set}
 use borrow.Author.Needs.{needs}
+use Rattle.labels.specs.Locals.{NoArray}
+use Rattle.labels.proofs.label.label_gate.Code.Mir.{function}
 use Rattle.labels.proofs.label.label_gate.Statement.{statement}
 use Rattle.labels.proofs.label.label_gate.Tie as tie
+
+no-array : NoArray function
+no-array = refl
 
 gate : (c : tie.Start) → c .args .g < c .args .n
 gate c = ahead-here (c .args .u .now) (c .args .n) (c .pre .0) (c .args .g) (c .pre .1)

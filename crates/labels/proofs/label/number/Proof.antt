@@ -10,8 +10,13 @@ use mathlib.Core.Path.{_≡_, refl, _∙_, subst}
 use mathlib.Core.List.{List}
 use Prim.Native.Nat.{ℕ, suc, _+_, _-_, _≤_}
 use lib.ListN.{length, getD, drop}
+use Rattle.labels.specs.Locals.{NoArray}
+use Rattle.labels.proofs.label.number.Code.Mir.{function}
 use Rattle.labels.proofs.label.number.Statement.{statement}
 use Rattle.labels.proofs.label.number.Tie as tie
+
+no-array : NoArray function
+no-array = refl
 
 abbrev Inv-loop : tie.InvT-loop
 Inv-loop u₀ n g₀ u g = (g ≤ n) × (length u ≡ length u₀) × (seg u n n ≡ seg u₀ n n) × ((rs : List ℕ) → Forest (marks (seg u₀ 0 n)) (seg u₀ n n) rs → ((i r : ℕ) → getD rs i 0 ≡ suc r → getD (seg u₀ 0 n) r 0 ≡ getD (seg u₀ 0 n) i 0) → Numbering (seg u₀ 0 n) rs (drop (n + n) u₀) (seg u 0 n) (drop (n + n) u) g)

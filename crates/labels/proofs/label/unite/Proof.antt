@@ -1,13 +1,18 @@
 -- `labels::label::unite` meets its contract. Assumes nothing.
 use native.Mathlib.Omega.{arith}
-use mathlib.Core.Path.{sym, _∙_}
+use mathlib.Core.Path.{refl, sym, _∙_}
 use mathlib.Core.List.{List}
 use Prim.Native.Nat.{ℕ, _+_, _<_, _^_}
 use lib.ListN.{length, length-set}
 use Rattle.labels.specs.Inside.Forest.{Root}
-use Rattle.labels.proofs.ForestLaws.{some-after, gate-after, r-below, s-below, united-left, united-right}
+use Rattle.labels.proofs.ForestLaws.{some-after, gate-after, r-below, s-below, united-left, united-right, two-left, two-right}
+use Rattle.labels.specs.Locals.{NoArray}
+use Rattle.labels.proofs.label.unite.Code.Mir.{function}
 use Rattle.labels.proofs.label.unite.Statement.{statement}
 use Rattle.labels.proofs.label.unite.Tie as tie
+
+no-array : NoArray function
+no-array = refl
 
 -- the two roots, for the forest that is there
 one : (c : tie.After-find) → Root (c .before .before .before .pre .0 .inside) (c .find .last .0) (c .before .before .before .pre .0 .rs) (c .before .before .before .args .a) (c .find .result)
@@ -59,6 +64,24 @@ mul-w c = omega (arith, bounds (c .before .before .before))
 slice-write-w : tie.Need-slice-write-w
 slice-write-w c = bounds (c .before .before .before) .s-in
 
+same-length : tie.Need-same-length
+same-length c =
+    let s = c .before .before .before .before .before .before .before .before .before .before .pre .0 in
+    length-set (c .before .before .before .find2 .last .0) (c .before .before .before .find2 .result) (c .before .before .before .before .before .before .before .find .result + 1) ∙ two (c .before .before .before) .forest .long ∙ sym (s .forest .long)
+
+returns : tie.Need-returns
+returns c =
+    let a = c .before .before .before .before .before .before .before .before .before .before .args in
+    let f = c .before .before .before .before .before .before .before .find in
+    let k = c .before .before .before .find2 in (
+      λ inside rs F.
+          let R = f .ensures inside rs F in
+          two-left inside (f .last .0) (k .last .0) rs (a .a) (a .b) (f .result) (k .result) R (k .ensures inside rs (R .forest)) (c .if1 .taken),
+      λ inside rs F.
+          let R = f .ensures inside rs F in
+          united-left inside (f .last .0) (k .last .0) rs (a .a) (a .b) (f .result) (k .result) R (k .ensures inside rs (R .forest)) (c .if1 .taken),
+    )
+
 add-w-2 : tie.Need-add-w-2
 add-w-2 c = omega (arith, bounds (c .before .before .before))
 
@@ -71,27 +94,23 @@ mul-w-2 c = omega (arith, bounds (c .before .before .before))
 slice-write-w-2 : tie.Need-slice-write-w-2
 slice-write-w-2 c = bounds (c .before .before .before) .r-in
 
-same-length : tie.Need-same-length
-same-length c =
-    let s = c .before .before .before .before .before .before .before .before .before .before .pre .0 in
-    length-set (c .before .before .before .find2 .last .0) (c .before .before .before .find2 .result) (c .before .before .before .before .before .before .before .find .result + 1) ∙ two (c .before .before .before) .forest .long ∙ sym (s .forest .long)
-
-returns : tie.Need-returns
-returns c inside rs F =
-    let a = c .before .before .before .before .before .before .before .before .before .before .args in
-    let R = c .before .before .before .before .before .before .before .find .ensures inside rs F in
-    united-left inside (c .before .before .before .before .before .before .before .find .last .0) (c .before .before .before .find2 .last .0) rs (a .a) (a .b) (c .before .before .before .before .before .before .before .find .result) (c .before .before .before .find2 .result) R (c .before .before .before .find2 .ensures inside rs (R .forest)) (c .if1 .taken)
-
 same-length-2 : tie.Need-same-length-2
 same-length-2 c =
     let s = c .before .before .before .before .before .before .before .before .before .before .pre .0 in
     length-set (c .before .before .before .find2 .last .0) (c .before .before .before .before .before .before .before .find .result) (c .before .before .before .find2 .result + 1) ∙ two (c .before .before .before) .forest .long ∙ sym (s .forest .long)
 
 returns-2 : tie.Need-returns-2
-returns-2 c inside rs F =
+returns-2 c =
     let a = c .before .before .before .before .before .before .before .before .before .before .args in
-    let R = c .before .before .before .before .before .before .before .find .ensures inside rs F in
-    united-right inside (c .before .before .before .before .before .before .before .find .last .0) (c .before .before .before .find2 .last .0) rs (a .a) (a .b) (c .before .before .before .before .before .before .before .find .result) (c .before .before .before .find2 .result) R (c .before .before .before .find2 .ensures inside rs (R .forest)) (c .if1 .left)
+    let f = c .before .before .before .before .before .before .before .find in
+    let k = c .before .before .before .find2 in (
+      λ inside rs F.
+          let R = f .ensures inside rs F in
+          two-right inside (f .last .0) (k .last .0) rs (a .a) (a .b) (f .result) (k .result) R (k .ensures inside rs (R .forest)) (c .if1 .left),
+      λ inside rs F.
+          let R = f .ensures inside rs F in
+          united-right inside (f .last .0) (k .last .0) rs (a .a) (a .b) (f .result) (k .result) R (k .ensures inside rs (R .forest)) (c .if1 .left),
+    )
 
 pub unite-spec : {M : Type 1} → statement M
 unite-spec =
@@ -103,11 +122,11 @@ unite-spec =
     cast-w
     mul-w
     slice-write-w
+    same-length
+    returns
     add-w-2
     cast-w-2
     mul-w-2
     slice-write-w-2
-    same-length
-    returns
     same-length-2
     returns-2)

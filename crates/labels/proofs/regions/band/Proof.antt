@@ -6,8 +6,13 @@ use Prim.Native.Nat.{_+_, _-_, _/_}
 use lib.ListN.{length, getD}
 use lib.Ieee.{Float, nan, lt}
 use Rattle.labels.proofs.BandLaws.{Search, start, take-low, take-high, found, missed, few-limits, masked}
+use Rattle.labels.specs.Locals.{NoArray}
+use Rattle.labels.proofs.regions.band.Code.Mir.{function}
 use Rattle.labels.proofs.regions.band.Statement.{statement}
 use Rattle.labels.proofs.regions.band.Tie as tie
+
+no-array : NoArray function
+no-array = refl
 
 abbrev Inv-loop : tie.InvT-loop
 Inv-loop limits x m n v lo₀ hi₀ lo hi = Search limits x m lo hi

@@ -1,8 +1,14 @@
 -- `labels::regions::block` meets its contract. Assumes nothing.
 use Rattle.labels.proofs.PartLaws.{part-asks, over-asks, last-fits, block-found}
 use native.Mathlib.Omega.{arith}
+use mathlib.Core.Path.{refl}
+use Rattle.labels.specs.Locals.{NoArray}
+use Rattle.labels.proofs.regions.block.Code.Mir.{function}
 use Rattle.labels.proofs.regions.block.Statement.{statement}
 use Rattle.labels.proofs.regions.block.Tie as tie
+
+no-array : NoArray function
+no-array = refl
 
 add-e : tie.Need-add-e
 add-e c = omega arith

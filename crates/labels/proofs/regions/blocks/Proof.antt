@@ -4,8 +4,13 @@ use native.Mathlib.Omega.{arith}
 use mathlib.Core.Path.{_≡_, refl, _∙_}
 use Prim.Native.Nat.{_-_, _≤_}
 use lib.ListN.{length}
+use Rattle.labels.specs.Locals.{NoArray}
+use Rattle.labels.proofs.regions.blocks.Code.Mir.{function}
 use Rattle.labels.proofs.regions.blocks.Statement.{statement}
 use Rattle.labels.proofs.regions.blocks.Tie as tie
+
+no-array : NoArray function
+no-array = refl
 
 abbrev Inv-loop : tie.InvT-loop
 Inv-loop gates velocity valid limits u₀ n m k₀ i₀ u k i = (i ≤ m) × (length u ≡ length u₀) × Growing gates velocity valid limits n u k i

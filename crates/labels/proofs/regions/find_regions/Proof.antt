@@ -2,16 +2,20 @@
 use Rattle.labels.specs.Regions.{regions}
 use Rattle.labels.proofs.PartLaws.{zeros-after}
 use native.Mathlib.Omega.{arith}
-use mathlib.Core.Path.{refl}
 use Prim.Native.Nat.{_+_, _*_}
 use lib.ListN.{length}
 use borrow.Author.Needs.{needs}
+use mathlib.Core.Path.{refl}
+use Rattle.labels.specs.Locals.{NoArray}
+use Rattle.labels.proofs.regions.find_regions.Code.Mir.{function}
 use Rattle.labels.proofs.regions.find_regions.Statement.{statement}
 use Rattle.labels.proofs.regions.find_regions.Tie as tie
 
+no-array : NoArray function
+no-array = refl
+
 label-gates-requires : tie.Need-label-gates-requires
-label-gates-requires c κs = let A = c .before .before .before .before .before .pre in
-    (record { velocities = refl; masks = A .masks; small = A .small }, record { some-gates = A .some-gates; rising = A .rising; few-limits = A .few-limits; long = omega (arith, A .long) })
+label-gates-requires c κs = c .before .before .before .before .before .pre
 
 mul-fill : tie.Need-mul-fill
 mul-fill c = search needs

@@ -1,10 +1,15 @@
 -- `labels::regions::holds` meets its contract. Assumes nothing.
-use mathlib.Core.Path.{sym, ap, _∙_}
+use mathlib.Core.Path.{refl, sym, ap, _∙_}
 use borrow.Author.Needs.{needs}
 use lib.Ieee.{le, lt, Float}
 use Rattle.labels.proofs.OwnLaws.{within-not, within-low, within-is}
+use Rattle.labels.specs.Locals.{NoArray}
+use Rattle.labels.proofs.regions.holds.Code.Mir.{function}
 use Rattle.labels.proofs.regions.holds.Statement.{statement}
 use Rattle.labels.proofs.regions.holds.Tie as tie
+
+no-array : NoArray function
+no-array = refl
 
 returns : tie.Need-returns
 returns c =

@@ -1,31 +1,35 @@
 -- `labels::regions::prepare` meets its contract. Assumes nothing.
-use Rattle.labels.proofs.WholeLaws.{link-asks, all-joined}
+use Rattle.labels.proofs.WholeLaws.{still-fits, cleared}
 use native.Mathlib.Omega.{arith}
-use Prim.Native.Nat.{_+_, _≤_}
-use lib.ListN.{length}
+use mathlib.Core.Path.{refl}
+use Rattle.labels.specs.Locals.{NoArray}
+use Rattle.labels.proofs.regions.prepare.Code.Mir.{function}
 use Rattle.labels.proofs.regions.prepare.Statement.{statement}
 use Rattle.labels.proofs.regions.prepare.Tie as tie
 
-spread-requires : tie.Need-spread-requires
-spread-requires c κs = let s = c .before .before .before .before .before in
-    (s .pre .0, (omega (arith, s .pre .1 .long), (s .pre .1 .rising, s .pre .1 .few-limits)))
+no-array : NoArray function
+no-array = refl
 
-link-all-requires : tie.Need-link-all-requires
-link-all-requires c κs = let s = c .before .before .before .before .before .before .before .before .before in
-    let f = c .before .before .before .spread in
-    let fits : s .args .n + s .args .n ≤ length (f .last .1 .1 .1 .0) = omega (arith, f .kept .1 .1 .1 .0, s .pre .1 .long) in
-    (link-asks (s .args .gates) (f .last .1 .1 .1 .0) (s .args .n) fits (s .pre .0 .small) (f .ensures .1), (fits, s .pre .1 .some-gates))
+add-a : tie.Need-add-a
+add-a c = omega arith
+
+sub-k : tie.Need-sub-k
+sub-k c = omega arith
+
+fill-requires : tie.Need-fill-requires
+fill-requires c κs = omega arith
+
+join-all-requires : tie.Need-join-all-requires
+join-all-requires c κs = let s = c .before .before .before .before .before .before .before .before .before in
+    let a = s .args in
+    let f = c .before .before .before .fill in
+    (s .pre .0, (still-fits (a .gates) (a .limits .now) (a .u .now) (f .last .0) (a .n) (f .kept .0) (s .pre .1), cleared (a .gates) (a .limits .now) (a .u .now) (f .last .0) (a .n) (s .pre .1) (f .ensures)))
 
 same-length : tie.Need-same-length
 same-length c = omega arith
 
 returns : tie.Need-returns
-returns c = let s = c .before .before .before .before .before .before .before .before .before .before .before .before in
-    let a = s .args in
-    let f = c .before .before .before .before .before .before .spread in
-    let k = c .before .before .link-all in
-    let fits : a .n + a .n ≤ length (f .last .1 .1 .1 .0) = omega (arith, f .kept .1 .1 .1 .0, s .pre .1 .long) in
-    (rw (k .ensures .1 .bands) (f .ensures .0), all-joined (a .gates) (f .last .1 .1 .1 .0) (a .n) fits (s .pre .0 .small) (f .ensures .1) (k .last .0) (k .ensures .1) (k .ensures .0))
+returns c = c .before .before .join-all .ensures
 
 pub prepare-spec : {M : Type 1} → statement M
-prepare-spec = tie.close (tie.spec spread-requires link-all-requires same-length returns)
+prepare-spec = tie.close (tie.spec add-a sub-k fill-requires join-all-requires same-length returns)

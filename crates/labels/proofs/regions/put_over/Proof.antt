@@ -2,8 +2,14 @@
 use Rattle.labels.proofs.OverLaws.{Putting, put-begin, put-step}
 use native.Mathlib.Omega.{arith}
 use Prim.Native.Nat.{_+_, _-_, _≤_}
+use mathlib.Core.Path.{refl}
+use Rattle.labels.specs.Locals.{NoArray}
+use Rattle.labels.proofs.regions.put_over.Code.Mir.{function}
 use Rattle.labels.proofs.regions.put_over.Statement.{statement}
 use Rattle.labels.proofs.regions.put_over.Tie as tie
+
+no-array : NoArray function
+no-array = refl
 
 abbrev Inv-loop : tie.InvT-loop
 Inv-loop u₀ n from g₀ u g = (g ≤ n) × Putting u₀ u n from g

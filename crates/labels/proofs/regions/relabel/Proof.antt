@@ -1,9 +1,14 @@
 -- `labels::regions::relabel` meets its contract. Assumes nothing.
 use Rattle.labels.proofs.OverLaws.{over-old, over-new}
 use native.Mathlib.Omega.{arith}
-use mathlib.Core.Path.{sym}
+use mathlib.Core.Path.{refl, sym}
+use Rattle.labels.specs.Locals.{NoArray}
+use Rattle.labels.proofs.regions.relabel.Code.Mir.{function}
 use Rattle.labels.proofs.regions.relabel.Statement.{statement}
 use Rattle.labels.proofs.regions.relabel.Tie as tie
+
+no-array : NoArray function
+no-array = refl
 
 returns : tie.Need-returns
 returns c = let a = c .before .args in

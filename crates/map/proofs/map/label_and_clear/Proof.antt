@@ -41,8 +41,8 @@ returns c =
     let k = c .before .before .before .before .before .before .before .before .before .copy-labels in
     let z = c .before .before .before .before .clear in (
       (
-        k .ensures ∙ ap (λ (n : ℕ). seg (l .last .1 .1 .1 .1 .0) 0 n) (s .pre .1 .0) ∙ l .ensures .labels,
-        one-set (a .regions .now) (l .result) (s .pre .1 .1) ∙ ap (λ (n : ℕ). n ∷ []) (l .ensures .number),
+        k .ensures ∙ ap (λ (n : ℕ). seg (l .last .1 .1 .1 .1 .0) 0 n) (s .pre .1 .0) ∙ l .ensures .0 .labels,
+        one-set (a .regions .now) (l .result) (s .pre .1 .1) ∙ ap (λ (n : ℕ). n ∷ []) (l .ensures .0 .number),
       ),
       (z .ensures .0 ∙ ap (λ (n : ℕ). replicate n 0) (l .kept .1 .1 .1 .1 .0), z .ensures .1),
     )

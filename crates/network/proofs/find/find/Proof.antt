@@ -17,7 +17,7 @@ leave-alone-requires c κs =
     let s = c .before .before .before .before .before .before .before .before .before .before in
     let a = s .args in
     let l = c .before .before .before .before .label in
-    few-ask (a .o) (a .p) (a .velocity .now) (a .valid .now) (a .words .now) (a .floats .now) (s .pre) (l .result) (l .last .1 .1 .1 .1 .0) (l .kept .1 .1 .1 .1 .0) (l .ensures) (c .before .if1 .taken)
+    few-ask (a .o) (a .p) (a .velocity .now) (a .valid .now) (a .words .now) (a .floats .now) (s .pre) (l .result) (l .last .1 .1 .1 .1 .0) (l .kept .1 .1 .1 .1 .0) (l .ensures .0) (c .before .if1 .taken)
 
 same-length : tie.Need-same-length
 same-length c = search needs
@@ -28,7 +28,7 @@ returns c =
     let a = s .args in
     let l = c .before .before .before .before .before .before .before .label in
     let v = c .before .before .leave-alone in
-    few-left (a .o) (a .p) (a .velocity .now) (a .valid .now) (a .words .now) (a .floats .now) (s .pre) (l .result) (l .last .1 .1 .1 .1 .0) (l .kept .1 .1 .1 .1 .0) (l .ensures) (c .before .before .before .before .if1 .taken) (v .last .0) (v .ensures)
+    few-left (a .o) (a .p) (a .velocity .now) (a .valid .now) (a .words .now) (a .floats .now) (s .pre) (l .result) (l .last .1 .1 .1 .1 .0) (l .kept .1 .1 .1 .1 .0) (l .ensures .0) (c .before .before .before .before .if1 .taken) (v .last .0) (v .ensures)
 
 shape-requires : tie.Need-shape-requires
 shape-requires c κs = search needs
@@ -42,7 +42,7 @@ reduce-requires c κs =
     let a = s .args in
     let l = c .before .before .before .before .before .before .before .label in
     let f = c .before .before .before .shape in
-    reduce-asks (a .o) (a .p) (a .velocity .now) (a .valid .now) (a .words .now) (a .floats .now) (s .pre) (l .result) (l .last .1 .1 .1 .1 .0) (l .kept .1 .1 .1 .1 .0) (l .ensures) (c .before .before .before .before .if1 .left) (f .result) (f .ensures)
+    reduce-asks (a .o) (a .p) (a .velocity .now) (a .valid .now) (a .words .now) (a .floats .now) (s .pre) (l .result) (l .last .1 .1 .1 .1 .0) (l .kept .1 .1 .1 .1 .0) (l .ensures .0) (c .before .before .before .before .if1 .left) (f .result) (f .ensures)
 
 enum-known-j : tie.Need-enum-known-j
 enum-known-j c = search needs
@@ -63,7 +63,7 @@ returns-2 c =
     let l = c .before .before .before .before .before .before .before .before .before .before .before .before .before .before .before .label in
     let f = c .before .before .before .before .before .before .before .before .before .before .before .shape in
     let r = c .before .before .before .before .before .before .before .reduce in
-    reduced-left (a .o) (a .p) (a .velocity .now) (a .valid .now) (a .words .now) (a .floats .now) (s .pre) (l .result) (l .last .1 .1 .1 .1 .0) (l .kept .1 .1 .1 .1 .0) (l .ensures) (r .last .0) (r .result) (f .result) _ (f .ensures) (width-is (a .o .nyquist)) (r .ensures) _ (ap (findingOf (l .result)) (sym (c .before .j .given .1)))
+    reduced-left (a .o) (a .p) (a .velocity .now) (a .valid .now) (a .words .now) (a .floats .now) (s .pre) (l .result) (l .last .1 .1 .1 .1 .0) (l .kept .1 .1 .1 .1 .0) (l .ensures .0) (r .last .0) (r .result) (f .result) _ (f .ensures) (width-is (a .o .nyquist)) (r .ensures) _ (ap (findingOf (l .result)) (sym (c .before .j .given .1)))
 
 same-length-4 : tie.Need-same-length-4
 same-length-4 c = search needs
@@ -78,7 +78,7 @@ returns-3 c =
     let l = c .before .before .before .before .before .before .before .before .before .before .before .before .before .before .label in
     let f = c .before .before .before .before .before .before .before .before .before .before .shape in
     let r = c .before .before .before .before .before .before .reduce in
-    reduced-left (a .o) (a .p) (a .velocity .now) (a .valid .now) (a .words .now) (a .floats .now) (s .pre) (l .result) (l .last .1 .1 .1 .1 .0) (l .kept .1 .1 .1 .1 .0) (l .ensures) (r .last .0) (r .result) (f .result) _ (f .ensures) (width-is (a .o .nyquist)) (r .ensures) _ (ap (findingOf (l .result)) (sym (c .enum-told .given .1)))
+    reduced-left (a .o) (a .p) (a .velocity .now) (a .valid .now) (a .words .now) (a .floats .now) (s .pre) (l .result) (l .last .1 .1 .1 .1 .0) (l .kept .1 .1 .1 .1 .0) (l .ensures .0) (r .last .0) (r .result) (f .result) _ (f .ensures) (width-is (a .o .nyquist)) (r .ensures) _ (ap (findingOf (l .result)) (sym (c .enum-told .given .1)))
 
 pub find-spec : {M : Type 1} → statement M
 find-spec =

@@ -13,30 +13,30 @@ mul-end c = search needs
 add-end : tie.Need-add-end
 add-end c = search needs
 
-sub-find-regions : tie.Need-sub-find-regions
-sub-find-regions c = search needs
+sub-label-gates : tie.Need-sub-label-gates
+sub-label-gates c = search needs
 
-part-find-regions-start : tie.Need-part-find-regions-start
-part-find-regions-start c = search needs
+part-label-gates-start : tie.Need-part-label-gates-start
+part-label-gates-start c = search needs
 
-part-find-regions-end : tie.Need-part-find-regions-end
-part-find-regions-end c =
+part-label-gates-end : tie.Need-part-label-gates-end
+part-label-gates-end c =
     let s = c .before .before .before .before .before .before .before .before .before in
     let a = s .args in
     let l = c .before .before .before .limits in
     limits-room (a .o) (a .p) (a .velocity .now) (a .valid .now) (a .work .now) (s .pre .0) (a .out .now) (l .last .1 .1 .0) (l .result) (l .ensures .0) (l .ensures .1) (s .pre .1)
 
-sub-find-regions-2 : tie.Need-sub-find-regions-2
-sub-find-regions-2 c = search needs
+sub-label-gates-2 : tie.Need-sub-label-gates-2
+sub-label-gates-2 c = search needs
 
-part-find-regions-start-2 : tie.Need-part-find-regions-start-2
-part-find-regions-start-2 c = search needs
+part-label-gates-start-2 : tie.Need-part-label-gates-start-2
+part-label-gates-start-2 c = search needs
 
-part-find-regions-end-2 : tie.Need-part-find-regions-end-2
-part-find-regions-end-2 c = search needs
+part-label-gates-end-2 : tie.Need-part-label-gates-end-2
+part-label-gates-end-2 c = search needs
 
-find-regions-requires : tie.Need-find-regions-requires
-find-regions-requires c κs =
+label-gates-requires : tie.Need-label-gates-requires
+label-gates-requires c κs =
     let s = c .before .before .before .before .before .before .before .before .before .before .before in
     let a = s .args in
     let l = c .before .before .before .before .before .limits in
@@ -53,8 +53,8 @@ returns c =
     let s = c .before .before .before .before .before .before .before .before .before .before .before .before .before .before in
     let a = s .args in
     let l = c .before .before .before .before .before .before .before .before .limits in
-    let f = c .before .before .find-regions in
-    regions-left (a .o) (a .p) (a .velocity .now) (a .valid .now) (a .work .now) (s .pre .0) (a .out .now) (l .last .1 .1 .0) (l .result) (l .ensures .0) (l .ensures .1) (f .result) (f .last .1 .1 .1 .1 .0) (f .ensures .0) (f .ensures .1)
+    let f = c .before .before .label-gates in
+    regions-left (a .o) (a .p) (a .velocity .now) (a .valid .now) (a .work .now) (s .pre .0) (a .out .now) (l .last .1 .1 .0) (l .result) (l .ensures .0) (l .ensures .1) (f .result) (f .last .1 .1 .1 .1 .0) (f .kept .1 .1 .1 .1 .0) (f .ensures)
 
 pub label-in-spec : {M : Type 1} → statement M
 label-in-spec =
@@ -63,13 +63,13 @@ label-in-spec =
     limits-requires
     mul-end
     add-end
-    sub-find-regions
-    part-find-regions-start
-    part-find-regions-end
-    sub-find-regions-2
-    part-find-regions-start-2
-    part-find-regions-end-2
-    find-regions-requires
+    sub-label-gates
+    part-label-gates-start
+    part-label-gates-end
+    sub-label-gates-2
+    part-label-gates-start-2
+    part-label-gates-end-2
+    label-gates-requires
     same-length
     same-length-2
     returns)
