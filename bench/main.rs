@@ -183,20 +183,44 @@ fn cell(x: f64, digits: usize) -> String {
     if x.is_nan() { " – |".into() } else { format!(" {x:.digits$} |") }
 }
 
+/// The made sweep that three words name: rays, gates and roughness.
+fn named(words: &[String]) -> Sweep {
+    let number = |i: usize| words[i].parse::<usize>().expect("a number");
+    weather(7, number(0), number(1), words[2].parse().expect("a roughness"))
+}
+
 /// One call of the entry, for a count of its instructions.
 fn once(words: &[String]) {
-    let number = |i: usize| words[i].parse::<usize>().expect("a number");
-    let (rays, gates) = (number(0), number(1));
-    let s = weather(7, rays, gates, words[2].parse().expect("a roughness"));
-    let mut l = lent(rays * gates);
+    let s = named(words);
+    let mut l = lent(s.rays * s.gates);
     call(&s, &mut l);
     println!("{} regions, {} merges", l.pair[0], l.pair[1]);
+}
+
+/// The stages of one sweep alone: a line each, with its least seconds of twenty runs.
+fn alone(words: &[String]) {
+    let s = named(words);
+    let limits = limits(&s);
+    let mut l = lent(s.rays * s.gates);
+    let mut stages = [f64::MAX; 7];
+    for _ in 0..20 {
+        make_dirty(&mut l);
+        for (least, x) in stages.iter_mut().zip(staged(&s, &limits, &mut l)) {
+            *least = least.min(x);
+        }
+    }
+    for (name, x) in STAGES.iter().zip(stages) {
+        println!("{name} {x:.6}");
+    }
 }
 
 fn main() {
     let words: Vec<String> = std::env::args().skip(1).collect();
     if words.first().is_some_and(|x| x == "once") {
         return once(&words[1..]);
+    }
+    if words.first().is_some_and(|x| x == "stages") {
+        return alone(&words[1..]);
     }
     let file = words.first().expect("a file to write the rows to");
     let all = words.get(1).is_some_and(|x| x == "all");
