@@ -1,5 +1,6 @@
 //! Times the proved sweep entry beside the Rust on made weather sweeps, in one process, and the entry's stages one by one. Every count of
-//! both sides is compared. Prints a table, and writes it to the file given: rows of comma-separated numbers, for plot.py.
+//! both sides is compared. Prints a table, and writes it to the file given: rows of comma-separated numbers, for plot.py. Or, with `once` or
+//! `stages` and a sweep's rays, gates and roughness, makes one call, or times the stages alone.
 extern crate radish_oracle;
 use radish_oracle::dealias::dealias_region_based;
 use radish_oracle::make::weather;
@@ -99,6 +100,13 @@ fn staged(s: &Sweep, limits: &[f64], l: &mut Lent) -> [f64; 7] {
     seconds
 }
 
+/// The lesser seconds of each stage.
+fn keep_least(least: &mut [f64; 7], run: [f64; 7]) {
+    for (x, y) in least.iter_mut().zip(run) {
+        *x = x.min(y);
+    }
+}
+
 fn timed(run: impl FnOnce()) -> f64 {
     let from = Instant::now();
     run();
@@ -161,9 +169,7 @@ fn measure(rays: usize, gates: usize, rough: f64, beside: bool) -> Vec<f64> {
         entry = entry.min(timed(|| call(&s, &mut l)));
         ours = l.folds.clone();
         make_dirty(&mut l);
-        for (least, x) in stages.iter_mut().zip(staged(&s, &limits, &mut l)) {
-            *least = least.min(x);
-        }
+        keep_least(&mut stages, staged(&s, &limits, &mut l));
         assert!(l.folds == ours, "{rays} x {gates} at roughness {rough}: the counts of the stages differ");
         make_dirty(&mut l);
         fill = fill.min(timed(|| {
@@ -205,9 +211,7 @@ fn alone(words: &[String]) {
     let mut stages = [f64::MAX; 7];
     for _ in 0..20 {
         make_dirty(&mut l);
-        for (least, x) in stages.iter_mut().zip(staged(&s, &limits, &mut l)) {
-            *least = least.min(x);
-        }
+        keep_least(&mut stages, staged(&s, &limits, &mut l));
     }
     for (name, x) in STAGES.iter().zip(stages) {
         println!("{name} {x:.6}");

@@ -183,13 +183,12 @@ module _ (iv R c : List ℕ) (long : length R ≡ length iv) (C : Counted iv R c
         (λ i h e. part-kept k i (λ f. n (omega (arith, band, first-of iv R k i e .0, ap (λ (y : ℕ). getD iv y 0) f))) e) (λ i h. part-back k i)
         ∙ all-firsts iv (join R l) k
 
-    -- there is one to take away
-    pub some-count : 0 < getD c j 0
-    some-count = omega (arith, C j here, one-less)
-
-    -- the counts after the join
-    pub counted-joined : Counted iv (join R l) (set c j (getD c j 0 - 1))
-    counted-joined k h = ⊎-elim
-        (λ e. e .1 ∙ omega (arith, C j here, one-less) ∙ ap (λ (y : ℕ). length (firsts (part iv (join R l) y))) (sym (e .0)))
-        (λ n. n .1 ∙ C k (omega (arith, length-set c j (getD c j 0 - 1))) ∙ as-many k (n .0))
-        (read-set c j (getD c j 0 - 1) k here)
+    -- there is one to take away, and the counts after the join
+    pub counted-joined : (0 < getD c j 0) × Counted iv (join R l) (set c j (getD c j 0 - 1))
+    counted-joined = (
+      omega (arith, C j here, one-less),
+      λ k h. ⊎-elim
+          (λ e. e .1 ∙ omega (arith, C j here, one-less) ∙ ap (λ (y : ℕ). length (firsts (part iv (join R l) y))) (sym (e .0)))
+          (λ n. n .1 ∙ C k (omega (arith, length-set c j (getD c j 0 - 1))) ∙ as-many k (n .0))
+          (read-set c j (getD c j 0 - 1) k here),
+    )

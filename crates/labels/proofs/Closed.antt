@@ -1,9 +1,8 @@
 -- The regions in closed form: a gate's label is how many regions the bands below its own have, and the rank of its root in its band; and gates of one label are joined within their band. Assumes nothing.
 use Prim.Native.Nat.{ℕ, suc, _+_, _-_, _≤_, _<_}
 use native.Mathlib.Omega.{arith}
-use native.Mathlib.Decide.{decLt}
 use mathlib.Core.Path.{_≡_, sym, ap, _∙_, subst}
-use mathlib.Core.Logic.{_⊎_, inl, inr, by-cases}
+use mathlib.Core.Logic.{_⊎_, inl, inr}
 use mathlib.Core.Bool.{Bool, cond}
 use mathlib.Core.List.{List}
 use lib.Dec.{eqb}
@@ -20,10 +19,7 @@ use Rattle.labels.specs.Inside.Bands.{Bands, marks, part, joint, laterIn
 use Rattle.labels.specs.Inside.Numbering.{final, sizes}
 use Rattle.labels.proofs.JointLaws.{joint-own, joint-some, part-in}
 use Rattle.labels.proofs.FoldLaws.{labels-are, sizes-below}
-use Rattle.labels.proofs.ForestLaws.{some-pred}
-
-decide : (m n : ℕ) → ((m < n) ⊎ (n < m)) ⊎ (m ≡ n)
-decide m n = by-cases (decLt m n) (λ k. inl (inl k)) (λ k. by-cases (decLt n m) (λ l. inl (inr l)) (λ l. inr (omega arith)))
+use Rattle.labels.proofs.ForestLaws.{some-pred, decide}
 
 -- each root is the first gate of its area
 module _ (gates : ℕ) (iv : List ℕ) where
@@ -31,7 +27,7 @@ module _ (gates : ℕ) (iv : List ℕ) where
   unfolding joint
   rooted = rooted-all (laterIn gates iv 0) (laterIn gates iv 0) (own (marks iv)) (λ l m. m) (rooted-own (laterIn gates iv 0) (marks iv))
 
-  root-self : (i r : ℕ) → getD (joint gates iv) i 0 ≡ suc r → getD (joint gates iv) r 0 ≡ suc r
+  pub root-self : (i r : ℕ) → getD (joint gates iv) i 0 ≡ suc r → getD (joint gates iv) r 0 ≡ suc r
   unfolding joint
   root-self i r e = sym (joined-one-root (laterIn gates iv 0) (own (marks iv)) i r (rooted i r e .0)) ∙ e
 

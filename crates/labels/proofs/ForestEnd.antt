@@ -2,26 +2,22 @@
 use Prim.Native.Nat.{ℕ, suc, _-_, _≤_, _<_}
 use native.Mathlib.Omega.{arith}
 use mathlib.Core.Path.{_≡_, refl, sym, ap, _∙_}
-use mathlib.Core.Logic.{_⊎_, inl, inr, ⊎-elim}
+use mathlib.Core.Logic.{⊎-elim}
 use mathlib.Core.Bool.{Bool, true, false, not}
 use mathlib.Core.List.{List, [], _∷_, _++_}
 use lib.Dec.{eqb}
 use lib.ListN.{length, getD, length-append, List·getD-append, List·getD-eq-default}
 use lib.Seq.{getD-at}
 use borrow.Author.Tests.{ne-eqb}
-use Rattle.lists.proofs.SegLaws.{lt-or-le, eq-or-ne}
 use Rattle.labels.specs.Inside.Forest.{Parent, Forest}
 use Rattle.labels.specs.Inside.Bands.{marks}
-use Rattle.labels.proofs.ForestLaws.{in-length, not-both}
+use Rattle.labels.proofs.ForestLaws.{decide, in-length, not-both}
 use Rattle.labels.proofs.BandLaws.{length-marks}
 use Rattle.labels.proofs.NextLaws.{marks-end}
 
 -- before gate g, at it, or after it
-three : (i g : ℕ) → (i < g) ⊎ ((i ≡ g) ⊎ (g < i))
-three i g = ⊎-elim inl (λ (h : g ≤ i). ⊎-elim (λ (e : i ≡ g). inr (inl e)) (λ n. inr (inr (more h n))) (eq-or-ne i g)) (lt-or-le i g)
-  where
-    more : g ≤ i → (i ≡ g → ⊥) → g < i
-    more h n = omega arith
+by-place : {P : Type 0} (i g : ℕ) → (i < g → P) → (i ≡ g → P) → (g < i → P) → P
+by-place i g before at past = ⊎-elim (⊎-elim before past) at (decide i g)
 
 -- ---- a list of n with x after it
 module _ {A : Type 0} (l : List A) (x d : A) (n : ℕ) (e : length l ≡ n) where
@@ -75,26 +71,26 @@ module _ (inside : List Bool) (w R : List ℕ) (F : Forest inside w R) (g : ℕ)
       record {
         long = end-long w q 0 g w-long ∙ sym (end-long inside t false g long);
         roots-long = end-long R y 0 g R-long ∙ sym (end-long inside t false g long);
-        out = λ i o. ⊎-elim
+        out = λ i o. by-place i g
             (λ h. end-before w q 0 g w-long i h ∙ F .out i (sym (end-before inside t false g long i h) ∙ o))
-            (λ h. ⊎-elim (λ e. end-at w q 0 g w-long i e ∙ out (sym (end-at inside t false g long i e) ∙ o) .0) (end-past w q 0 g w-long i) h)
-            (three i g);
-        out-root = λ i o. ⊎-elim
+            (λ e. end-at w q 0 g w-long i e ∙ out (sym (end-at inside t false g long i e) ∙ o) .0)
+            (end-past w q 0 g w-long i);
+        out-root = λ i o. by-place i g
             (λ h. end-before R y 0 g R-long i h ∙ F .out-root i (sym (end-before inside t false g long i h) ∙ o))
-            (λ h. ⊎-elim (λ e. end-at R y 0 g R-long i e ∙ out (sym (end-at inside t false g long i e) ∙ o) .1) (end-past R y 0 g R-long i) h)
-            (three i g);
-        parent = λ i k. ⊎-elim
+            (λ e. end-at R y 0 g R-long i e ∙ out (sym (end-at inside t false g long i e) ∙ o) .1)
+            (end-past R y 0 g R-long i);
+        parent = λ i k. by-place i g
             (λ h. parent-before i h (sym (end-before inside t false g long i h) ∙ k))
-            (λ h. ⊎-elim (λ e. parent-here i e (sym (end-at inside t false g long i e) ∙ k)) (λ l. absurd (not-both (getD (inside ++ t ∷ []) i false) k (end-past inside t false g long i l))) h)
-            (three i g);
-        first = λ i e. ⊎-elim
+            (λ e. parent-here i e (sym (end-at inside t false g long i e) ∙ k))
+            (λ l. absurd (not-both (getD (inside ++ t ∷ []) i false) k (end-past inside t false g long i l)));
+        first = λ i e. by-place i g
             (λ h. end-before R y 0 g R-long i h ∙ F .first i (sym (end-before w q 0 g w-long i h) ∙ e))
-            (λ h. ⊎-elim (λ f. end-at R y 0 g R-long i f ∙ self (omega (arith, end-at w q 0 g w-long i f)) ∙ omega arith) (λ l. absurd (none i l e)) h)
-            (three i g);
-        low = λ i. ⊎-elim
+            (λ f. end-at R y 0 g R-long i f ∙ self (omega (arith, end-at w q 0 g w-long i f)) ∙ omega arith)
+            (λ l. absurd (none i l e));
+        low = λ i. by-place i g
             (λ h. omega (arith, end-before R y 0 g R-long i h, F .low i))
-            (λ h. ⊎-elim (λ f. omega (arith, end-at R y 0 g R-long i f)) (λ l. omega (arith, end-past R y 0 g R-long i l)) h)
-            (three i g);
+            (λ f. omega (arith, end-at R y 0 g R-long i f))
+            (λ l. omega (arith, end-past R y 0 g R-long i l));
       }
     where
       none : (i : ℕ) → g < i → getD (w ++ q ∷ []) i 0 ≡ suc i → ⊥

@@ -1,9 +1,10 @@
 -- Stores that keep a forest: a path halved, two areas made one. Assumes nothing.
 use Prim.Native.Nat.{ℕ, zero, suc, _+_, _-_, _≤_, _<_, min, max}
 use native.Mathlib.Omega.{arith}
+use native.Mathlib.Decide.{decLt}
 use native.Mathlib.Numerals.{add-one}
 use mathlib.Core.Path.{_≡_, refl, sym, ap, _∙_, subst}
-use mathlib.Core.Logic.{_⊎_, inl, inr, ⊎-elim}
+use mathlib.Core.Logic.{_⊎_, inl, inr, ⊎-elim, by-cases}
 use mathlib.Core.Bool.{Bool, true, false, cond, not}
 use mathlib.Core.List.{List, [], _∷_, map}
 use lib.Dec.{eqb, ltb}
@@ -27,6 +28,10 @@ in-length (x ∷ l) (suc i) e = omega (arith, in-length l i e)
 pub some-pred : (k : ℕ) → 0 < k → (s : ℕ) × (k ≡ suc s)
 some-pred zero h = absurd (not-suc-le-zero h)
 some-pred (suc s) h = (s, refl)
+
+-- two numbers in order
+pub decide : (m n : ℕ) → ((m < n) ⊎ (n < m)) ⊎ (m ≡ n)
+decide m n = by-cases (decLt m n) (λ k. inl (inl k)) (λ k. by-cases (decLt n m) (λ l. inl (inr l)) (λ l. inr (omega arith)))
 
 pub not-both : (b : Bool) → b ≡ true → b ≡ false → ⊥
 not-both b p q = let z : _≡_ {A = ℕ} 0 1 = cc in omega arith

@@ -1,5 +1,5 @@
 -- The joint roots of bands with one gate more, by the gates that it touches. Assumes nothing.
-use Prim.Native.Nat.{ℕ, zero, suc, _+_, _-_, _≤_, _<_, min, max}
+use Prim.Native.Nat.{ℕ, zero, suc, _-_, _≤_, _<_, min, max}
 use native.Mathlib.Omega.{arith}
 use native.Mathlib.Nat.{min-comm, max-comm}
 use mathlib.Core.Path.{_≡_, refl, sym, ap, _∙_, fun-ext}
@@ -171,9 +171,9 @@ module _ (gates : ℕ) (iv : List ℕ) where
   joint-low = low-joins (laterIn gates iv 0) (own (marks iv)) (length iv) (λ i. omega (arith, own-low (marks iv) i, length-marks iv))
 
   -- gates of one band that touch have one root
-  pub one-root : (i j : ℕ) → j < length iv → Beside gates i j → (getD iv j 0 ≡ 0 → ⊥) → getD iv i 0 ≡ getD iv j 0 → getD (joint gates iv) i 0 ≡ getD (joint gates iv) j 0
+  pub same-root : (i j : ℕ) → j < length iv → Beside gates i j → (getD iv j 0 ≡ 0 → ⊥) → getD iv i 0 ≡ getD iv j 0 → getD (joint gates iv) i 0 ≡ getD (joint gates iv) j 0
   unfolding joint
-  one-root i j h s n e = joined-one-root (laterIn gates iv 0) (own (marks iv)) i j (along (record { a = i; b = j }) (linked gates iv i j h s n e) (stay j))
+  same-root i j h s n e = joined-one-root (laterIn gates iv 0) (own (marks iv)) i j (along (record { a = i; b = j }) (linked gates iv i j h s n e) (stay j))
 
   -- a link joins gates of the sweep
   ends-in : (l : Neighbours) → In l (laterIn gates iv 0) → (l .a < length iv) × (l .b < length iv)

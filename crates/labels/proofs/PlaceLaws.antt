@@ -1,7 +1,6 @@
 -- One gate more in its place: areas held by the words, and counted. Assumes nothing.
-use Prim.Native.Nat.{ℕ, zero, suc, _+_, _-_, _%_, _≤_, _<_, min, max}
+use Prim.Native.Nat.{ℕ, suc, _+_, _-_, _%_, _≤_, _<_, min, max}
 use native.Mathlib.Omega.{arith}
-use native.Mathlib.Nat.{not-suc-le-zero}
 use mathlib.Core.Path.{_≡_, sym, ap, _∙_}
 use mathlib.Core.Logic.{_⊎_, inl, inr, ⊎-elim}
 use mathlib.Core.Bool.{Bool, true, false, cond, not}
@@ -16,10 +15,11 @@ use Rattle.labels.specs.Inside.Forest.{Forest}
 use Rattle.labels.specs.Inside.Bands.{marks, aboveIn, beforeIn, linksIn, joint, bandBefore}
 use Rattle.labels.specs.Inside.Numbering.{Counted}
 use Rattle.labels.specs.Inside.Areas.{AreasOf, Corner}
-use Rattle.labels.proofs.ForestLaws.{in-length, not-both, length-join}
-use Rattle.labels.proofs.JointLaws.{above-edge, above-none, above-one, before-edge, before-none, before-one, mod-pos, joint-own}
+use Rattle.labels.proofs.ForestLaws.{some-pred, decide, in-length, not-both, length-join}
+use Rattle.labels.proofs.JointLaws.{above-edge, above-none, above-one, before-edge, before-none, before-one, mod-pos, joint-own, joint-some}
+use Rattle.labels.proofs.Closed.{root-self}
 use Rattle.labels.proofs.BandLaws.{marks-in, length-marks}
-use Rattle.labels.proofs.AreaCounts.{counted-none, counted-first, some-count, counted-joined}
+use Rattle.labels.proofs.AreaCounts.{counted-none, counted-first, counted-joined}
 use Rattle.labels.proofs.NextLaws.{joint-long, joint-low, joint-first, joint-two, joint-out, join-same}
 use Rattle.labels.proofs.ForestEnd.{forest-out, forest-first, forest-under}
 
@@ -88,25 +88,6 @@ module _ (gates : ℕ) (iv : List ℕ) (b : ℕ) where
     pub links-both : Corner gates iv (length iv) b → linksIn gates (iv ++ b ∷ []) (length iv) ≡ record { a = length iv - gates; b = length iv } ∷ record { a = length iv - 1; b = length iv } ∷ []
     links-both C = links-are (record { a = length iv - gates; b = length iv } ∷ []) (record { a = length iv - 1; b = length iv } ∷ []) (one-above some rays (C .ray) (C .above)) (one-before some (C .inner) (C .before))
 
--- ---- the root of a gate, which is its own
-record Own (inside : List Bool) (rs : List ℕ) (i : ℕ) : Type 0 where
-  r : ℕ
-  root : getD rs i 0 ≡ suc r
-  self : getD rs r 0 ≡ suc r
-  in-r : getD inside r false ≡ true
-
-own-root : (inside : List Bool) (w rs : List ℕ) → Forest inside w rs → (k i : ℕ) → i < k → getD inside i false ≡ true → Own inside rs i
-own-root inside w rs F zero i h e = absurd (not-suc-le-zero h)
-own-root inside w rs F (suc k) i h e = ⊎-elim
-    (λ q. record { r = i; root = F .first i q; self = F .first i q; in-r = e })
-    (λ n. let P = F .parent i e in
-    let O = own-root inside w rs F k (getD w i 0 - 1) (less (P .some) (P .not-later) n) (P .here) in
-    record { r = O .r; root = sym (P .same) ∙ O .root; self = O .self; in-r = O .in-r })
-    (eq-or-ne (getD w i 0) (suc i))
-  where
-    less : 0 < getD w i 0 → getD w i 0 ≤ suc i → (getD w i 0 ≡ suc i → ⊥) → getD w i 0 - 1 < k
-    less p q n = omega arith
-
 -- ---- areas and counters, with the gate after the others
 module _ (gates : ℕ) (iv w c : List ℕ) (A : AreasOf gates iv w c) where
   -- outside
@@ -143,8 +124,8 @@ module _ (gates : ℕ) (iv w c : List ℕ) (A : AreasOf gates iv w c) where
 
     -- two gates of its band, whose areas are made one
     module _ (l : Neighbours) (band-a : getD iv (l .a) 0 ≡ b) (band-b : getD iv (l .b) 0 ≡ b) (fits : b ≤ length c) where
-      root-of : (i : ℕ) → getD iv i 0 ≡ b → Own (marks iv) (joint gates iv) i
-      root-of i e = own-root (marks iv) w (joint gates iv) (A .forest) (suc i) i (omega arith) (in-marks i e)
+      root-of : (i : ℕ) → getD iv i 0 ≡ b → (r : ℕ) × (getD (joint gates iv) i 0 ≡ suc r)
+      root-of i e = some-pred (getD (joint gates iv) i 0) (joint-some gates iv i (λ z. omega arith))
 
       -- two areas, the first gate of the later one hi
       record Two : Type 0 where
@@ -153,34 +134,34 @@ module _ (gates : ℕ) (iv w c : List ℕ) (A : AreasOf gates iv w c) where
         greater : max (getD (joint gates iv) (l .a) 0) (getD (joint gates iv) (l .b) 0) ≡ suc hi
         lesser : min (getD (joint gates iv) (l .a) 0) (getD (joint gates iv) (l .b) 0) ≡ suc lo
         less : lo < hi
-        in-hi : getD (marks iv) hi false ≡ true
         self : getD (joint gates iv) hi 0 ≡ suc hi
         self-lo : getD (joint gates iv) lo 0 ≡ suc lo
         band : getD iv hi 0 ≡ b
 
       one-or-two : (getD (joint gates iv) (l .a) 0 ≡ getD (joint gates iv) (l .b) 0) ⊎ Two
-      one-or-two =
-          let O = root-of (l .a) band-a in
-          let P = root-of (l .b) band-b in
-          let o : getD (joint gates iv) (l .a) 0 ≡ suc (O .r) = O .root in
-          let p : getD (joint gates iv) (l .b) 0 ≡ suc (P .r) = P .root in
-          ⊎-elim
-          (λ (h : O .r < P .r). inr (record { lo = O .r; hi = P .r; greater = omega arith; lesser = omega arith; less = h; in-hi = P .in-r; self = P .self; self-lo = O .self; band = joint-own gates iv (l .b) (P .r) (P .root) ∙ band-b }))
-          (λ (h : P .r ≤ O .r). ⊎-elim
-          (λ (e : O .r ≡ P .r). inl (omega arith))
-          (λ n. inr (record { lo = P .r; hi = O .r; greater = omega arith; lesser = omega arith; less = more (O .r) (P .r) h n; in-hi = O .in-r; self = O .self; self-lo = P .self; band = joint-own gates iv (l .a) (O .r) (O .root) ∙ band-a }))
-          (eq-or-ne (O .r) (P .r)))
-          (lt-or-le (O .r) (P .r))
+      one-or-two = ⊎-elim (λ d. inr (⊎-elim later-b later-a d)) (λ e. inl (p ∙ ap suc e ∙ sym q)) (decide r s)
         where
-          more : (x y : ℕ) → y ≤ x → (x ≡ y → ⊥) → y < x
-          more x y h n = omega arith
+          r : ℕ
+          r = root-of (l .a) band-a .0
+
+          p : getD (joint gates iv) (l .a) 0 ≡ suc r
+          p = root-of (l .a) band-a .1
+
+          s : ℕ
+          s = root-of (l .b) band-b .0
+
+          q : getD (joint gates iv) (l .b) 0 ≡ suc s
+          q = root-of (l .b) band-b .1
+
+          later-b : r < s → Two
+          later-b h = record { lo = r; hi = s; greater = omega (arith, p, q); lesser = omega (arith, p, q); less = h; self = root-self gates iv (l .b) s q; self-lo = root-self gates iv (l .a) r p; band = joint-own gates iv (l .b) s q ∙ band-b }
+
+          later-a : s < r → Two
+          later-a h = record { lo = s; hi = r; greater = omega (arith, p, q); lesser = omega (arith, p, q); less = h; self = root-self gates iv (l .a) r p; self-lo = root-self gates iv (l .b) s q; band = joint-own gates iv (l .a) r p ∙ band-a }
 
       module _ (T : Two) where
-        two-less : Counted iv (join (joint gates iv) l) (set c (b - 1) (getD c (b - 1) 0 - 1))
-        two-less = counted-joined iv (joint gates iv) c (joint-long gates iv) (A .counts) l (T .lo) (T .hi) (b - 1) (T .greater) (T .lesser) (T .less) (omega (arith, in-length (marks iv) (T .hi) (T .in-hi), length-marks iv)) (T .self) (T .self-lo) (omega (arith, T .band)) (omega arith)
-
-        two-some : 0 < getD c (b - 1) 0
-        two-some = some-count iv (joint gates iv) c (joint-long gates iv) (A .counts) l (T .lo) (T .hi) (b - 1) (T .greater) (T .lesser) (T .less) (omega (arith, in-length (marks iv) (T .hi) (T .in-hi), length-marks iv)) (T .self) (T .self-lo) (omega (arith, T .band)) (omega arith)
+        two-counts : (0 < getD c (b - 1) 0) × Counted iv (join (joint gates iv) l) (set c (b - 1) (getD c (b - 1) 0 - 1))
+        two-counts = counted-joined iv (joint gates iv) c (joint-long gates iv) (A .counts) l (T .lo) (T .hi) (b - 1) (T .greater) (T .lesser) (T .less) (omega (arith, in-length (marks iv) (T .hi) (in-marks (T .hi) (T .band)), length-marks iv)) (T .self) (T .self-lo) (omega (arith, T .band)) (omega arith)
 
         two-apart : getD (joint gates iv) (l .a) 0 ≡ getD (joint gates iv) (l .b) 0 → ⊥
         two-apart e = omega (arith, T .greater, T .lesser, T .less)
@@ -191,12 +172,12 @@ module _ (gates : ℕ) (iv w c : List ℕ) (A : AreasOf gates iv w c) where
         not-one t e = not-both two t (is-two ∙ ap not (eq-eqb (getD (joint gates iv) (l .a) 0) (getD (joint gates iv) (l .b) 0) e))
 
         pub area-some : two ≡ true → 0 < getD c (b - 1) 0
-        area-some t = ⊎-elim (λ e. absurd (not-one t e)) two-some one-or-two
+        area-some t = ⊎-elim (λ e. absurd (not-one t e)) (λ T. two-counts T .0) one-or-two
 
         pub joined-counts : (c₂ : List ℕ) → (two ≡ true → c₂ ≡ set c (b - 1) (getD c (b - 1) 0 - 1)) → (two ≡ false → c₂ ≡ c) → Counted iv (join (joint gates iv) l) c₂
         joined-counts c₂ less same = ⊎-elim
             (λ e. rw (same (is-two ∙ ap not (eq-eqb (getD (joint gates iv) (l .a) 0) (getD (joint gates iv) (l .b) 0) e)), join-same (joint gates iv) l e) (A .counts))
-            (λ T. rw (less (is-two ∙ ap not (ne-eqb (getD (joint gates iv) (l .a) 0) (getD (joint gates iv) (l .b) 0) (two-apart T)))) (two-less T))
+            (λ T. rw (less (is-two ∙ ap not (ne-eqb (getD (joint gates iv) (l .a) 0) (getD (joint gates iv) (l .b) 0) (two-apart T)))) (two-counts T .1))
             one-or-two
 
     -- gates h and p joined, words w₂ and counters c₂ after that: it goes under gate p

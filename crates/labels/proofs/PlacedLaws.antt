@@ -18,19 +18,17 @@ use Rattle.labels.specs.Inside.Bands.{marks, linksIn, joint, bandBefore}
 use Rattle.labels.specs.Inside.Areas.{AreasOf, Next, Corner, Placed}
 use Rattle.labels.proofs.JointLaws.{mod-pos}
 use Rattle.labels.proofs.BandLaws.{marks-in, length-marks}
+use Rattle.labels.proofs.SheetLaws.{band-at}
 use Rattle.labels.proofs.AreaCounts.{counted-few}
-use Rattle.labels.proofs.NextLaws.{joint-long, joint-one, joint-two, one-root, join-same}
+use Rattle.labels.proofs.NextLaws.{joint-long, joint-one, joint-two, same-root, join-same}
 use Rattle.labels.proofs.PlaceLaws.{goes-on, links-free, links-beside, links-below, links-both, place-out, place-first, place-under, place-meet, area-some, joined-counts}
 
 module _ (gates : ℕ) (u : List ℕ) (n g b : ℕ) (N : Next gates u n g b) where
   iv-long : length (seg u 0 g) ≡ g
   iv-long = length-seg u 0 g (omega (arith, N .here, N .room))
 
-  band-at : (i : ℕ) → i < g → getD (seg u 0 g) i 0 ≡ getD u i 0
-  band-at i h = getD-seg u 0 g i 0 h ∙ ap (λ (y : ℕ). getD u y 0) (omega arith)
-
-  word-at : (i : ℕ) → i < g → getD (seg u n g) i 0 ≡ getD u (n + i) 0
-  word-at i h = getD-seg u n g i 0 h
+  band-here : (i : ℕ) → i < g → getD (seg u 0 g) i 0 ≡ getD u i 0
+  band-here = band-at u g (omega (arith, N .here, N .room))
 
   -- nothing but the gate's word is new
   placed : (x : ℕ) → AreasOf gates (seg u 0 g ++ b ∷ []) (seg u n g ++ x ∷ []) (drop (n + n) u) → Placed gates u u n g b x
@@ -46,11 +44,11 @@ module _ (gates : ℕ) (u : List ℕ) (n g b : ℕ) (N : Next gates u n g b) whe
 
   module _ (some : 0 < b) where
     -- no gate above is of its band
-    abbrev pub Free : Type 0
-    Free = (g < gates) ⊎ (getD u (g - gates) 0 ≡ b → ⊥)
+    abbrev pub Open : Type 0
+    Open = (g < gates) ⊎ (getD u (g - gates) 0 ≡ b → ⊥)
 
-    free : Free → (length (seg u 0 g) < gates) ⊎ (getD (seg u 0 g) (length (seg u 0 g) - gates) 0 ≡ b → ⊥)
-    free o = at-end (λ k. (k < gates) ⊎ (getD (seg u 0 g) (k - gates) 0 ≡ b → ⊥)) (⊎-elim inl (λ m. ⊎-elim inl (λ (h : gates ≤ g). inr (λ e. m (sym (band-at (g - gates) (omega (arith, N .some-gates))) ∙ e))) (lt-or-le g gates)) o)
+    open-end : Open → (length (seg u 0 g) < gates) ⊎ (getD (seg u 0 g) (length (seg u 0 g) - gates) 0 ≡ b → ⊥)
+    open-end o = at-end (λ k. (k < gates) ⊎ (getD (seg u 0 g) (k - gates) 0 ≡ b → ⊥)) (⊎-elim inl (λ m. ⊎-elim inl (λ (h : gates ≤ g). inr (λ e. m (sym (band-here (g - gates) (omega (arith, N .some-gates))) ∙ e))) (lt-or-le g gates)) o)
 
     -- gates above and before are of its band
     both : Corner gates (seg u 0 g) g b → linksIn gates (seg u 0 g ++ b ∷ []) (length (seg u 0 g)) ≡ record { a = g - gates; b = length (seg u 0 g) } ∷ record { a = g - 1; b = length (seg u 0 g) } ∷ []
@@ -76,16 +74,16 @@ module _ (gates : ℕ) (u : List ℕ) (n g b : ℕ) (N : Next gates u n g b) whe
       under-before : joint gates (seg u 0 g ++ b ∷ []) ≡ joint gates (seg u 0 g) ++ getD (joint gates (seg u 0 g)) (g - 1) 0 ∷ [] → (x : ℕ) → x ≡ getD (seg u n g) (g - 1) 0 → Placed gates u u n g b x
       under-before q x e = placed x (rw e (place-under gates (seg u 0 g) (seg u n g) (drop (n + n) u) (N .areas) b some (g - 1) same-before q))
 
-      pub placed-beside : Free → (x : ℕ) → x ≡ getD (seg u n g) (g - 1) 0 → Placed gates u u n g b x
+      pub placed-beside : Open → (x : ℕ) → x ≡ getD (seg u n g) (g - 1) 0 → Placed gates u u n g b x
       placed-beside o =
-          let k = links-beside gates (seg u 0 g) b (N .some-gates) some before-end (free o) in
+          let k = links-beside gates (seg u 0 g) b (N .some-gates) some before-end (open-end o) in
           let p : length (seg u 0 g) - 1 < length (seg u 0 g) = omega (arith, later, iv-long) in
           under-before (joint-one gates (seg u 0 g) b some (length (seg u 0 g) - 1) p k ∙ ap (λ (y : ℕ). joint gates (seg u 0 g) ++ getD (joint gates (seg u 0 g)) (y - 1) 0 ∷ []) iv-long)
 
       -- ---- the gate above is, too
       module _ (ray : gates ≤ g) (above : getD u (g - gates) 0 ≡ b) where
         pub corner : Corner gates (seg u 0 g) g b
-        corner = record { some = some; inner = inner; before = same-before; ray = ray; above = band-at (g - gates) (omega (arith, N .some-gates)) ∙ above }
+        corner = record { some = some; inner = inner; before = same-before; ray = ray; above = band-here (g - gates) (omega (arith, N .some-gates)) ∙ above }
 
         -- the gate above starts no ray, as this one starts none
         inner-above : (g - gates) % gates ≡ 0 → ⊥
@@ -99,10 +97,10 @@ module _ (gates : ℕ) (u : List ℕ) (n g b : ℕ) (N : Next gates u n g b) whe
         -- the gate before the one above is, too: then the gates above and before are of one area
         one-area : getD u (g - gates - 1) 0 ≡ b → getD (joint gates (seg u 0 g)) (g - gates) 0 ≡ getD (joint gates (seg u 0 g)) (g - 1) 0
         one-area e =
-            let corner-band : getD (seg u 0 g) (g - gates - 1) 0 ≡ b = band-at (g - gates - 1) (omega (arith, later)) ∙ e in
+            let corner-band : getD (seg u 0 g) (g - gates - 1) 0 ≡ b = band-here (g - gates - 1) (omega (arith, later)) ∙ e in
             let l : 1 ≤ g - gates = above-later in
-            sym (one-root gates (seg u 0 g) (g - gates - 1) (g - gates) (omega (arith, N .some-gates, iv-long)) (inr (inner-above, refl)) (λ z. omega (arith, corner .above)) (corner-band ∙ sym (corner .above)))
-            ∙ one-root gates (seg u 0 g) (g - gates - 1) (g - 1) (omega (arith, later, iv-long)) (inl (omega arith, omega arith)) (λ z. omega (arith, same-before)) (corner-band ∙ sym same-before)
+            sym (same-root gates (seg u 0 g) (g - gates - 1) (g - gates) (omega (arith, N .some-gates, iv-long)) (inr (inner-above, refl)) (λ z. omega (arith, corner .above)) (corner-band ∙ sym (corner .above)))
+            ∙ same-root gates (seg u 0 g) (g - gates - 1) (g - 1) (omega (arith, later, iv-long)) (inl (omega arith, omega arith)) (λ z. omega (arith, same-before)) (corner-band ∙ sym same-before)
 
         pub placed-joined : getD u (g - gates - 1) 0 ≡ b → (x : ℕ) → x ≡ getD (seg u n g) (g - 1) 0 → Placed gates u u n g b x
         placed-joined e = under-before (
@@ -117,10 +115,10 @@ module _ (gates : ℕ) (u : List ℕ) (n g b : ℕ) (N : Next gates u n g b) whe
       pub placed-below : gates ≤ g → getD u (g - gates) 0 ≡ b → Placed gates u u n g b (getD u (n + (g - gates)) 0)
       placed-below h e =
           let l : g - gates < g = omega (arith, N .some-gates) in
-          let f : getD (seg u 0 g) (g - gates) 0 ≡ b = band-at (g - gates) l ∙ e in
+          let f : getD (seg u 0 g) (g - gates) 0 ≡ b = band-here (g - gates) l ∙ e in
           let k = links-below gates (seg u 0 g) b (N .some-gates) some apart-end (omega (arith, iv-long)) (at-end (λ k. getD (seg u 0 g) (k - gates) 0 ≡ b) f) in
           let q : joint gates (seg u 0 g ++ b ∷ []) ≡ joint gates (seg u 0 g) ++ getD (joint gates (seg u 0 g)) (g - gates) 0 ∷ [] = joint-one gates (seg u 0 g) b some (g - gates) (omega (arith, iv-long)) (k ∙ ap (λ (y : ℕ). record { a = y - gates; b = length (seg u 0 g) } ∷ []) iv-long) in
-          placed (getD u (n + (g - gates)) 0) (rw (← word-at (g - gates) l) (place-under gates (seg u 0 g) (seg u n g) (drop (n + n) u) (N .areas) b some (g - gates) f q))
+          placed (getD u (n + (g - gates)) 0) (rw (← getD-seg u n g (g - gates) 0 l) (place-under gates (seg u 0 g) (seg u n g) (drop (n + n) u) (N .areas) b some (g - gates) f q))
 
       counter : getD (drop (n + n) u) (b - 1) 0 ≡ getD u (n + n + (b - 1)) 0
       counter = getD-drop (n + n) u (b - 1) 0
@@ -131,11 +129,11 @@ module _ (gates : ℕ) (u : List ℕ) (n g b : ℕ) (N : Next gates u n g b) whe
           let few = counted-few (seg u 0 g) (joint gates (seg u 0 g)) (drop (n + n) u) (joint-long gates (seg u 0 g)) (N .areas .counts) (b - 1) l in
           ((some, omega (arith, N .here, N .small), omega (arith, N .band, N .room, length-drop (n + n) u)), omega (arith, few, counter, iv-long, N .here, N .small))
 
-      pub placed-first : Free → (x : ℕ) → x ≡ suc g → (v : List ℕ) → v ≡ set u (n + n + (b - 1)) (getD u (n + n + (b - 1)) 0 + 1) → Placed gates u v n g b x
+      pub placed-first : Open → (x : ℕ) → x ≡ suc g → (v : List ℕ) → v ≡ set u (n + n + (b - 1)) (getD u (n + n + (b - 1)) 0 + 1) → Placed gates u v n g b x
       placed-first o x e v f =
           let at : ℕ = n + n + (b - 1) in
           let k : ℕ = getD u at 0 + 1 in
-          let first = place-first gates (seg u 0 g) (seg u n g) (drop (n + n) u) (N .areas) b some (omega (arith, N .band)) (links-free gates (seg u 0 g) b (N .some-gates) some apart-end (free o)) in
+          let first = place-first gates (seg u 0 g) (seg u n g) (drop (n + n) u) (N .areas) b some (omega (arith, N .band)) (links-free gates (seg u 0 g) b (N .some-gates) some apart-end (open-end o)) in
           let counted = subst (λ (y : ℕ). AreasOf gates (seg u 0 g ++ b ∷ []) (seg u n g ++ suc g ∷ []) (set (drop (n + n) u) (b - 1) (y + 1))) counter
           (subst (λ (y : ℕ). AreasOf gates (seg u 0 g ++ b ∷ []) (seg u n g ++ suc y ∷ []) (set (drop (n + n) u) (b - 1) (getD (drop (n + n) u) (b - 1) 0 + 1))) iv-long first) in
           rw f

@@ -1,6 +1,7 @@
 // regions.rs: the regions of a sweep. The gates of each interval between neighbouring limits are labelled by area, numbers going on from one
 // interval to the next. All intervals are done at once: a gate's interval is that of the gate before or found by halving, and gates are joined only
-// within one interval. No gate of an interval is marked in memory: a velocity is compared with the two limits when its gate is placed.
+// within one interval. No mask of an interval is kept: a velocity is compared with the two limits when its gate is placed, and the gate's label
+// word holds its band until it is numbered.
 // Where the intervals outnumber the words lent for counters, they are done in blocks of 64, each put over those before.
 use crate::label;
 ghost use mathlib.Core.Path.{_≡_};
