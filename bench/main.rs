@@ -156,8 +156,7 @@ fn beside_rust(s: &Sweep, ours: &[i32]) -> f64 {
 }
 
 /// One row: rays, gates, roughness, regions, merges, seconds of the Rust, of the entry, of a plain fill of its work memory, of each stage.
-/// Not beside the Rust: its seconds are no number.
-fn measure(rays: usize, gates: usize, rough: f64, beside: bool) -> Vec<f64> {
+fn measure(rays: usize, gates: usize, rough: f64) -> Vec<f64> {
     let s = weather(7, rays, gates, rough);
     let n = rays * gates;
     let limits = limits(&s);
@@ -178,15 +177,9 @@ fn measure(rays: usize, gates: usize, rough: f64, beside: bool) -> Vec<f64> {
             black_box((&l.work, &l.floats));
         }));
     }
-    let rust = if beside { beside_rust(&s, &ours) } else { f64::NAN };
-    let mut row = vec![rays as f64, gates as f64, rough, l.pair[0] as f64, l.pair[1] as f64, rust, entry, fill];
+    let mut row = vec![rays as f64, gates as f64, rough, l.pair[0] as f64, l.pair[1] as f64, beside_rust(&s, &ours), entry, fill];
     row.extend(stages);
     row
-}
-
-/// A number of the table; a dash where there is none.
-fn cell(x: f64, digits: usize) -> String {
-    if x.is_nan() { " – |".into() } else { format!(" {x:.digits$} |") }
 }
 
 /// The made sweep that three words name: rays, gates and roughness.
@@ -227,16 +220,15 @@ fn main() {
         return alone(&words[1..]);
     }
     let file = words.first().expect("a file to write the rows to");
-    let all = words.get(1).is_some_and(|x| x == "all");
     println!("| rays × gates | roughness | regions | merges | Rust s | entry s | ratio | without clearing | plain fill s | {} |", STAGES.join(" | "));
     println!("|{}", "---|".repeat(9 + STAGES.len()));
     let mut rows = String::new();
     for rough in [0.0, 2.0, 8.0] {
-        for (rays, gates) in [(90, 250), (180, 500), (360, 1000), (720, 2000)] {
-            let r = measure(rays, gates, rough, all || rough < 8.0 || gates < 2000);
-            print!("| {rays} × {gates} | {rough} | {} | {} |", r[3], r[4]);
-            print!("{}{}{}{}{}", cell(r[5], 4), cell(r[6], 4), cell(r[5] / r[6], 1), cell(r[5] / (r[6] - r[14]), 1), cell(r[7], 4));
-            println!("{}", r[8..].iter().map(|x| cell(*x, 4)).collect::<String>());
+        for (rays, gates) in [(90, 250), (180, 500), (360, 1000), (720, 1200)] {
+            let r = measure(rays, gates, rough);
+            print!("| {rays} × {gates} | {rough} | {} | {} | {:.4} | {:.4} |", r[3], r[4], r[5], r[6]);
+            print!(" {:.1} | {:.1} | {:.4} |", r[5] / r[6], r[5] / (r[6] - r[14]), r[7]);
+            println!("{}", r[8..].iter().map(|x| format!(" {x:.4} |")).collect::<String>());
             rows += &r.iter().map(|x| format!("{x}")).collect::<Vec<_>>().join(",");
             rows += "\n";
         }

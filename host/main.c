@@ -15,6 +15,16 @@ typedef struct {
     uint8_t *valid;
 } sweep;
 
+/* Whether a sweep is at most as large as question 1 lets through. */
+static int size_in_range(const sweep *s)
+{
+    if (s->rays <= JIVAKKOL_MOST_RAYS && s->gates <= JIVAKKOL_MOST_GATES)
+        return 1;
+    fprintf(stderr, "host: %u rays of %u gates; question 1 lets %d rays of %d gates through at most\n", s->rays, s->gates,
+            JIVAKKOL_MOST_RAYS, JIVAKKOL_MOST_GATES);
+    return 0;
+}
+
 static int read_sweep(const char *path, sweep *s)
 {
     FILE *file = fopen(path, "r");
@@ -22,7 +32,7 @@ static int read_sweep(const char *path, sweep *s)
         return 0;
     int read = fscanf(file, "%u %u %f %u %u %u %u %u", &s->rays, &s->gates, &s->nyquist, &s->splits, &s->skip_rays,
                       &s->skip_gates, &s->centered, &s->wrap);
-    if (read != 8 || s->rays > 720 || s->gates > 2000) {
+    if (read != 8 || !size_in_range(s)) {
         fclose(file);
         return 0;
     }
@@ -124,8 +134,12 @@ static int draw(const sweep *s, const double *unfolded, const uint32_t *labels, 
 int main(int count, char **word)
 {
     sweep s;
-    if (count != 3 || !read_sweep(word[1], &s)) {
-        fprintf(stderr, "usage: host SWEEP PICTURE, SWEEP being a sweep file that can be read\n");
+    if (count != 3) {
+        fprintf(stderr, "usage: host SWEEP PICTURE\n");
+        return 2;
+    }
+    if (!read_sweep(word[1], &s)) {
+        fprintf(stderr, "host: %s is no sweep file that can be read\n", word[1]);
         return 2;
     }
     size_t n = (size_t)s.rays * s.gates;

@@ -16,6 +16,10 @@
 extern "C" {
 #endif
 
+/* The largest sweep: so many rays, of so many gates each. */
+#define JIVAKKOL_MOST_RAYS 720
+#define JIVAKKOL_MOST_GATES 1200
+
 /* Work memory that a sweep of n gates asks for. */
 #define JIVAKKOL_WORK_WORDS(n) (96 * (size_t)(n) + 64)
 #define JIVAKKOL_WORK_FLOATS(n) (16 * (size_t)(n) + 16)
@@ -25,7 +29,7 @@ extern "C" {
  * velocity, valid (1 where a gate has a velocity, 0 where it is masked) and folds have rays * gates elements, ray by ray; pair has 2.
  * interval_splits is 1 to 9,999; both skips are 0 to 1,000; centered and rays_wrap_around are 0 or 1.
  * Answers 0, or the number of the first question that got a no, with folds and pair unchanged:
- *   1 rays above 720 or gates above 2,000      2 a slice of another length      3 a mask byte other than 0 and 1
+ *   1 rays above 720 or gates above 1,200      2 a slice of another length      3 a mask byte other than 0 and 1
  *   4 too little work memory                   5 Nyquist not 0.125 to 1,024     6 an option out of its range
  *   7 a valid velocity not -16,384 to 16,384   8 more than 10,000 limits        9 a merge whose rounded difference, or a count, is beyond 1,000
  * After 0 and 9 the asked words of work memory are zero and any further ones unchanged; after 1 to 8 all are unchanged. */

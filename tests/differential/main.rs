@@ -1,7 +1,7 @@
 //! Feeds the same made sweeps to the proved entries (the static library) and to the Rust, in one process, and compares every result: answer
 //! number, counts, pair, labels, number of regions, and every word of lent memory that must or must not change.
 extern crate radish_oracle;
-use radish_oracle::make::{small, weather, Rng};
+use radish_oracle::make::{sized, small, weather, Rng};
 use radish_oracle::Sweep;
 use std::collections::BTreeMap;
 
@@ -109,6 +109,15 @@ fn compare_both(s: &Sweep, l: &mut Lent, expected: u32) -> Result<(u32, u32), St
     Ok((number, mapped))
 }
 
+/// All entries on a sweep that is lent as much as it asks for, the second with counts made up: the answer of the sweep entry and that of the map.
+fn compare_all(r: &mut Rng, s: &Sweep) -> Result<(u32, u32), String> {
+    let mut l = lent(r, s.rays * s.gates);
+    let answers = compare_both(s, &mut l, s.answer().number)?;
+    let folds: Vec<i32> = l.folds.iter().map(|_| if r.below(50) == 0 { r.next() as i32 } else { r.below(4001) as i32 - 2000 }).collect();
+    velocity(r, s, &folds)?;
+    Ok(answers)
+}
+
 /// A sweep whose size or lengths are off, or whose work memory is short: the number of the first question missed.
 fn off(r: &mut Rng, s: &mut Sweep, l: &mut Lent) -> u32 {
     let first = s.refused_before_merging();
@@ -121,7 +130,7 @@ fn off(r: &mut Rng, s: &mut Sweep, l: &mut Lent) -> u32 {
         4 => { l.words.truncate(96 * s.rays * s.gates + 63); early(4) }
         5 => { l.floats.truncate(16 * s.rays * s.gates + 15); early(4) }
         6 => { s.rays += 721; 1 }
-        _ => { s.gates += 2001; 1 }
+        _ => { s.gates += 1201; 1 }
     }
 }
 
@@ -281,17 +290,29 @@ fn third_count(teeth: usize, gates: usize, folds: usize) -> (i32, i32) {
     (count(first), count(once))
 }
 
-/// Rays of the base alone, teeth, gates and folds of the layered sweeps: 138 x 312 and 720 x 2,000 gates.
-const LAYERS: [(usize, usize, usize, usize); 2] = [(29, 54, 312, 999), (159, 280, 2000, 31)];
+/// A number that the C header defines.
+fn in_header(name: &str) -> usize {
+    let line = include_str!("../../include/jivakkol.h").lines().find(|x| x.starts_with(&format!("#define {name} "))).expect(name);
+    line.split(' ').last().and_then(|x| x.parse().ok()).expect(line)
+}
+
+/// Rays, or gates a ray, on both sides of the limits of question 1; where none are given there are few.
+const AT_LIMITS: [(Option<usize>, Option<usize>); 8] = [
+    (Some(719), None), (Some(720), None), (Some(721), None),
+    (None, Some(1199)), (None, Some(1200)), (None, Some(1201)), (None, Some(2000)), (None, Some(2001)),
+];
+
+/// Rays of the base alone, teeth, gates and folds of the layered sweeps: 138 x 312 and 720 x 1,200 gates.
+const LAYERS: [(usize, usize, usize, usize); 2] = [(29, 54, 312, 999), (159, 280, 1200, 51)];
 
 /// Rays, gates and roughness of the weather sweeps.
 const WEATHER: [(usize, usize, f64); 9] = [
     (90, 250, 0.0), (90, 250, 2.0), (360, 500, 0.0), (360, 500, 2.0), (180, 500, 8.0), (360, 1000, 0.0), (360, 1000, 2.0),
-    (720, 2000, 0.0), (720, 2000, 2.0),
+    (720, 1200, 0.0), (720, 1200, 2.0),
 ];
 
-/// Weather too broken for the Rust's merges to end soon: its region map alone is compared.
-const BROKEN: [(usize, usize, f64); 2] = [(360, 1000, 8.0), (720, 2000, 8.0)];
+/// Weather whose merges take the Rust long: its region map alone is compared here, and its counts by bench/.
+const BROKEN: [(usize, usize, f64); 2] = [(360, 1000, 8.0), (720, 1200, 8.0)];
 
 fn main() {
     let count: u64 = std::env::args().nth(1).map_or(20_000, |x| x.parse().unwrap());
@@ -303,22 +324,30 @@ fn main() {
     };
     for seed in 1..=count {
         let s = small(seed, 10 + seed % 118);
-        let mut l = lent(&mut r, s.rays * s.gates);
-        let expected = s.answer().number;
-        match compare_both(&s, &mut l, expected) {
+        match compare_all(&mut r, &s) {
             Ok((k, m)) => {
                 seen[k as usize] += 1;
                 mapped[m as usize] += 1;
             }
             Err(e) => fail("small", s.line(), e),
         }
-        let folds: Vec<i32> = l.folds.iter().map(|_| if r.below(50) == 0 { r.next() as i32 } else { r.below(4001) as i32 - 2000 }).collect();
-        if let Err(e) = velocity(&mut r, &s, &folds) {
-            fail("velocity", s.line(), e);
-        }
     }
     println!("small sweeps: {count}, by answer {seen:?}; unfolded velocities: {count}");
     println!("region maps of the same, by answer {mapped:?}");
+    assert_eq!((in_header("JIVAKKOL_MOST_RAYS"), in_header("JIVAKKOL_MOST_GATES")), (720, 1200));
+    for (rays, gates) in AT_LIMITS {
+        let mut answers = [0u64; 11];
+        for seed in 1..=count.div_ceil(1000) {
+            let few = r.below(4) as usize;
+            let s = sized(seed, rays.unwrap_or(few), gates.unwrap_or(few));
+            match compare_all(&mut r, &s) {
+                Ok((k, _)) => answers[k as usize] += 1,
+                Err(e) => fail("at the limits of question 1", s.line(), e),
+            }
+        }
+        let size = rays.map_or(format!("0 to 3 rays of {} gates", gates.unwrap_or(0)), |x| format!("{x} rays of 0 to 3 gates"));
+        println!("{size}: {}, by answer {answers:?}; their maps and unfolded velocities", count.div_ceil(1000));
+    }
     let mut offs = [0u64; 11];
     for seed in 1..=count / 10 {
         let mut s = small(seed, 12);

@@ -95,7 +95,7 @@ impl Sweep {
 
     // The questions that the entries share, each by its number in the scope document.
     fn yes_1(&self) -> bool {
-        self.rays <= 720 && self.gates <= 2000
+        self.rays <= 720 && self.gates <= 1200
     }
     fn yes_2(&self, own: bool) -> bool {
         let n = self.rays * self.gates;

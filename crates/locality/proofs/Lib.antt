@@ -22,3 +22,4 @@ pub mod RegionsEcho
 pub mod EdgesEcho
 pub mod MapPaths
 pub mod MapTheorems
+pub mod SizeTheorems

@@ -1,5 +1,5 @@
 -- What a caller of `jivakkol_region_map` may rely on, from its contract alone: s is the sweep that the call's parameters are, m all memory lent at entry,
--- a the answer and all memory lent at exit. Gates are numbered from 0, ray by ray. MapTheorems proves each.
+-- a the answer and all memory lent at exit. Gates are numbered from 0, ray by ray. MapTheorems proves each, SizeTheorems what is said of sizes.
 use Prim.Native.Nat.{ℕ, suc, _+_, _%_, _≤_, _<_}
 use mathlib.Core.Path.{_≡_}
 use mathlib.Core.Logic.{_⊎_}
@@ -16,7 +16,7 @@ use Rattle.sweep.specs.Questions.{gatesIn, wordsFor, floatsFor, ownLimits}
 use Rattle.sweep.specs.Call.{Memory, Answer, cleared}
 use Rattle.sweep.specs.Entry.{answerOf}
 use Rattle.map.specs.Map.{MapMemory, MapAnswer, askedMap, callMap}
-use Rattle.locality.specs.Theorems.{Called}
+use Rattle.locality.specs.Theorems.{Called, OneIsSize}
 
 -- the contract of the entry
 abbrev pub Mapped : Sweep → MapMemory → MapAnswer → Type 0
@@ -103,6 +103,10 @@ LabelsNumbered = (s : Sweep) (m : MapMemory) (a : MapAnswer) → Single s → Ma
 -- `map-answer-is`: the answer is the number of the first of questions 1 to 8 that gets a no, and 0 where none does
 abbrev pub MapAnswerIs : Type 0
 MapAnswerIs = (s : Sweep) (m : MapMemory) (a : MapAnswer) → Mapped s m a → a .number ≡ answerOf (askedMap s m)
+
+-- `map-one-is-size`: it is 1 exactly if the sweep is larger than the largest
+abbrev pub MapSize : Type 0
+MapSize = (s : Sweep) (m : MapMemory) (a : MapAnswer) → Mapped s m a → OneIsSize (s .shape .rays) (s .shape .gates) (a .number)
 
 -- `map-refusal-keeps`: a refusal leaves all that was lent as it was
 abbrev pub MapRefusalKeeps : Type 0

@@ -1,13 +1,16 @@
 -- What a caller of the entries may rely on, from their contracts alone. Of `jivakkol_dealias_sweep`: s is the sweep that the call's parameters are,
--- m all memory lent at entry, a the answer and all memory lent at exit. EntryTheorems proves each, VelocityTheorems those of the second entry.
+-- m all memory lent at entry, a the answer and all memory lent at exit. EntryTheorems proves each, VelocityTheorems those of the second entry,
+-- SizeTheorems what is said of sizes.
 use Prim.Native.Nat.{ℕ, _<_}
 use mathlib.Core.Path.{_≡_}
+use mathlib.Core.Logic.{_⊎_}
 use mathlib.Core.Bool.{Bool}
 use mathlib.Core.List.{List, [], _∷_}
 use mathlib.Core.Option.{none, some}
 use lib.ListN.{length, getD}
 use lib.IntN.{pos, _+ℤ_}
 use lib.Ieee.{Float}
+use Rattle.memory.specs.Size.{largest}
 use Rattle.network.specs.Network.{replay}
 use Rattle.sweep.specs.Sweep.{Sweep, unfolded}
 use Rattle.sweep.specs.Questions.{gatesIn, asked, firstMissed, ownLimits}
@@ -23,6 +26,19 @@ Called s m a = a ≡ call s m
 -- `answer-is`: the answer is the number of the first question that gets a no, and 0 where none does
 abbrev pub AnswerIs : Type 0
 AnswerIs = (s : Sweep) (m : Memory) (a : Answer) → Called s m a → a .number ≡ answerOf (firstMissed s (lengths m))
+
+-- more rays than the largest sweep has, or more gates per ray
+abbrev pub Larger : ℕ → ℕ → Type 0
+Larger rays gates = (largest .rays < rays) ⊎ (largest .gates < gates)
+
+-- an answer is 1 exactly if the sweep is larger than that
+pub record OneIsSize (rays gates number : ℕ) : Type 0 where
+  pub refused : Larger rays gates → number ≡ 1
+  pub larger : number ≡ 1 → Larger rays gates
+
+-- `one-is-size`: the sweep entry answers 1 exactly if the sweep is larger than the largest
+abbrev pub SweepSize : Type 0
+SweepSize = (s : Sweep) (m : Memory) (a : Answer) → Called s m a → OneIsSize (s .shape .rays) (s .shape .gates) (a .number)
 
 -- `refusal-keeps`: a refusal leaves counts and pair as they were, and one by questions 1 to 8 leaves all memory so
 pub record Kept (s : Sweep) (m : Memory) (a : Answer) : Type 0 where
@@ -74,6 +90,10 @@ CalledVelocity u out a = a ≡ callVelocity u out
 -- `velocity-answer-is`: the answer is the number of the first question that gets a no, and 0 where none does
 abbrev pub VelocityAnswerIs : Type 0
 VelocityAnswerIs = (u : Counted) (out : List Float) (a : VelocityAnswer) → CalledVelocity u out a → a .number ≡ answerOf (askedVelocity u (length out))
+
+-- `velocity-one-is-size`: it answers 1 exactly if the sweep is larger than the largest
+abbrev pub VelocitySize : Type 0
+VelocitySize = (u : Counted) (out : List Float) (a : VelocityAnswer) → CalledVelocity u out a → OneIsSize (u .rays) (u .gates) (a .number)
 
 -- `velocity-refusal-keeps`: a refusal leaves the slice as it was
 abbrev pub VelocityRefusalKeeps : Type 0

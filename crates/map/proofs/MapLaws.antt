@@ -9,7 +9,7 @@ use lib.ListN.{length, getD, set, drop, replicate}
 use lib.Ieee.{Float}
 use Rattle.lists.specs.Inside.Seg.{seg, put}
 use Rattle.lists.proofs.SegLaws.{length-put, length-seg, put-snoc, put-nil, seg-snoc, seg-all, seg-put-same}
-use Rattle.memory.specs.Inside.Layout.{mostGates}
+use Rattle.memory.specs.Size.{gatesOfLargest}
 use Rattle.arithmetic.specs.Rounding.{real}
 use Rattle.arithmetic.specs.Intervals.{limitsOf}
 use Rattle.arithmetic.specs.declared.intervals.Plan.{Plan}
@@ -76,7 +76,7 @@ module _ (s : Sweep) (m : MapMemory) (h : firstNo (seven s (mapLent (gatesIn s) 
   known : Passed s lentRoom
   known = passed s lentRoom h
 
-  pub map-small : length (s .vel) ≤ mostGates
+  pub map-small : length (s .vel) ≤ gatesOfLargest
   map-small = Work.small s lentRoom known
 
   pub map-words : 96 * length (s .vel) + 64 ≤ length (m .words)

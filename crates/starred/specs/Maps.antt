@@ -10,16 +10,20 @@ use Rattle.sweep.specs.Sweep.{Sweep}
 use Rattle.map.specs.Evaluating.{evaluating}
 use Rattle.map.specs.Map.{MapMemory, mapMemoryOf, mapAnswerBy, callMap}
 
--- rays of four gates at Nyquist 10 and splits 3, with wrap and skips 0
-abbrev rays : ℕ → List ℤ → List ℕ → Sweep
-rays r vs m = record {
-  shape = record { rays = r; gates = 4; «skip_between_rays» = 0; «skip_along_ray» = 0; wrap = 1 };
+-- rays of so many gates at Nyquist 10 and splits 3, with wrap and skips 0
+abbrev sized : ℕ → ℕ → List ℤ → List ℕ → Sweep
+sized r g vs m = record {
+  shape = record { rays = r; gates = g; «skip_between_rays» = 0; «skip_along_ray» = 0; wrap = 1 };
   splits = 3;
   centred = 0;
   nyquist = ofInt binary32 (pos 10);
   vel = map (ofInt binary32) vs;
   mask = m;
 }
+
+-- rays of four gates
+abbrev rays : ℕ → List ℤ → List ℕ → Sweep
+rays r vs m = sized r 4 vs m
 
 -- two rays: 9, 9, -9, 9 and -9, 9, 9, masked
 abbrev two : Sweep
@@ -70,6 +74,9 @@ rows =
     ∷ row (one (pos 10) (pos 9 ∷ pos 10 ∷ negsuc 9 ∷ [])) (lent 3 352 64) 0 (mapMemoryOf (1 ∷ 0 ∷ 2 ∷ []) (2 ∷ []) (words 352 0) (floats 64 0))
     -- -2000, 2000: the sweep entry refuses it with 9
     ∷ row (one (pos 1) (negsuc 1999 ∷ pos 2000 ∷ [])) (lent 2 256 48) 0 (mapMemoryOf (1 ∷ 2 ∷ []) (2 ∷ []) (words 256 0) (floats 48 0))
+    -- no ray of 1,200 gates; 1: no ray of 1,201
+    ∷ row (sized 0 1200 [] []) (lent 0 64 16) 0 (mapMemoryOf [] (0 ∷ []) (words 64 0) (floats 16 0))
+    ∷ row (sized 0 1201 [] []) (lent 0 64 16) 1 (lent 0 64 16)
     -- 2: a label too few
     ∷ row two (lent 7 832 144) 2 (lent 7 832 144)
     -- 4: a word too few, a float too few

@@ -31,7 +31,9 @@ abbrev pub rows : List Row
 rows =
     row (three (pos 10) (pos 9 ∷ pos 9 ∷ negsuc 8 ∷ []) (1 ∷ 1 ∷ 1 ∷ []) (pos 0 ∷ pos 0 ∷ pos 1 ∷ [])) (fives 3) 0 (pos 9 ∷ pos 9 ∷ pos 11 ∷ [])
     ∷ row (three (pos 10) (pos 9 ∷ pos 9 ∷ negsuc 8 ∷ []) (1 ∷ 0 ∷ 1 ∷ []) (negsuc 0 ∷ pos 3 ∷ pos 2 ∷ [])) (fives 3) 0 (negsuc 10 ∷ pos 0 ∷ pos 31 ∷ [])
-    -- 1: 721 rays
+    -- no ray of 1,200 gates; 1: no ray of 1,201, and 721 rays
+    ∷ row (counted 0 1200 (ofInt binary32 (pos 10)) [] [] []) [] 0 []
+    ∷ row (counted 0 1201 (ofInt binary32 (pos 10)) [] [] []) [] 1 []
     ∷ row (counted 721 0 (ofInt binary32 (pos 10)) [] [] []) [] 1 []
     -- 2: the slice is one too long, or the counts one too short
     ∷ row (three (pos 10) (pos 9 ∷ pos 9 ∷ negsuc 8 ∷ []) (1 ∷ 1 ∷ 1 ∷ []) (pos 0 ∷ pos 0 ∷ pos 1 ∷ [])) (fives 4) 2 (fives 4)

@@ -7,7 +7,7 @@ use mathlib.Core.Option.{none}
 use lib.IntN.{pos}
 use lib.ListN.{length, drop, replicate}
 use lib.Ieee.{Float}
-use Rattle.memory.specs.Inside.Layout.{mostGates}
+use Rattle.memory.specs.Size.{gatesOfLargest}
 use Rattle.arithmetic.specs.Rounding.{real}
 use Rattle.arithmetic.specs.declared.intervals.Plan.{Plan}
 use Rattle.network.specs.Inside.Find.{limitsBy, Finds}
@@ -39,7 +39,7 @@ module _ (s : Sweep) (m : Memory) (h : firstNo (sevenOf s (lengths m)) ≡ none)
   known : Passed s lentRoom
   known = passed s lentRoom h
 
-  pub small : length (s .vel) ≤ mostGates
+  pub small : length (s .vel) ≤ gatesOfLargest
   small = Work.small s lentRoom known
 
   pub words-room : 96 * length (s .vel) + 64 ≤ length (m .words)

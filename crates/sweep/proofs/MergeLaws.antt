@@ -18,7 +18,8 @@ use Rattle.labels.specs.Label.{Found}
 use Rattle.network.specs.Network.{State, sizeIn, replay, merges, countOf, gatesOf, networkBy, mergesInRange}
 use Rattle.edges.specs.Edges.{pairs, used}
 use Rattle.merge.specs.Inside.Steps.{unbias}
-use Rattle.memory.specs.Inside.Layout.{sizesAt, countsAt, mostGates}
+use Rattle.memory.specs.Inside.Layout.{sizesAt, countsAt}
+use Rattle.memory.specs.Size.{gatesOfLargest}
 use Rattle.network.specs.Inside.Find.{shapeOf, networkFor, findingOf, Leaves}
 use Rattle.network.proofs.Settles.{ran-no, ran-yes}
 use Rattle.network.specs.declared.options.Options.{Options}
@@ -65,7 +66,7 @@ runOf Refused = record { regions = 0; merges = 0 }
 
 -- F being the regions of n gates, v the words and x the answer that finding left
 module _ (o : Options) (vel : List Float) (mask : List ℕ) (F : Found) (n : ℕ) (v : List ℕ) (x : Finding) (R : Leaves F (networkFor o F vel) n v x)
-    (masks : length mask ≡ n) (small : n ≤ mostGates) (room : 96 * n + 64 ≤ length v) (few : F .number ≤ n) (long : length (F .labels) ≡ n) (low : (g : ℕ) → getD (F .labels) g 0 ≤ F .number) where
+    (masks : length mask ≡ n) (small : n ≤ gatesOfLargest) (room : 96 * n + 64 ≤ length v) (few : F .number ≤ n) (long : length (F .labels) ≡ n) (low : (g : ℕ) → getD (F .labels) g 0 ≤ F .number) where
   abbrev t : State
   t = networkFor o F vel
 

@@ -11,7 +11,7 @@ use lib.ListN.{length}
 use lib.IntN.{pos, negsuc}
 use lib.Ieee.{Float, fin, le}
 use borrow.Author.Tests.{leb-true, eqb-true, not-true, not-false}
-use Rattle.memory.specs.Inside.Layout.{mostGates}
+use Rattle.memory.specs.Size.{largest, gatesOfLargest}
 use Rattle.lists.specs.Seq.{all}
 use Rattle.arithmetic.specs.Intervals.{valid, nyquistInRange, velocityInRange}
 use Rattle.arithmetic.specs.Inside.Asked.{Asked}
@@ -50,8 +50,8 @@ use Rattle.sweep.proofs.QuestionLaws.{orElse, list-after, zero-none, no
 
 -- what a yes to all seven questions gives, whatever an entry's own part of question 2 is
 pub record Passed (s : Sweep) (r : Room) : Type 0 where
-  pub rays : s .shape .rays ≤ 720
-  pub gates : s .shape .gates ≤ 2000
+  pub rays : s .shape .rays ≤ largest .rays
+  pub gates : s .shape .gates ≤ largest .gates
   pub vel : length (s .vel) ≡ s .shape .rays * s .shape .gates
   pub mask : length (s .mask) ≡ s .shape .rays * s .shape .gates
   pub own : r .own ≡ true
@@ -70,19 +70,16 @@ answer-yes {r} e h = sym e ∙ not-false r h
 
 -- ---- each question's yes
 
-size-rays : (a b : ℕ) → sizeInRange a b ≡ true → a ≤ 720
+size-rays : (a b : ℕ) → sizeInRange a b ≡ true → a ≤ largest .rays
 unfolding sizeInRange
-size-rays a b h = leb-true a 720 (and-left (leb a 720) (leb b 2000) h)
+size-rays a b h = leb-true a (largest .rays) (and-left (leb a (largest .rays)) (leb b (largest .gates)) h)
 
-size-gates : (a b : ℕ) → sizeInRange a b ≡ true → b ≤ 2000
+size-gates : (a b : ℕ) → sizeInRange a b ≡ true → b ≤ largest .gates
 unfolding sizeInRange
-size-gates a b h = leb-true b 2000 (and-right (leb a 720) (leb b 2000) h)
+size-gates a b h = leb-true b (largest .gates) (and-right (leb a (largest .rays)) (leb b (largest .gates)) h)
 
-pub size-product : (a b n : ℕ) → n ≡ a * b → sizeInRange a b ≡ true → n ≤ mostGates
-size-product a b n e h = most n (a * b) e (mul-le-mul (size-rays a b h) (size-gates a b h))
-  where
-    most : (n m : ℕ) → n ≡ m → m ≤ 720 * 2000 → n ≤ mostGates
-    most n m e h = omega arith
+pub size-product : (a b n : ℕ) → n ≡ a * b → sizeInRange a b ≡ true → n ≤ gatesOfLargest
+size-product a b n e h = let most : a * b ≤ gatesOfLargest = mul-le-mul (size-rays a b h) (size-gates a b h) in omega arith
 
 -- question 2's yes
 pub long-are : (n : ℕ) (vs : List Float) (ms : List ℕ) (own : Bool) → lengthsFit n vs ms own ≡ true → (length vs ≡ n) × (length ms ≡ n) × (own ≡ true)

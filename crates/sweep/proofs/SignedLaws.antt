@@ -15,7 +15,7 @@ use borrow.Author.Tests.{le-ltb, eq-eqb, ne-eqb}
 use lib.Ieee.{Float, nan, inf, fin, up, down}
 use lib.Ieee.Fits.{down-pos}
 use lib.Ieee.Nearest.{closest, closest-mono}
-use Rattle.memory.specs.Inside.Layout.{mostGates}
+use Rattle.memory.specs.Size.{gatesOfLargest}
 use Rattle.arithmetic.specs.Rounding.{within, nearestWhole, ifWithin, roundEven, signed}
 use Rattle.arithmetic.specs.declared.rounding.Rounded.{Rounded}
 use Rattle.arithmetic.specs.declared.rounding.Rounded.the-variants.{Whole, Outside}
@@ -65,7 +65,7 @@ pub sub-is : (a b : ℕ) → pos a -ℤ pos b ≡ subℕ a b
 sub-is a zero = ap pos {x = a + 0} {y = a} (omega arith) ∙ sym (rw (le-ltb a 0 (omega arith)) (ap pos (omega arith)))
 sub-is a (suc b) = refl
 
-module _ (held gates : ℕ) (g : gates ≤ mostGates) (h : held ≤ 2880000000) where
+module _ (held gates : ℕ) (g : gates ≤ gatesOfLargest) (h : held ≤ 2000 * gatesOfLargest) where
   total-is : toZ w64 held -ℤ toZ w64 (1000 * gates) ≡ subℕ held (1000 * gates)
   total-is =
       ap (λ (z : ℤ). z -ℤ toZ w64 (1000 * gates)) (toZ-pos w64 held (omega arith))

@@ -5,7 +5,8 @@ use native.Mathlib.Nat.{mul-le-mul-left}
 use mathlib.Core.Path.{_≡_, refl, sym, ap, _∙_}
 use mathlib.Core.List.{List}
 use lib.ListN.{length, getD}
-use Rattle.memory.specs.Inside.Layout.{sizesAt, countsAt, mostGates}
+use Rattle.memory.specs.Inside.Layout.{sizesAt, countsAt}
+use Rattle.memory.specs.Size.{gatesOfLargest}
 use Rattle.sweep.specs.Inside.Mean.{sumFrom, sizeAt, heldAt, Tabled}
 
 -- the sum from l on is f l and the sum after it
@@ -34,17 +35,17 @@ module _ (w : List ℕ) (n k : ℕ) (q : Tabled w n k) where
   unfolding heldAt
   held-le l h = omega (arith, mul-le-mul-left (sizeAt w n l) (q .most l h))
 
-  pub held-few : sumFrom (heldAt w n k) 1 k ≤ 2880000000
+  pub held-few : sumFrom (heldAt w n k) 1 k ≤ 2000 * gatesOfLargest
   held-few = omega (arith, sum-scaled (sizeAt w n) (heldAt w n k) 1 k (λ j a b. held-le j (omega arith)), q .few)
 
   pub record Turn (gates held l : ℕ) : Type 0 where
     pub size-in : n + l < length w
     pub count-in : n + (k + 1) + l < length w
-    pub size-small : getD w (n + l) 0 ≤ mostGates
+    pub size-small : getD w (n + l) 0 ≤ gatesOfLargest
     pub count-small : getD w (n + (k + 1) + l) 0 ≤ 2000
-    pub product : getD w (n + l) 0 * getD w (n + (k + 1) + l) 0 ≤ 2880000000
-    pub gates-small : getD w (n + l) 0 + gates ≤ mostGates
-    pub held-small : getD w (n + l) 0 * getD w (n + (k + 1) + l) 0 + held ≤ 2880000000
+    pub product : getD w (n + l) 0 * getD w (n + (k + 1) + l) 0 ≤ 2000 * gatesOfLargest
+    pub gates-small : getD w (n + l) 0 + gates ≤ gatesOfLargest
+    pub held-small : getD w (n + l) 0 * getD w (n + (k + 1) + l) 0 + held ≤ 2000 * gatesOfLargest
     pub gates-next : getD w (n + l) 0 + gates ≡ sumFrom (sizeAt w n) (l - 1 + 1) (k - (l - 1))
     pub held-next : getD w (n + l) 0 * getD w (n + (k + 1) + l) 0 + held ≡ sumFrom (heldAt w n k) (l - 1 + 1) (k - (l - 1))
 

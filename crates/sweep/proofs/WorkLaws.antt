@@ -6,7 +6,7 @@ use mathlib.Core.Path.{_≡_, refl, sym, ap, _∙_}
 use mathlib.Core.List.{List, [], _∷_, _++_}
 use lib.ListN.{length, take, drop, replicate}
 use lib.Ieee.{Float}
-use Rattle.memory.specs.Inside.Layout.{mostGates}
+use Rattle.memory.specs.Size.{gatesOfLargest}
 use Rattle.arithmetic.specs.declared.intervals.Plan.{Plan}
 use Rattle.arithmetic.proofs.Plans.{no-nan}
 use Rattle.network.specs.Inside.Find.{Limited}
@@ -34,10 +34,10 @@ unfolding cleared
 cleared-is z k j w rest m e f g = (λ i. f i ++ g i) ∙ ap (λ (x : ℕ). replicate x z ++ drop x m) e
 
 module _ (s : Sweep) (r : Room) (k : Passed s r) where
-  product : s .shape .rays * s .shape .gates ≤ mostGates
+  product : s .shape .rays * s .shape .gates ≤ gatesOfLargest
   product = mul-le-mul (k .rays) (k .gates)
 
-  pub small : length (s .vel) ≤ mostGates
+  pub small : length (s .vel) ≤ gatesOfLargest
   small = omega (arith, k .vel, product)
 
   pub words-room : 96 * length (s .vel) + 64 ≤ r .words

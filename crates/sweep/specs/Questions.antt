@@ -8,6 +8,7 @@ use lib.ListN.{length}
 use lib.IntN.{ℤ, pos, negsuc}
 use lib.Ieee.{Float}
 use Rattle.lists.specs.Seq.{all}
+use Rattle.memory.specs.Size.{largest}
 use Rattle.arithmetic.specs.Intervals.{valid, range, numberFor, limitsFor, nyquistInRange, velocityInRange}
 use Rattle.sweep.specs.Sweep.{Sweep, Unfolded, unfolded}
 use Rattle.sweep.specs.declared.questions.Room.{Room}
@@ -47,7 +48,7 @@ floatsFor n = 16 * n + 16
 
 -- question 1: rays and gates per ray
 unfoldable pub sizeInRange : ℕ → ℕ → Bool
-sizeInRange rays gates = leb rays 720 && leb gates 2000
+sizeInRange rays gates = leb rays (largest .rays) && leb gates (largest .gates)
 
 -- question 2: the lengths, own being an entry's own part
 unfoldable pub lengthsFit : ℕ → List Float → List ℕ → Bool → Bool

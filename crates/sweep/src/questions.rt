@@ -6,7 +6,7 @@ ghost use Prim.Native.Nat.{_*_, _≤_};
 ghost use lib.Dec.{eqb, leb};
 ghost use lib.ListN.{length, getD};
 ghost use lib.IntN.{pos};
-ghost use Rattle.memory.specs.Inside.Layout.{mostGates};
+ghost use Rattle.memory.specs.Size.{gatesOfLargest};
 ghost use Rattle.lists.specs.Seq.{upto, all};
 ghost use Rattle.arithmetic.specs.Intervals.{nyquistInRange, velocityInRange};
 ghost use Rattle.network.specs.Network.{bounded};
@@ -17,7 +17,7 @@ ghost use Rattle.sweep.specs.Velocity.{counted, askedVelocity};
 // The ranges that the questions ask for.
 const MOST_RAYS: u32 = 720;
 
-const MOST_GATES: u32 = 2000;
+const MOST_GATES: u32 = 1200;
 
 const LEAST_NYQUIST: f32 = 0.125;
 
@@ -79,7 +79,7 @@ fn mask_is_bits(valid: &[u8]) -> bool
 
 // Question 4.
 fn work_suffices(n: usize, words: usize, floats: usize) -> bool
-    requires { ⌜ n ≤ mostGates ⌝ }
+    requires { ⌜ n ≤ gatesOfLargest ⌝ }
     ensures { λ r. ⌜ r ≡ (leb (wordsFor n) words && leb (floatsFor n) floats) ⌝ }
 {
     layout::WORDS * n + layout::WORDS_MORE <= words

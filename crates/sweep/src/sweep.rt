@@ -8,7 +8,8 @@ ghost use lib.Ieee.{binary64, div};
 ghost use Rattle.lists.specs.Seq.{tabulate};
 ghost use Rattle.arithmetic.specs.Rounding.{roundEven, real};
 ghost use Rattle.merge.specs.Inside.Steps.{unbias};
-ghost use Rattle.memory.specs.Inside.Layout.{countsAt, mostGates};
+ghost use Rattle.memory.specs.Inside.Layout.{countsAt};
+ghost use Rattle.memory.specs.Size.{gatesOfLargest};
 ghost use Rattle.network.specs.Inside.Find.{limitsBy, Finds};
 ghost use Rattle.sweep.specs.Sweep.{orZero, gateCount, unfolded};
 ghost use Rattle.sweep.specs.Inside.Mean.{sumFrom, sizeAt, heldAt, Tabled, Writes};
@@ -51,7 +52,7 @@ fn add_up(w: &[u32], n: usize, k: usize) -> Totals
 
 // The mean count, rounded; 0 where it is no number.
 fn mean(s: Totals) -> i32
-    requires { ⌜ (s .gates ≤ mostGates) × (s .held ≤ 2880000000) ⌝ }
+    requires { ⌜ (s .gates ≤ gatesOfLargest) × (s .held ≤ 2000 * gatesOfLargest) ⌝ }
     ensures { λ r. ⌜ r ≡ orZero (roundEven (div binary64 (real (subℕ (s .held) (1000 * s .gates))) (real (pos (s .gates))))) ⌝ }
 {
     let total = (s.held as i64) - ((ZERO_U64 * s.gates) as i64);

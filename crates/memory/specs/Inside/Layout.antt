@@ -10,10 +10,6 @@
 use Prim.Native.Nat.{ℕ, _+_, _*_, _≤_}
 use mathlib.Core.List.{List, [], _∷_}
 
--- as many gates as question 1 allows, 720 × 2,000
-abbrev pub mostGates : ℕ
-mostGates = 1440000
-
 -- ---- pairing and sorting
 
 -- where the gates of the pairs begin

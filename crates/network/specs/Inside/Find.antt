@@ -6,7 +6,7 @@ use mathlib.Core.List.{List}
 use lib.Dec.{T}
 use lib.ListN.{length, getD}
 use lib.Ieee.{Float, isNan}
-use Rattle.memory.specs.Inside.Layout.{mostGates}
+use Rattle.memory.specs.Size.{gatesOfLargest}
 use Rattle.arithmetic.specs.Inside.Asked.{Rising}
 use Rattle.arithmetic.specs.Intervals.{atLeast0, twoNyquist, limitsOf}
 use Rattle.lists.specs.Inside.Seg.{seg}
@@ -49,7 +49,7 @@ pub record Limited (o : Options) (p : Plan) (vel : List Float) (mask : List ℕ)
   pub planned : Planned o p
   pub rising : Rising (limitsBy o p)
   pub masks : length mask ≡ length vel
-  pub small : length vel ≤ mostGates
+  pub small : length vel ≤ gatesOfLargest
   pub some-gates : 0 < length vel → 0 < o .gates
   pub room : 3 * length vel + 64 ≤ words
 
@@ -62,7 +62,7 @@ pub record Labelled (f : Found) (n k : ℕ) (w : List ℕ) : Type 0 where
 pub record Few (w : List ℕ) (n k : ℕ) : Type 0 where
   pub few : k < 2
   pub room : n + (k + 1) + (k + 1) ≤ length w
-  pub small : n ≤ mostGates
+  pub small : n ≤ gatesOfLargest
   pub label : (g : ℕ) → g < n → getD w g 0 ≤ k
 
 -- what finding asks: a plan whose limits never fall, and the work memory

@@ -9,7 +9,8 @@ use Rattle.lists.specs.Seq.{tabulate}
 use Rattle.lists.specs.Inside.Seg.{seg}
 use Rattle.network.specs.Network.{State, sizeIn, merges, mergesInRange, replay, countOf}
 use Rattle.merge.specs.Inside.Steps.{unbias}
-use Rattle.memory.specs.Inside.Layout.{sizesAt, countsAt, mostGates}
+use Rattle.memory.specs.Inside.Layout.{sizesAt, countsAt}
+use Rattle.memory.specs.Size.{gatesOfLargest}
 use Rattle.edges.specs.declared.edges.Shape.{Shape}
 use Rattle.network.specs.declared.network.Ran.{Ran}
 use Rattle.network.specs.Inside.Settle.{outcome, ranOf}
@@ -19,7 +20,7 @@ pub record Reduces (f : Shape) (w : List ℕ) (d vel : List Float) (n k : ℕ) :
   pub whole : n ≡ f .rays * f .gates
   pub some : 1 ≤ n
   pub few : k ≤ n
-  pub small : n ≤ mostGates
+  pub small : n ≤ gatesOfLargest
   pub vels : length vel ≡ n
   pub label : (j : ℕ) → j < n → getD w j 0 ≤ k
   pub words : 96 * n + 64 ≤ length w

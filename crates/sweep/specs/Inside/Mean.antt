@@ -4,7 +4,8 @@ use mathlib.Core.Path.{_≡_}
 use mathlib.Core.List.{List}
 use lib.IntN.{ℤ, natAbs}
 use lib.ListN.{length, getD}
-use Rattle.memory.specs.Inside.Layout.{sizesAt, countsAt, mostGates}
+use Rattle.memory.specs.Inside.Layout.{sizesAt, countsAt}
+use Rattle.memory.specs.Size.{gatesOfLargest}
 
 -- f i + f (i + 1) + .., n of them
 unfoldable pub sumFrom : (ℕ → ℕ) → ℕ → ℕ → ℕ
@@ -22,7 +23,7 @@ heldAt w n k l = sizeAt w n l * getD w (countsAt n k + l) 0
 -- the two tables lie in the words, and the sums are small
 pub record Tabled (w : List ℕ) (n k : ℕ) : Type 0 where
   pub room : n + (k + 1) + (k + 1) ≤ length w
-  pub few : sumFrom (sizeAt w n) 1 k ≤ mostGates
+  pub few : sumFrom (sizeAt w n) 1 k ≤ gatesOfLargest
   pub most : (l : ℕ) → l ≤ k → getD w (countsAt n k + l) 0 ≤ 2000
 
 -- what writing the counts asks: labels and counts in the words, one mask byte and one count a gate

@@ -6,7 +6,7 @@ use lib.ListN.{length}
 use borrow.Author.Needs.{needs}
 use Rattle.sweep.proofs.WorkLaws.{length-taken}
 use Rattle.map.proofs.MapLaws.{map-small, map-words, map-floats, map-long, map-asks, drawn-is}
-use Rattle.memory.specs.Inside.Layout.{mostGates}
+use Rattle.memory.specs.Size.{gatesOfLargest}
 use Rattle.network.specs.Inside.Find.{regionsBy}
 use Rattle.sweep.specs.Entry.{sweepBy}
 use Rattle.map.specs.Map.{MapMemory, mapMemoryOf}
@@ -17,7 +17,7 @@ use Rattle.map.proofs.map.draw.Tie as tie
 abbrev memoryAt : tie.Start → MapMemory
 memoryAt s = mapMemoryOf (s .args .labels .now) (s .args .regions .now) (s .args .words .now) (s .args .floats .now)
 
-few : (s : tie.Start) → length (s .args .velocity .now) ≤ mostGates
+few : (s : tie.Start) → length (s .args .velocity .now) ≤ gatesOfLargest
 few s = map-small (sweepBy (s .args .o) (s .args .velocity .now) (s .args .valid .now)) (memoryAt s) (s .pre .0)
 
 words-are : (s : tie.Start) → 96 * length (s .args .velocity .now) + 64 ≤ length (s .args .words .now)

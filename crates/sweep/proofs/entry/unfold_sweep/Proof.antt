@@ -4,7 +4,7 @@ use native.Mathlib.Omega.{arith}
 use Prim.Native.Nat.{_+_, _-_, _*_, _≤_}
 use lib.ListN.{length, take}
 use borrow.Author.Needs.{needs}
-use Rattle.memory.specs.Inside.Layout.{mostGates}
+use Rattle.memory.specs.Size.{gatesOfLargest}
 use Rattle.sweep.proofs.WorkLaws.{length-taken}
 use Rattle.sweep.proofs.EndLaws.{small, words-room, floats-room, finds-ask, outputs, solved-ends}
 use Rattle.sweep.specs.Entry.{sweepBy}
@@ -16,7 +16,7 @@ use Rattle.sweep.proofs.entry.unfold_sweep.Tie as tie
 abbrev memoryAt : tie.Start → Memory
 memoryAt s = memoryOf (s .args .folds .now) (s .args .pair .now) (s .args .words .now) (s .args .floats .now)
 
-few : (s : tie.Start) → length (s .args .velocity .now) ≤ mostGates
+few : (s : tie.Start) → length (s .args .velocity .now) ≤ gatesOfLargest
 few s = small (sweepBy (s .args .o) (s .args .velocity .now) (s .args .valid .now)) (memoryAt s) (s .pre .0)
 
 words-are : (s : tie.Start) → 96 * length (s .args .velocity .now) + 64 ≤ length (s .args .words .now)

@@ -1,0 +1,64 @@
+-- Each entry answers 1 exactly if the sweep is larger than the largest: the statements of Theorems and RegionMap on sizes, proved. Assumes nothing.
+use Prim.Native.Nat.{ℕ}
+use native.Mathlib.Omega.{arith}
+use mathlib.Core.Path.{_≡_, refl, sym, ap, _∙_}
+use mathlib.Core.Logic.{inl, inr}
+use mathlib.Core.Bool.{Bool, true, false, _&&_}
+use mathlib.Core.List.{List, _∷_}
+use mathlib.Core.Option.{Option, none, some}
+use lib.Dec.{leb, ltb}
+use borrow.Author.Tests.{leb-false, lt-leb, ltb-true}
+use Rattle.memory.specs.Size.{largest}
+use Rattle.lists.specs.Seq.{all}
+use Rattle.sweep.specs.Questions.{Question, ask, firstNo, sizeInRange, seven, firstMissed}
+use Rattle.sweep.specs.Entry.{answerOf}
+use Rattle.sweep.specs.Velocity.{askedVelocity}
+use Rattle.map.specs.Map.{askedMap}
+use Rattle.sweep.proofs.QuestionLaws.{on, no, no-meets}
+use Rattle.locality.specs.Theorems.{Larger, OneIsSize, SweepSize, VelocitySize}
+use Rattle.locality.specs.RegionMap.{MapSize}
+use Rattle.locality.proofs.EntryTheorems.{answer-is}
+use Rattle.locality.proofs.VelocityTheorems.{velocity-answer-is}
+use Rattle.locality.proofs.MapTheorems.{map-answer-is}
+
+module _ (rays gates : ℕ) where
+  size-no : Larger rays gates → sizeInRange rays gates ≡ false
+  unfolding sizeInRange
+  size-no (inl h) = rw (lt-leb rays (largest .rays) h) refl
+  size-no (inr h) = go (leb rays (largest .rays))
+    where
+      go : (b : Bool) → (b && leb gates (largest .gates)) ≡ false
+      go true = lt-leb gates (largest .gates) h
+      go false = refl
+
+  no-size : sizeInRange rays gates ≡ false → Larger rays gates
+  unfolding sizeInRange
+  no-size h = go (leb rays (largest .rays)) refl h
+    where
+      go : (b : Bool) → leb rays (largest .rays) ≡ b → (b && leb gates (largest .gates)) ≡ false → Larger rays gates
+      go true e h = inr (leb-false gates (largest .gates) h)
+      go false e h = inl (leb-false rays (largest .rays) e)
+
+  -- question 1 and then others, each of a number past 1
+  one-of : (qs : List Question) → all (λ q. ltb 1 (q .number)) qs ≡ true → (k : ℕ) → k ≡ answerOf (firstNo (ask 1 (sizeInRange rays gates) ∷ qs)) → OneIsSize rays gates k
+  one-of qs past k e = record { refused = λ h. e ∙ ap answerOf (no (ask 1 (sizeInRange rays gates)) qs (size-no h)); larger = λ h. go (sizeInRange rays gates) refl (sym e ∙ h) }
+    where
+      others : (o : Option ℕ) → firstNo qs ≡ o → answerOf o ≡ 1 → ⊥
+      others none f h = omega arith
+      others (some j) f h = omega (arith, ltb-true 1 j (no-meets (ltb 1) qs j past f))
+
+      go : (b : Bool) → sizeInRange rays gates ≡ b → answerOf (firstNo (ask 1 (sizeInRange rays gates) ∷ qs)) ≡ 1 → Larger rays gates
+      go true f h = absurd (others (firstNo qs) refl (sym (ap answerOf (on (ask 1 (sizeInRange rays gates)) qs f)) ∙ h))
+      go false f h = no-size f
+
+pub one-is-size : SweepSize
+unfolding firstMissed seven all
+one-is-size s m a c = one-of (s .shape .rays) (s .shape .gates) _ refl (a .number) (answer-is s m a c)
+
+pub velocity-one-is-size : VelocitySize
+unfolding askedVelocity all
+velocity-one-is-size u out a c = one-of (u .rays) (u .gates) _ refl (a .number) (velocity-answer-is u out a c)
+
+pub map-one-is-size : MapSize
+unfolding askedMap seven all
+map-one-is-size s m a c = one-of (s .shape .rays) (s .shape .gates) _ refl (a .number) (map-answer-is s m a c)
