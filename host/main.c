@@ -15,7 +15,7 @@ typedef struct {
     uint8_t *valid;
 } sweep;
 
-/* Whether a sweep is at most as large as question 1 lets through. */
+/* Whether a sweep is at most as large as question 1 lets through; says so where it is larger. */
 static int size_in_range(const sweep *s)
 {
     if (s->rays <= JIVAKKOL_MOST_RAYS && s->gates <= JIVAKKOL_MOST_GATES)

@@ -118,6 +118,18 @@ fn compare_all(r: &mut Rng, s: &Sweep) -> Result<(u32, u32), String> {
     Ok(answers)
 }
 
+/// How many of `count` sweeps get each answer, their rays and gates being `size` of a number from 0 to 3; or the first that differs, and how.
+fn answers_by_size(r: &mut Rng, count: u64, size: impl Fn(usize) -> (usize, usize)) -> Result<[u64; 11], (String, String)> {
+    let mut answers = [0; 11];
+    for seed in 1..=count {
+        let (rays, gates) = size(r.below(4) as usize);
+        let s = sized(seed, rays, gates);
+        let (number, _) = compare_all(r, &s).map_err(|e| (s.line(), e))?;
+        answers[number as usize] += 1;
+    }
+    Ok(answers)
+}
+
 /// A sweep whose size or lengths are off, or whose work memory is short: the number of the first question missed.
 fn off(r: &mut Rng, s: &mut Sweep, l: &mut Lent) -> u32 {
     let first = s.refused_before_merging();
@@ -296,11 +308,9 @@ fn in_header(name: &str) -> usize {
     line.split(' ').last().and_then(|x| x.parse().ok()).expect(line)
 }
 
-/// Rays, or gates a ray, on both sides of the limits of question 1; where none are given there are few.
-const AT_LIMITS: [(Option<usize>, Option<usize>); 8] = [
-    (Some(719), None), (Some(720), None), (Some(721), None),
-    (None, Some(1199)), (None, Some(1200)), (None, Some(1201)), (None, Some(2000)), (None, Some(2001)),
-];
+/// Rays, and gates a ray, on both sides of the limits of question 1.
+const RAYS: [usize; 3] = [719, 720, 721];
+const GATES: [usize; 5] = [1199, 1200, 1201, 2000, 2001];
 
 /// Rays of the base alone, teeth, gates and folds of the layered sweeps: 138 x 312 and 720 x 1,200 gates.
 const LAYERS: [(usize, usize, usize, usize); 2] = [(29, 54, 312, 999), (159, 280, 1200, 51)];
@@ -335,18 +345,16 @@ fn main() {
     println!("small sweeps: {count}, by answer {seen:?}; unfolded velocities: {count}");
     println!("region maps of the same, by answer {mapped:?}");
     assert_eq!((in_header("JIVAKKOL_MOST_RAYS"), in_header("JIVAKKOL_MOST_GATES")), (720, 1200));
-    for (rays, gates) in AT_LIMITS {
-        let mut answers = [0u64; 11];
-        for seed in 1..=count.div_ceil(1000) {
-            let few = r.below(4) as usize;
-            let s = sized(seed, rays.unwrap_or(few), gates.unwrap_or(few));
-            match compare_all(&mut r, &s) {
-                Ok((k, _)) => answers[k as usize] += 1,
-                Err(e) => fail("at the limits of question 1", s.line(), e),
-            }
-        }
-        let size = rays.map_or(format!("0 to 3 rays of {} gates", gates.unwrap_or(0)), |x| format!("{x} rays of 0 to 3 gates"));
-        println!("{size}: {}, by answer {answers:?}; their maps and unfolded velocities", count.div_ceil(1000));
+    let each = count.div_ceil(1000);
+    let report = |size: String, answers: Result<[u64; 11], (String, String)>| match answers {
+        Ok(answers) => println!("{size}: {each}, by answer {answers:?}; their maps and unfolded velocities"),
+        Err((line, e)) => fail("at the limits of question 1", line, e),
+    };
+    for rays in RAYS {
+        report(format!("{rays} rays of 0 to 3 gates"), answers_by_size(&mut r, each, |few| (rays, few)));
+    }
+    for gates in GATES {
+        report(format!("0 to 3 rays of {gates} gates"), answers_by_size(&mut r, each, |few| (few, gates)));
     }
     let mut offs = [0u64; 11];
     for seed in 1..=count / 10 {
