@@ -1,12 +1,13 @@
 /* Unfolds a sweep from a file, finds its regions, and draws the wind before and after and the regions as a PPM picture.
  *
- * usage: host SWEEP PICTURE. The form of a sweep file stands in make_sample.py. Speeds are printed in m/s. */
+ * usage: host SWEEP PICTURE. The form of a sweep file stands at jivakkol_read_sweep in jivakkol.h. Speeds are printed in m/s. */
 #include "jivakkol.h"
 #include "picture.h"
 
 #include <math.h>
 #include <stdio.h>
 #include <stdlib.h>
+#include <string.h>
 
 typedef struct {
     uint32_t rays, gates, splits, skip_rays, skip_gates, centered, wrap;
@@ -15,43 +16,60 @@ typedef struct {
     uint8_t *valid;
 } sweep;
 
-/* Whether a sweep is at most as large as question 1 lets through; says so where it is larger. */
-static int size_in_range(const sweep *s)
+/* What a refusal's number says. */
+static const char *refusal(uint32_t answer)
 {
-    if (s->rays <= JIVAKKOL_MOST_RAYS && s->gates <= JIVAKKOL_MOST_GATES)
-        return 1;
-    fprintf(stderr, "host: %u rays of %u gates; question 1 lets %d rays of %d gates through at most\n", s->rays, s->gates,
-            JIVAKKOL_MOST_RAYS, JIVAKKOL_MOST_GATES);
+    static const char *const words[] = {
+        "none", "rays above 720 or gates above 1,200", "a slice of another length", "a mask byte other than 0 and 1",
+        "too little work memory", "Nyquist not 0.125 to 1,024", "an option out of its range", "a valid velocity not -16,384 to 16,384",
+        "more than 10,000 limits", "a merge or a count beyond 1,000 folds", "a count beyond 2,000 folds",
+        "a field missing, cut short or of the wrong length", "a wrong tag, a set spare bit, or bytes after the last ray",
+    };
+    return answer < sizeof words / sizeof *words ? words[answer] : "no number of this library";
+}
+
+/* Says on standard error what was refused and why; answers 0. */
+static int refused(const char *what, uint32_t answer)
+{
+    fprintf(stderr, "host: %s is refused, answer %u: %s\n", what, answer, refusal(answer));
     return 0;
 }
 
-static int read_sweep(const char *path, sweep *s)
+/* The bytes of a file, at most one more than the largest sweep has: a longer file is refused by these as by all. Null where it cannot be
+ * read. */
+static uint8_t *read_bytes(const char *path, size_t *length)
 {
-    FILE *file = fopen(path, "r");
+    const size_t most = JIVAKKOL_FILE_BYTES(JIVAKKOL_MOST_RAYS, JIVAKKOL_MOST_GATES) + 1;
+    FILE *file = fopen(path, "rb");
     if (!file)
-        return 0;
-    int read = fscanf(file, "%u %u %f %u %u %u %u %u", &s->rays, &s->gates, &s->nyquist, &s->splits, &s->skip_rays,
-                      &s->skip_gates, &s->centered, &s->wrap);
-    if (read != 8 || !size_in_range(s)) {
-        fclose(file);
-        return 0;
-    }
-    size_t n = (size_t)s->rays * s->gates;
+        return NULL;
+    uint8_t *bytes = lent(most, 1);
+    *length = fread(bytes, 1, most, file);
+    int failed = ferror(file);
+    fclose(file);
+    if (!failed)
+        return bytes;
+    free(bytes);
+    return NULL;
+}
+
+/* The sweep that a file's bytes hold. Answers 0 where the library refused. */
+static int read_sweep(const char *path, const uint8_t *file, size_t length, sweep *s)
+{
+    uint32_t size[2] = {0, 0}, header[8] = {0};
+    uint32_t answer = jivakkol_sweep_size(file, length, size, 2);
+    size_t n = (size_t)size[0] * size[1];
+    uint32_t *bits = lent(n, sizeof *bits);
     s->velocity = lent(n, sizeof *s->velocity);
     s->valid = lent(n, 1);
-    for (size_t g = 0; g < n; g++) {
-        char word[32];
-        if (fscanf(file, "%31s", word) != 1) {
-            fclose(file);
-            return 0;
-        }
-        if (word[0] != 'x') {
-            s->velocity[g] = (float)atof(word) / 100.0f;
-            s->valid[g] = 1;
-        }
-    }
-    fclose(file);
-    return 1;
+    if (answer == 0)
+        answer = jivakkol_read_sweep(file, length, bits, n, s->valid, n, header, 8);
+    memcpy(s->velocity, bits, n * sizeof *bits);
+    memcpy(&s->nyquist, &header[2], sizeof s->nyquist);
+    free(bits);
+    s->rays = header[0], s->gates = header[1], s->splits = header[3];
+    s->skip_rays = header[4], s->skip_gates = header[5], s->centered = header[6], s->wrap = header[7];
+    return answer == 0 || refused(path, answer);
 }
 
 /* The memory that a call works in; both calls that need it ask for the same. */
@@ -70,19 +88,15 @@ static int unfold(const sweep *s, work_memory work, double *unfolded, uint32_t *
     uint32_t answer = jivakkol_dealias_sweep(s->rays, s->gates, s->nyquist, s->splits, s->skip_rays, s->skip_gates, s->centered, s->wrap,
                                              s->velocity, n, s->valid, n, folds, n, pair, 2, work.words, work.words_len,
                                              work.floats, work.floats_len);
-    printf("answer %u", answer);
     if (answer != 0) {
-        printf(": refused, question %u got a no\n", answer);
         free(folds);
-        return 0;
+        return refused("the sweep", answer);
     }
-    printf(", regions %u, merges %u\n", pair[0], pair[1]);
+    printf("answer %u, regions %u, merges %u\n", answer, pair[0], pair[1]);
     answer = jivakkol_unfold_velocity(s->rays, s->gates, s->nyquist, s->velocity, n, s->valid, n, folds, n, unfolded, n);
-    if (answer != 0)
-        printf("unfolding refused, question %u got a no\n", answer);
     free(folds);
     *regions = pair[0];
-    return answer == 0;
+    return answer == 0 || refused("unfolding", answer);
 }
 
 /* Labels each gate with its region. Answers 0 where the library refused, or found other than the `expected` number of regions. */
@@ -93,10 +107,8 @@ static int map_regions(const sweep *s, work_memory work, uint32_t expected, uint
     uint32_t answer = jivakkol_region_map(s->rays, s->gates, s->nyquist, s->splits, s->skip_rays, s->skip_gates, s->centered, s->wrap,
                                           s->velocity, n, s->valid, n, labels, n, &regions, 1, work.words, work.words_len,
                                           work.floats, work.floats_len);
-    if (answer != 0) {
-        printf("region map refused, question %u got a no\n", answer);
-        return 0;
-    }
+    if (answer != 0)
+        return refused("the region map", answer);
     if (regions != expected) {
         fprintf(stderr, "host: the region map has %u regions, the unfolding had %u\n", regions, expected);
         return 0;
@@ -138,8 +150,17 @@ int main(int count, char **word)
         fprintf(stderr, "usage: host SWEEP PICTURE\n");
         return 2;
     }
-    if (!read_sweep(word[1], &s)) {
-        fprintf(stderr, "host: %s is no sweep file that can be read\n", word[1]);
+    size_t length = 0;
+    uint8_t *file = read_bytes(word[1], &length);
+    if (!file) {
+        fprintf(stderr, "host: %s cannot be read\n", word[1]);
+        return 2;
+    }
+    int accepted = read_sweep(word[1], file, length, &s);
+    free(file);
+    if (!accepted) {
+        free(s.velocity);
+        free(s.valid);
         return 2;
     }
     size_t n = (size_t)s.rays * s.gates;

@@ -1,11 +1,11 @@
 #!/usr/bin/env python3
-"""Writes the sample sweep: a made wind over a made echo, folded at Nyquist 10 m/s. usage: host/make_sample.py > host/sample.sweep
-
-First line: rays gates nyquist interval_splits skip_between_rays skip_along_ray centered rays_wrap_around. Then a line a ray: at each gate
-the measured velocity in hundredths of m/s, or x where the gate is masked.
+"""Writes the sample sweep as a sweep file: a made wind over a made echo, folded at Nyquist 10 m/s, in steps of 0.01 m/s.
+usage: host/make_sample.py [FILE], by default to standard output. The form of a file: jivakkol_read_sweep in include/jivakkol.h.
 """
 import math
 import random
+import struct
+import sys
 
 RAYS, GATES, NYQUIST = 360, 120, 10.0
 
@@ -28,22 +28,38 @@ def echo(x, y):
     return bands > -0.25 or math.hypot(x - 45.0, y + 30.0) < 32.0
 
 
-def main():
+def field(tag, contents):
+    return struct.pack(">BH", tag, len(contents)) + contents
+
+
+def sample():
     chance = random.Random(11)
-    print(RAYS, GATES, "%g" % NYQUIST, 3, 100, 100, 1, 1)
+    # Splits 3, both skips 100, centred, the last ray adjoins the first.
+    file = field(1, struct.pack(">HHfHHHB", RAYS, GATES, NYQUIST, 3, 100, 100, 1 | 2))
     for ray in range(RAYS):
         azimuth = math.radians(ray * 360.0 / RAYS)
-        row = []
+        row = b""
         for gate in range(GATES):
             x, y = (gate + 0.5) * math.sin(azimuth), (gate + 0.5) * math.cos(azimuth)
             if not echo(x, y) or chance.random() < 0.02:
-                row.append("x")
+                row += struct.pack(">Bf", 0, 0.0)
                 continue
             u, v = wind(x, y)
             radial = u * math.sin(azimuth) + v * math.cos(azimuth) + chance.gauss(0.0, 0.6)
             measured = (radial + NYQUIST) % (2.0 * NYQUIST) - NYQUIST
-            row.append(str(round(100.0 * measured)))
-        print(" ".join(row))
+            row += struct.pack(">Bf", 1, round(100.0 * measured) / 100.0)
+        file += field(2, row)
+    return file
+
+
+def main():
+    if len(sys.argv) > 2:
+        sys.exit(__doc__)
+    if len(sys.argv) == 2:
+        with open(sys.argv[1], "wb") as out:
+            out.write(sample())
+    else:
+        sys.stdout.buffer.write(sample())
 
 
 main()

@@ -1,10 +1,10 @@
-/* The exported entries of Jivakkol: fold counts of a radar sweep, its region map, and its unfolded velocities.
+/* The exported entries of Jivakkol: fold counts of a radar sweep, its region map, its unfolded velocities, and sweep files.
  *
  * Every slice is a pointer and a length. What a host must see to: no slice that a call writes overlaps another that it is given; memory is
  * initialised, and no other thread uses it while the call lasts (calls on different memory may run at once); the thread has about 80 KB of stack
  * left; the processor rounds to nearest and does not flush subnormals.
- * For each input the answer and all memory lent are what crates/sweep/specs/Call.antt (`call`), crates/map/specs/Map.antt (`callMap`) and
- * crates/sweep/specs/Velocity.antt (`callVelocity`) say.
+ * For each input the answer and all memory lent are what crates/sweep/specs/Call.antt (`call`), crates/map/specs/Map.antt (`callMap`),
+ * crates/sweep/specs/Velocity.antt (`callVelocity`) and crates/files/specs/Calls.antt (`callRead`, `callWrite`, `callSize`) say.
  */
 #ifndef JIVAKKOL_H
 #define JIVAKKOL_H
@@ -23,6 +23,9 @@ extern "C" {
 /* Work memory that a sweep of n gates asks for. */
 #define JIVAKKOL_WORK_WORDS(n) (96 * (size_t)(n) + 64)
 #define JIVAKKOL_WORK_FLOATS(n) (16 * (size_t)(n) + 16)
+
+/* The length of a sweep file. */
+#define JIVAKKOL_FILE_BYTES(rays, gates) (18 + (size_t)(rays) * (3 + 5 * (size_t)(gates)))
 
 /* The fold count of each gate; pair gets the number of regions and the number of merges.
  *
@@ -66,6 +69,40 @@ uint32_t jivakkol_unfold_velocity(
     uint32_t rays, uint32_t gates, float nyquist,
     const float *velocity, size_t velocity_len, const uint8_t *valid, size_t valid_len,
     const int32_t *folds, size_t folds_len, double *unfolded, size_t unfolded_len);
+
+/* The sweep of a file: velocity_bits gets the bits of each gate's velocity, valid its mask byte, and header eight numbers: rays, gates,
+ * Nyquist's bits, interval_splits, skip_between_rays, skip_along_ray, centered, rays_wrap_around.
+ *
+ * A file is fields, one after another: a byte of tag, two of length, then the contents; numbers stand high byte first.
+ *   tag 1, first, 15 bytes: rays 2, gates 2, Nyquist as an f32 4, splits 2, skip between rays 2, skip along a ray 2, and a byte of options:
+ *                           bit 0 centring, bit 1 wrap, the others zero
+ *   tag 2, one a ray, 5 bytes for each gate: the mask byte, and the velocity as an f32
+ * velocity_bits and valid have rays * gates elements (jivakkol_sweep_size tells how many), header has 8.
+ * Answers 0; or 2 for a header of another length, before all else and with all that is lent unchanged; or, with velocity_bits and valid
+ * unchanged and the header all 0, the number of the first fault in file order:
+ *   11 a field missing, cut short or of the wrong length      12 a wrong tag, a set spare bit, or bytes after the last ray
+ *   1 as above, when the first field is whole and before the rays are read
+ * or, where the file has none, of the first of questions 2, 3, 5, 6 and 7 that got a no.
+ * An accepted file is the only one for its sweep. */
+uint32_t jivakkol_read_sweep(
+    const uint8_t *file, size_t file_len, uint32_t *velocity_bits, size_t velocity_len, uint8_t *valid, size_t valid_len,
+    uint32_t *header, size_t header_len);
+
+/* The file of a sweep, which jivakkol_read_sweep reads back bit for bit.
+ *
+ * velocity_bits, an f32's bits for each gate, and valid have rays * gates elements; file has JIVAKKOL_FILE_BYTES(rays, gates).
+ * Answers 0, or the number of the first of questions 1, 2 (these three slices), 3, 5, 6 and 7 that got a no, with file unchanged. */
+uint32_t jivakkol_write_sweep(
+    uint32_t rays, uint32_t gates, float nyquist,
+    uint32_t interval_splits, uint32_t skip_between_rays, uint32_t skip_along_ray,
+    uint32_t centered, uint32_t rays_wrap_around,
+    const uint32_t *velocity_bits, size_t velocity_len, const uint8_t *valid, size_t valid_len, uint8_t *file, size_t file_len);
+
+/* Rays and gates, as a file's first field says them, into the 2 elements of size; what follows that field is not looked at.
+ *
+ * Answers 0; or 2 for a size of another length, before all else; or 11, 12 or 1 as jivakkol_read_sweep answers them to the first field. A
+ * refusal leaves size unchanged. */
+uint32_t jivakkol_sweep_size(const uint8_t *file, size_t file_len, uint32_t *size, size_t size_len);
 
 #ifdef __cplusplus
 }

@@ -16,4 +16,14 @@ extern "C" {
         rays: u32, gates: u32, nyquist: f32, velocity: *const f32, velocity_len: usize, valid: *const u8, valid_len: usize,
         folds: *const i32, folds_len: usize, unfolded: *mut f64, unfolded_len: usize,
     ) -> u32;
+    pub fn jivakkol_read_sweep(
+        file: *const u8, file_len: usize, velocity_bits: *mut u32, velocity_len: usize, valid: *mut u8, valid_len: usize,
+        header: *mut u32, header_len: usize,
+    ) -> u32;
+    pub fn jivakkol_write_sweep(
+        rays: u32, gates: u32, nyquist: f32, interval_splits: u32, skip_between_rays: u32, skip_along_ray: u32,
+        centered: u32, rays_wrap_around: u32, velocity_bits: *const u32, velocity_len: usize, valid: *const u8, valid_len: usize,
+        file: *mut u8, file_len: usize,
+    ) -> u32;
+    pub fn jivakkol_sweep_size(file: *const u8, file_len: usize, size: *mut u32, size_len: usize) -> u32;
 }

@@ -1,5 +1,5 @@
 //! Feeds the same made sweeps to the proved entries (the static library) and to the Rust, in one process, and compares every result: answer
-//! number, counts, pair, labels, number of regions, and every word of lent memory that must or must not change.
+//! number, counts, pair, labels, number of regions, and every word of lent memory that must or must not change. Sweep files: files.rs.
 extern crate radish_oracle;
 use radish_oracle::make::{sized, small, weather, Rng};
 use radish_oracle::Sweep;
@@ -8,6 +8,7 @@ use std::collections::BTreeMap;
 #[path = "../../include/jivakkol.rs"]
 mod jivakkol;
 use jivakkol::{jivakkol_dealias_sweep, jivakkol_region_map, jivakkol_unfold_velocity};
+mod files;
 
 /// What a call is lent; filled with values that a call must not leave where it clears, and must leave where it does not.
 #[derive(Clone)]
@@ -367,6 +368,7 @@ fn main() {
         }
     }
     println!("sizes or lengths off: {}, by answer of both entries {offs:?}", count / 10);
+    files::run(count);
     for (name, make) in [("velocities of many exponents", inexact as fn(&mut Rng) -> Sweep), ("tipping sums", tipping)] {
         let mut other = [0u64; 3];
         for _ in 0..count / 10 {

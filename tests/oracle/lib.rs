@@ -11,6 +11,7 @@ pub type Result<T> = std::result::Result<T, RadishError>;
 
 #[path = "dealias/mod.rs"]
 pub mod dealias;
+pub mod file;
 pub mod make;
 
 use dealias::access::{
@@ -107,6 +108,10 @@ impl Sweep {
     fn yes_5(&self) -> bool {
         self.nyquist >= 0.125 && self.nyquist <= 1024.0
     }
+    fn yes_6(&self) -> bool {
+        let skips = self.skip_between_rays <= 1000 && self.skip_along_ray <= 1000;
+        self.splits >= 1 && self.splits <= 9999 && skips && self.centred <= 1 && self.wrap <= 1
+    }
     fn yes_7(&self) -> bool {
         self.valid_velocities().iter().all(|v| *v >= -16384.0 && *v <= 16384.0)
     }
@@ -129,13 +134,7 @@ impl Sweep {
         if !self.yes_5() {
             return 5;
         }
-        if self.splits < 1
-            || self.splits > 9999
-            || self.skip_between_rays > 1000
-            || self.skip_along_ray > 1000
-            || self.centred > 1
-            || self.wrap > 1
-        {
+        if !self.yes_6() {
             return 6;
         }
         if !self.yes_7() {

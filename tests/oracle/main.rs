@@ -3,11 +3,13 @@
 //! oracle counts                 the same with no question put: the counts that `dealias_sweep` gives, or `error`
 //! oracle map                    read sweeps, one a line; print the number of the first of questions 1 to 8 that gets a no, or 0, regions and the Rust's labels
 //! oracle calls                  read recorded calls, one a line; print the lines of the entries
+//! oracle unfold                 read a recorded list of sweep files; print for each a line with `=` and its number, and what the program over files prints
+//! oracle numbers                read the same; print for each the number of the first refusal, the reader's or the sweep's, or 0
 //! oracle trace                  read one sweep; print limits, labels, records, merges and uncentred counts
 //! oracle time RAYS GATES ROUGHNESS REPS   time `dealias_region_based` on a made weather sweep
 
-use radish_oracle::{make, Call, Sweep};
-use std::io::{BufRead, Write};
+use radish_oracle::{file, make, Call, Sweep};
+use std::io::{BufRead, Read, Write};
 
 fn main() {
     let args: Vec<String> = std::env::args().skip(1).collect();
@@ -43,6 +45,19 @@ fn main() {
                 }
             }
         }
+        Some(what @ ("unfold" | "numbers")) => {
+            let mut list = Vec::new();
+            std::io::stdin().lock().read_to_end(&mut list).unwrap();
+            for f in file::files(&list).expect("files, each after its length") {
+                if what == "numbers" {
+                    writeln!(out, "{}", file::counts(f).map_or_else(|number| number, |_| 0)).unwrap();
+                    continue;
+                }
+                let (number, lines) = file::printed(f);
+                writeln!(out, "= {number}").unwrap();
+                lines.iter().for_each(|text| writeln!(out, "{text}").unwrap());
+            }
+        }
         Some("trace") => {
             let mut line = String::new();
             std::io::stdin().lock().read_line(&mut line).unwrap();
@@ -76,7 +91,8 @@ fn main() {
             writeln!(out, "rays {} gates {} regions {} merges {} seconds {:.4}", s.rays, s.gates, t.regions, t.merges, best).unwrap();
         }
         _ => {
-            eprintln!("usage: oracle make SEED COUNT MOST | answer | calls | counts | map | trace | time RAYS GATES ROUGHNESS REPS");
+            eprintln!("usage: oracle make SEED COUNT MOST | answer | calls | counts | map | unfold | numbers | trace");
+            eprintln!("       oracle time RAYS GATES ROUGHNESS REPS");
             std::process::exit(2);
         }
     }

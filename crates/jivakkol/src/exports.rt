@@ -4,6 +4,8 @@ ghost use Rattle.sweep.specs.Call.{call, memoryOf, answerBy};
 ghost use Rattle.sweep.specs.Entry.{sweepOf};
 ghost use Rattle.map.specs.Map.{callMap, mapMemoryOf, mapAnswerBy};
 ghost use Rattle.sweep.specs.Velocity.{callVelocity, counted, velocityAnswerBy};
+ghost use Rattle.files.specs.Format.{optionsOf};
+ghost use Rattle.files.specs.Calls.{callRead, readAnswerBy, callWrite, writtenBy, callSize, sizeAnswerBy};
 
 // A sweep's fold counts, with the numbers of regions and of merges.
 #[no_mangle]
@@ -96,4 +98,59 @@ pub extern "C" fn jivakkol_unfold_velocity(
         ) ⌝ }
 {
     sweep::velocity::unfold_velocity(rays, gates, nyquist, velocity, valid, folds, unfolded)
+}
+
+// Reads a sweep file: the velocities' bits and the mask of its gates, and the header's eight numbers.
+#[no_mangle]
+pub extern "C" fn jivakkol_read_sweep(
+    file: &[u8],
+    velocity_bits: &mut [u32],
+    valid: &mut [u8],
+    header: &mut [u32],
+) -> u32
+    ensures { λ r. ⌜ readAnswerBy r (now («velocity_bits» .exit)) (now (valid .exit)) (now (header .exit))
+        ≡ callRead (now (file .entry)) (now («velocity_bits» .entry)) (now (valid .entry)) (now (header .entry)) ⌝ }
+{
+    files::entry::read_sweep(file, velocity_bits, valid, header)
+}
+
+// Writes a sweep file.
+#[no_mangle]
+pub extern "C" fn jivakkol_write_sweep(
+    rays: u32,
+    gates: u32,
+    nyquist: f32,
+    interval_splits: u32,
+    skip_between_rays: u32,
+    skip_along_ray: u32,
+    centered: u32,
+    rays_wrap_around: u32,
+    velocity_bits: &[u32],
+    valid: &[u8],
+    file: &mut [u8],
+) -> u32
+    ensures { λ r. ⌜ (
+        let o = optionsOf rays gates nyquist «interval_splits» «skip_between_rays» «skip_along_ray» centered «rays_wrap_around» in
+        writtenBy r (now (file .exit)) ≡ callWrite o (now («velocity_bits» .entry)) (now (valid .entry)) (now (file .entry))
+        ) ⌝ }
+{
+    let o = network::options::Options {
+        rays: rays,
+        gates: gates,
+        nyquist: nyquist,
+        splits: interval_splits,
+        skip_between_rays: skip_between_rays,
+        skip_along_ray: skip_along_ray,
+        centred: centered,
+        wrap: rays_wrap_around,
+    };
+    files::entry::write_sweep(o, velocity_bits, valid, file)
+}
+
+// The rays and gates that a sweep file's header announces.
+#[no_mangle]
+pub extern "C" fn jivakkol_sweep_size(file: &[u8], size: &mut [u32]) -> u32
+    ensures { λ r. ⌜ sizeAnswerBy r (now (size .exit)) ≡ callSize (now (file .entry)) (now (size .entry)) ⌝ }
+{
+    files::entry::sweep_size(file, size)
 }

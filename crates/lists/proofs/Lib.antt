@@ -1,3 +1,4 @@
 pub mod SeqLaws
 pub mod AllLaws
 pub mod SegLaws
+pub mod PartLaws

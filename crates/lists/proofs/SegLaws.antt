@@ -161,7 +161,7 @@ module _ {A : Type 0} where
   sets-put l i (u ∷ us) = sets-put (set l i u) (suc i) us
 
   -- what a callee that was lent `&mut w[b..e]` leaves, as a `put`
-  put-lent : (w : List A) (b : ℕ) (vs : List A) → b + length vs ≤ length w → take b w ++ vs ++ drop (b + length vs) w ≡ put w b vs
+  pub put-lent : (w : List A) (b : ℕ) (vs : List A) → b + length vs ≤ length w → take b w ++ vs ++ drop (b + length vs) w ≡ put w b vs
   put-lent w b vs h = sym (sets-eq vs w b h) ∙ sets-put w b vs
 
   -- the same, as the borrow checker states it where the part has come back
@@ -214,7 +214,7 @@ module _ {A : Type 0} where
 
 -- ---- tables of a function
 -- a list is the table of what it holds
-is-tab : (l : List ℕ) (f : ℕ → ℕ) (n : ℕ) → length l ≡ n → ((i : ℕ) → i < n → getD l i 0 ≡ f i) → l ≡ tabulate n f
+pub is-tab : (l : List ℕ) (f : ℕ → ℕ) (n : ℕ) → length l ≡ n → ((i : ℕ) → i < n → getD l i 0 ≡ f i) → l ≡ tabulate n f
 is-tab l f n e h =
     ext-getD 0 l (tabulate n f) (e ∙ sym (tab-length f n)) (λ i p. h i (omega arith) ∙ sym (tab-at f n i 0 (omega arith)))
 

@@ -24,18 +24,6 @@ pub fn numbers() -> [u32; 256]
     [0; 256]
 }
 
-pub fn velocities() -> [f32; 128]
-    ensures { λ r. ⌜ 128 ≡ length r ⌝ }
-{
-    [0.0; 128]
-}
-
-pub fn mask() -> [u8; 128]
-    ensures { λ r. ⌜ 128 ≡ length r ⌝ }
-{
-    [0; 128]
-}
-
 // A few more than a sweep of 128 gates asks for, so that a slice can be too long, and each work memory longer than asked.
 pub fn counts() -> [i32; 136]
     ensures { λ r. ⌜ 136 ≡ length r ⌝ }

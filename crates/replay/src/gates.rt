@@ -5,10 +5,10 @@ ghost use mathlib.Core.Path.{_≡_};
 ghost use mathlib.Core.Bool.{true};
 ghost use Prim.Native.Nat.{_*_, _≤_};
 ghost use lib.ListN.{length};
-ghost use lib.Ieee.{binary32, ofBits};
 ghost use Rattle.replay.specs.Inside.Gates.{Gates};
 ghost use Rattle.replay.specs.Inside.Start.{settingOf, startBy};
 use crate::words;
+use files::bits;
 
 // What a sweep is called with, but for its gates; how much memory it is lent; and what is added to each count before the second entry.
 pub struct Setting {
@@ -35,19 +35,6 @@ pub enum Start {
     Malformed,
 }
 
-// The f32 of a bit pattern. A NaN's pattern is tested for, since from_bits is not defined there.
-fn float_of(bits: u32) -> f32
-    ensures { λ r. ⌜ r ≡ ofBits binary32 bits ⌝ }
-{
-    if bits % 2147483648 / 8388608 != 255 {
-        return f32::from_bits(bits);
-    }
-    if bits % 8388608 == 0 {
-        return f32::from_bits(bits);
-    }
-    0.0 / 0.0
-}
-
 // The setting that fourteen numbers say.
 fn setting_of(n: &[u32; 14]) -> Setting
     ensures { λ r. ⌜ r ≡ settingOf (now (n .entry)) ⌝ }
@@ -55,7 +42,7 @@ fn setting_of(n: &[u32; 14]) -> Setting
     Setting {
         rays: n[0],
         gates: n[1],
-        nyquist: float_of(n[2]),
+        nyquist: bits::float_of(n[2]),
         splits: n[3],
         skip_between_rays: n[4],
         skip_along_ray: n[5],
@@ -101,7 +88,7 @@ fn gates_of(numbers: &[u32], velocity: &mut [f32], valid: &mut [u8]) -> bool
             return false;
         }
         valid[i] = mask as u8;
-        velocity[i] = float_of(numbers[2 * i + 1]);
+        velocity[i] = bits::float_of(numbers[2 * i + 1]);
         i += 1;
     }
     true

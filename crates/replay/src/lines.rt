@@ -2,19 +2,8 @@
 // The line of a region map: the word map, the number, where it is 0 the regions and the labels, and what is left of the memory.
 // The line of unfolded velocities: the number, and where it is 0 the bits of each, in hexadecimal.
 ghost use mathlib.Core.Path.{_≡_};
-ghost use lib.IntN.{natAbs};
 ghost use lib.Ieee.{binary64, toBits};
 use crate::left::Left;
-
-// A count without its sign.
-fn size_of(count: i32) -> u64
-    ensures { λ r. ⌜ r ≡ natAbs count ⌝ }
-{
-    if count < 0 {
-        return (0 - (count as i64)) as u64;
-    }
-    count as u64
-}
 
 // A space and a count.
 fn write_count(count: i32) {
@@ -22,7 +11,7 @@ fn write_count(count: i32) {
     if count < 0 {
         io::write_all(1, b"-");
     }
-    io::print_decimal(1, size_of(count));
+    io::print_decimal(1, printout::count::magnitude(count));
 }
 
 // A space and a number.

@@ -166,8 +166,8 @@ fn replay(s: gates::Setting) -> bool
     requires { ⌜ held s ≡ true ⌝ }
 {
     let n = s.recorded as usize;
-    let mut velocity = arrays::velocities();
-    let mut valid = arrays::mask();
+    let mut velocity = printout::arrays::velocities();
+    let mut valid = printout::arrays::mask();
     if !gates::read_gates(&mut velocity[..n], &mut valid[..n]) {
         return false;
     }

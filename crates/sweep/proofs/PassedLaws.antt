@@ -70,11 +70,11 @@ answer-yes {r} e h = sym e ∙ not-false r h
 
 -- ---- each question's yes
 
-size-rays : (a b : ℕ) → sizeInRange a b ≡ true → a ≤ largest .rays
+pub size-rays : (a b : ℕ) → sizeInRange a b ≡ true → a ≤ largest .rays
 unfolding sizeInRange
 size-rays a b h = leb-true a (largest .rays) (and-left (leb a (largest .rays)) (leb b (largest .gates)) h)
 
-size-gates : (a b : ℕ) → sizeInRange a b ≡ true → b ≤ largest .gates
+pub size-gates : (a b : ℕ) → sizeInRange a b ≡ true → b ≤ largest .gates
 unfolding sizeInRange
 size-gates a b h = leb-true b (largest .gates) (and-right (leb a (largest .rays)) (leb b (largest .gates)) h)
 

@@ -36,7 +36,7 @@ const LEAST_COUNT: i32 = -2000;
 const MOST_COUNT: i32 = 2000;
 
 // Question 1.
-fn size_in_range(rays: u32, gates: u32) -> bool
+pub fn size_in_range(rays: u32, gates: u32) -> bool
     ensures { λ r. ⌜ r ≡ sizeInRange rays gates ⌝ }
 {
     rays <= MOST_RAYS && gates <= MOST_GATES
@@ -64,7 +64,7 @@ fn lengths_fit(n: usize, velocity: &[f32], valid: &[u8], own: bool) -> bool
 }
 
 // Question 3.
-fn mask_is_bits(valid: &[u8]) -> bool
+pub fn mask_is_bits(valid: &[u8]) -> bool
     ensures { λ r. ⌜ r ≡ maskIsBits (now (valid .entry)) ⌝ }
 {
     let mut i = 0;
@@ -94,7 +94,13 @@ fn nyquist_in_range(nyquist: f32) -> bool
 }
 
 // Question 6.
-fn options_in_range(splits: u32, skip_rays: u32, skip_gates: u32, centred: u32, wrap: u32) -> bool
+pub fn options_in_range(
+    splits: u32,
+    skip_rays: u32,
+    skip_gates: u32,
+    centred: u32,
+    wrap: u32,
+) -> bool
     ensures { λ r. ⌜ r ≡ (leb 1 splits && leb splits 9999 && leb «skip_rays» 1000 && leb «skip_gates» 1000 && leb centred 1 && leb wrap 1) ⌝ }
 {
     1 <= splits

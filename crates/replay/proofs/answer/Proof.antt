@@ -1,6 +1,6 @@
 -- `replay::answer` meets its contract: `held` says that each part that is lent lies within its array. Assumes nothing.
 use Rattle.replay.proofs.RecordLaws.{held-parts}
-use Rattle.replay.proofs.Laws.{part}
+use Rattle.lists.proofs.PartLaws.{part}
 use borrow.Author.Needs.{needs}
 use native.Mathlib.Omega.{arith}
 use Rattle.replay.proofs.answer.Statement.{statement}

@@ -1,6 +1,6 @@
 -- `replay::call_map` meets its contract: `held` says that each part that is lent lies within its array. Assumes nothing.
 use Rattle.replay.proofs.RecordLaws.{Held, held-parts}
-use Rattle.replay.proofs.Laws.{part}
+use Rattle.lists.proofs.PartLaws.{part}
 use borrow.Author.Needs.{needs}
 use native.Mathlib.Omega.{arith}
 use Prim.Native.Nat.{_≤_}

@@ -1,5 +1,5 @@
 -- `replay::call_velocity` is safe: with at most 128 gates the part that is lent lies within its array. Assumes nothing.
-use Rattle.replay.proofs.Laws.{part, back-within, back-part}
+use Rattle.lists.proofs.PartLaws.{part, back-within, back-part}
 use lib.ListN.{length}
 use borrow.Author.Needs.{needs}
 use Rattle.replay.proofs.call_velocity.Statement.{statement}

@@ -1,5 +1,5 @@
 -- `replay::gates::read_gates` meets its contract: with at most 128 gates each part that is lent lies within its array. Assumes nothing.
-use Rattle.replay.proofs.Laws.{part, back-within, back-part}
+use Rattle.lists.proofs.PartLaws.{part, back-within, back-part}
 use native.Mathlib.Omega.{arith}
 use mathlib.Core.Path.{sym}
 use Prim.Native.Nat.{_*_}

@@ -1,0 +1,6 @@
+pub mod Format
+pub mod Questions
+pub mod Calls
+pub mod Theorems
+pub mod Evaluating
+pub mod Inside

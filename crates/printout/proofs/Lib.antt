@@ -1,0 +1,5 @@
+pub mod CountLaws
+pub mod DecimalLaws
+pub mod TextLaws
+pub mod UnfoldLaws
+pub mod Theorems

@@ -1,0 +1,3 @@
+-- What internal contracts need.
+pub mod Gap
+pub mod Folds

@@ -1,0 +1,5 @@
+pub mod Text
+pub mod Unfold
+pub mod Theorems
+pub mod Evaluating
+pub mod Inside
