@@ -12,30 +12,9 @@ use std::time::Instant;
 #[allow(dead_code)]
 mod jivakkol;
 use jivakkol::jivakkol_dealias_sweep;
-
-extern "C" {
-    fn stage_questions(
-        rays: u32, gates: u32, nyquist: f32, splits: u32, skip_rays: u32, skip_gates: u32, centred: u32, wrap: u32,
-        velocity: *const f32, velocity_len: usize, valid: *const u8, valid_len: usize, words: usize, floats: usize,
-    ) -> u32;
-    fn stage_range(velocity: *const f32, velocity_len: usize, valid: *const u8, valid_len: usize) -> u32;
-    fn stage_labels(
-        gates: u32, velocity: *const f32, velocity_len: usize, valid: *const u8, valid_len: usize,
-        limits: *const f64, limits_len: usize, work: *mut u32, work_len: usize,
-    ) -> u32;
-    fn stage_looks(rays: usize, gates: usize, across: usize, along: usize, wrap: u32, work: *mut u32, work_len: usize, n: usize) -> usize;
-    fn stage_sort(work: *mut u32, work_len: usize, n: usize, m: usize, k: usize);
-    fn stage_count(work: *const u32, work_len: usize, n: usize, m: usize) -> usize;
-    fn stage_edges(
-        work: *mut u32, work_len: usize, floats: *mut f64, floats_len: usize, velocity: *const f32, velocity_len: usize,
-        n: usize, m: usize, t: usize, c: usize, wide: f64,
-    ) -> usize;
-    fn stage_sizes(work: *mut u32, work_len: usize, n: usize, at: usize, k: usize);
-    fn stage_copy(work: *mut u32, work_len: usize, src: usize, dst: usize, len: usize);
-    fn stage_merges(tables: *mut u32, tables_len: usize, floats: *mut f64, floats_len: usize, e: usize, v: usize) -> u32;
-    fn stage_output(work: *const u32, work_len: usize, n: usize, k: usize, valid: *const u8, valid_len: usize, centred: u32, folds: *mut i32, folds_len: usize);
-    fn stage_clear(work: *mut u32, work_len: usize, floats: *mut f64, floats_len: usize);
-}
+#[allow(dead_code)]
+mod stages;
+use stages::*;
 
 /// What a call is lent.
 struct Lent {
@@ -87,9 +66,9 @@ fn staged(s: &Sweep, limits: &[f64], l: &mut Lent) -> [f64; 7] {
         let c = stage_count(w, words, n, m);
         let e = stage_edges(w, words, d, floats, vel, n, n, m, t, c, 2.0 * s.nyquist as f64);
         stage_sizes(w, words, n, n, nodes);
-        stage_copy(w, words, n, t + 7 * e + 3 * nodes, nodes);
-        assert_eq!(stage_merges(w.add(t), 7 * e + 7 * nodes, d, floats, e, nodes), 1);
-        stage_copy(w, words, t + 7 * e + 6 * nodes, n + nodes, nodes);
+        stage_copy(w, words, n, t + 8 * e + 3 * nodes, nodes);
+        assert_eq!(stage_merges(w.add(t), 8 * e + 7 * nodes, d, floats, e, nodes), 1);
+        stage_copy(w, words, t + 8 * e + 6 * nodes, n + nodes, nodes);
         *w.add(n + nodes) = 1000;
         lap(4);
         stage_output(w, words, n, k, mask, n, s.centred, l.folds.as_mut_ptr(), n);

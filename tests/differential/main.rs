@@ -1,5 +1,6 @@
 //! Feeds the same made sweeps to the proved entries (the static library) and to the Rust, in one process, and compares every result: answer
 //! number, counts, pair, labels, number of regions, and every word of lent memory that must or must not change. Sweep files: files.rs.
+//! Edge records, from the stages of a call: records.rs.
 extern crate radish_oracle;
 use radish_oracle::make::{sized, small, weather, Rng};
 use radish_oracle::Sweep;
@@ -9,6 +10,7 @@ use std::collections::BTreeMap;
 mod jivakkol;
 use jivakkol::{jivakkol_dealias_sweep, jivakkol_region_map, jivakkol_unfold_velocity};
 mod files;
+mod records;
 
 /// What a call is lent; filled with values that a call must not leave where it clears, and must leave where it does not.
 #[derive(Clone)]
@@ -369,6 +371,7 @@ fn main() {
     }
     println!("sizes or lengths off: {}, by answer of both entries {offs:?}", count / 10);
     files::run(count);
+    records::run(count / 2);
     for (name, make) in [("velocities of many exponents", inexact as fn(&mut Rng) -> Sweep), ("tipping sums", tipping)] {
         let mut other = [0u64; 3];
         for _ in 0..count / 10 {

@@ -15,11 +15,12 @@ pub mod file;
 pub mod make;
 
 use dealias::access::{
-    combine_regions, dealias_sweep, edge_sum_and_count, find_regions, find_sweep_interval_splits, EdgeTracker,
-    RegionTracker,
+    combine_regions, dealias_sweep, edge_sum_and_count, find_regions, find_sweep_interval_splits, AggregatedEdge,
+    EdgeTracker, RegionTracker,
 };
 use dealias::DealiasOptions;
 use ndarray::Array2;
+use std::collections::BTreeMap;
 
 #[derive(Debug, Clone, PartialEq)]
 pub struct Sweep {
@@ -63,6 +64,10 @@ pub struct Call {
 
 /// An edge record: two labels, the number of pairs and two sums.
 pub struct Record(pub i32, pub i32, pub i32, pub f64, pub f64);
+
+fn shown(records: &[AggregatedEdge]) -> Vec<Record> {
+    records.iter().map(|e| Record(e.index1, e.index2, e.count, e.vel1, e.vel2)).collect()
+}
 
 /// The inner values, for looking into a difference.
 pub struct Trace {
@@ -156,6 +161,24 @@ impl Sweep {
         (labels.iter().map(|&l| l as u32).collect(), regions as u32)
     }
 
+    /// The Rust's own edge records of the sweep with these labels.
+    pub fn records(&self, labels: &[u32]) -> Vec<Record> {
+        let (o, labels) = (self.options(), labels.iter().map(|&l| l as i32).collect());
+        let labels = Array2::from_vec(self.rays, self.gates, labels);
+        shown(&edge_sum_and_count(&labels, &self.velocity(), self.wrap == 1, o.skip_between_rays, o.skip_along_ray))
+    }
+
+    /// Those that become edges, each with its bridged pairs: its count less that of the same labels with both skips 0.
+    pub fn edges(&self, labels: &[u32]) -> Vec<(Record, i32)> {
+        let close = Sweep { skip_between_rays: 0, skip_along_ray: 0, ..self.clone() };
+        let near: BTreeMap<(i32, i32), i32> = close.records(labels).iter().map(|x| ((x.0, x.1), x.2)).collect();
+        let with_bridged = |r: Record| {
+            let bridged = r.2 - near.get(&(r.0, r.1)).unwrap_or(&0);
+            (r, bridged)
+        };
+        self.records(labels).into_iter().filter(|r| r.0 > r.1).map(with_bridged).collect()
+    }
+
     /// The second entry: questions 1, 2, 3, 5, 7 and 10, and where all get a yes velocity + count * 2 * Nyquist in f64, 0 at a masked gate.
     pub fn unfold(&self, counts: &[i32]) -> (u32, Vec<f64>) {
         let in_range = || counts.iter().zip(&self.mask).all(|(c, m)| *m != 1 || (-2000..=2000).contains(c));
@@ -200,7 +223,7 @@ impl Sweep {
         }
         let o = self.options();
         let records = edge_sum_and_count(&labels, &velocity, self.wrap == 1, o.skip_between_rays, o.skip_along_ray);
-        out.records = records.iter().map(|e| Record(e.index1, e.index2, e.count, e.vel1, e.vel2)).collect();
+        out.records = shown(&records);
         if records.is_empty() {
             return out;
         }
@@ -261,6 +284,15 @@ impl Sweep {
         }
         let (labels, regions) = self.region_map();
         [0, regions].into_iter().chain(labels).map(|x| x.to_string()).collect::<Vec<_>>().join(" ")
+    }
+
+    /// The records that become edges, their first label being the greater, where questions 1 to 8 get a yes: labels, count and bridged pairs.
+    pub fn records_line(&self) -> String {
+        if self.refused_before_merging() != 0 {
+            return String::new();
+        }
+        let edges = self.edges(&self.region_map().0);
+        edges.iter().map(|(r, bridged)| format!("{} {} {} {bridged}", r.0, r.1, r.2)).collect::<Vec<_>>().join(" ")
     }
 
     /// One line: rays gates nyquist-bits splits skip-between-rays skip-along-ray centring wrap, then mask:velocity-bits for each gate.

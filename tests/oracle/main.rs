@@ -2,6 +2,7 @@
 //! oracle answer                 read sweeps, one a line; print the Rust's answer to each, one a line
 //! oracle counts                 the same with no question put: the counts that `dealias_sweep` gives, or `error`
 //! oracle map                    read sweeps, one a line; print the number of the first of questions 1 to 8 that gets a no, or 0, regions and the Rust's labels
+//! oracle records                read sweeps, one a line; print the Rust's records that become edges: labels, count, count less that with both skips 0
 //! oracle calls                  read recorded calls, one a line; print the lines of the entries
 //! oracle unfold                 read a recorded list of sweep files; print for each a line with `=` and its number, and what the program over files prints
 //! oracle numbers                read the same; print for each the number of the first refusal, the reader's or the sweep's, or 0
@@ -22,12 +23,13 @@ fn main() {
                 writeln!(out, "{}", make::small(number(1) * 1_000_003 + k, number(3)).line()).unwrap();
             }
         }
-        Some(what @ ("answer" | "counts" | "map")) => {
+        Some(what @ ("answer" | "counts" | "map" | "records")) => {
             for line in std::io::stdin().lock().lines() {
                 let line = line.unwrap();
                 let text = match Sweep::parse(&line) {
                     Some(s) if what == "answer" => s.answer().line(),
                     Some(s) if what == "map" => s.map_line(None),
+                    Some(s) if what == "records" => s.records_line(),
                     Some(s) => match s.counts_or_none() {
                         Some(counts) => counts.iter().map(|c| c.to_string()).collect::<Vec<_>>().join(" "),
                         None => "error".into(),

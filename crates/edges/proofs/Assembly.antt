@@ -1,7 +1,7 @@
 -- From pairs to edges, over plain values. Assumes nothing.
-use Prim.Native.Nat.{ℕ, zero, suc, _+_, _-_, _*_, _≤_, _<_}
+use Prim.Native.Nat.{ℕ, zero, suc, _+_, _-_, _*_, _/_, _%_, _≤_, _<_}
 use native.Mathlib.Omega.{arith}
-use mathlib.Core.Path.{_≡_, refl, sym, ap, _∙_}
+use mathlib.Core.Path.{_≡_, refl, sym, ap, _∙_, subst}
 use mathlib.Core.Bool.{Bool, true, false, cond}
 use mathlib.Core.List.{List, [], _∷_, map}
 use mathlib.Core.Option.{Option, none, some}
@@ -9,18 +9,19 @@ use lib.Dec.{ltb, eqb}
 use lib.ListN.{length, getD, length-map}
 use lib.Ieee.{Float}
 use lib.Seq.{ext-getD}
+use borrow.Author.Tests.{eq-eqb, ne-eqb}
 use Rattle.lists.specs.Inside.Seg.{seg, put}
 use Rattle.lists.proofs.SegLaws.{length-seg, getD-seg, length-put, seg-put-below, seg-put-same}
 use Rattle.lists.specs.Seq.{upto, each, sum, All}
 use Rattle.lists.proofs.SeqLaws.{upto-length, upto-at, map-at}
 use Rattle.memory.specs.Inside.Sort.{sorted}
 use Rattle.memory.proofs.SortLaws.{all-sorted}
-use Rattle.edges.specs.Edges.{Shape, Left, Right, Top, Bottom, sees, Pair, difference, pairs, used}
+use Rattle.edges.specs.Edges.{Shape, Left, Right, Top, Bottom, sees, bridges, Pair, plusOneIf, difference, pairs, used}
 use Rattle.edges.specs.declared.edges.Shape.{Shape}
-use Rattle.edges.specs.Inside.GatePairs.{GatePair, both, gatePairTo, gatePairsAt, gatePairs, pairOf, AddsPairs}
+use Rattle.edges.specs.Inside.GatePairs.{GatePair, both, coded, gateWord, farWord, gatePairTo, gatePairsOf, gatePairsAt, gatePairs, pairOf, AddsPairs}
 use Rattle.edges.specs.Inside.Order.{ordered, runs}
 use Rattle.edges.specs.Inside.Sorts.{labelsOf, Sorts, Sorted}
-use Rattle.edges.specs.Inside.Gather.{pairAt, later, ReadsPairs, tables, Gathers, Gathered}
+use Rattle.edges.specs.Inside.Gather.{gatesBy, pairAt, later, ReadsPairs, tables, Gathers, Gathered}
 use Rattle.edges.specs.Inside.Whole.{FindsEdges, Edged}
 use Rattle.lists.proofs.AllLaws.{all-append, all-each, all-index, index-all}
 use Rattle.edges.proofs.Stored.{gates, fars, adds-labels, adds-length, adds-gates, adds-fars}
@@ -28,7 +29,7 @@ use Rattle.edges.proofs.GatePairLaws.{sees-in}
 use Rattle.edges.proofs.PairTurn.{label-at}
 use Rattle.edges.proofs.Sorting.{blank, two-passes, used-runs}
 use Rattle.edges.proofs.RunCount.{runs-few}
-use Rattle.edges.proofs.Weights.{weights}
+use Rattle.edges.proofs.Weights.{weights, spans}
 use Rattle.edges.proofs.GatherLaws.{tables-labels}
 use Rattle.edges.specs.declared.edges.EdgeRecord.{EdgeRecord}
 
@@ -39,20 +40,20 @@ record Within (n : ℕ) (t : GatePair) : Type 0 where
   pub far : t .far < n
 
 module _ (s : Shape) (L : List ℕ) (n : ℕ) (w : n ≡ s .rays * s .gates) where
-  to-within : (g : ℕ) (o : Option ℕ) → g < n → ((h : ℕ) → o ≡ some h → h < n) → All (Within n) (gatePairTo L g o)
+  to-within : (g : ℕ) (x : Bool) (o : Option ℕ) → g < n → ((h : ℕ) → o ≡ some h → h < n) → All (Within n) (gatePairTo L g x o)
   unfolding gatePairTo
-  to-within g none i k = tt
-  to-within g (some h) i k = go (ltb (getD L h 0) (getD L g 0))
+  to-within g x none i k = tt
+  to-within g x (some h) i k = go (ltb (getD L h 0) (getD L g 0))
     where
-      go : (b : Bool) → All (Within n) (cond b (both g h ∷ []) [])
+      go : (b : Bool) → All (Within n) (cond b (both g h x ∷ []) [])
       go true = (record { gate = i; far = k h refl }, tt)
       go false = tt
 
   at-within : (g : ℕ) → g < n → All (Within n) (gatePairsAt s L g)
   unfolding gatePairsAt
-  at-within g i = go (eqb (getD L g 0) 0) (all-each (Within n) (λ d. gatePairTo L g (sees s L d g)) (Left ∷ Right ∷ Top ∷ Bottom ∷ []) (λ d. to-within g (sees s L d g) i (λ h e. omega (arith, sees-in s d L g h (omega arith) e))))
+  at-within g i = go (eqb (getD L g 0) 0) (all-each (Within n) (gatePairsOf s L g) (Left ∷ Right ∷ Top ∷ Bottom ∷ []) (λ d. to-within g (bridges s L d g) (sees s L d g) i (λ h e. omega (arith, sees-in s d L g h (omega arith) e))))
     where
-      go : (b : Bool) → All (Within n) (each (λ d. gatePairTo L g (sees s L d g)) (Left ∷ Right ∷ Top ∷ Bottom ∷ [])) → All (Within n) (cond b [] (each (λ d. gatePairTo L g (sees s L d g)) (Left ∷ Right ∷ Top ∷ Bottom ∷ [])))
+      go : (b : Bool) → All (Within n) (each (gatePairsOf s L g) (Left ∷ Right ∷ Top ∷ Bottom ∷ [])) → All (Within n) (cond b [] (each (gatePairsOf s L g) (Left ∷ Right ∷ Top ∷ Bottom ∷ [])))
       go true h = tt
       go false h = h
 
@@ -72,9 +73,28 @@ unfolding upto
 map-places F G [] k h = refl
 map-places F G (x ∷ S) k h = rw (ap F {x = k} {y = k + 0} (omega arith) ∙ h 0 (omega arith), map-places F G S (suc k) (λ i g. ap F {x = suc k + i} {y = k + suc i} (omega arith) ∙ h (suc i) (omega arith))) refl
 
-keys-same : (w : List ℕ) (vel : List Float) (n : ℕ) (ts : List GatePair) (f : GatePair → ℕ) (key : Pair → ℕ) → ((t : GatePair) → Within n t → key (pairOf (seg w 0 n) vel t) ≡ getD w (f t) 0) → All (Within n) ts → map (λ x. getD w x 0) (map f ts) ≡ map key (map (pairOf (seg w 0 n) vel) ts)
+keys-same : (w : List ℕ) (vel : List Float) (n : ℕ) (ts : List GatePair) (f : GatePair → ℕ) (key : Pair → ℕ) → ((t : GatePair) → Within n t → key (pairOf (seg w 0 n) vel t) ≡ getD w (f t / 2) 0) → All (Within n) ts → map (λ x. getD w (x / 2) 0) (map f ts) ≡ map key (map (pairOf (seg w 0 n) vel) ts)
 keys-same w vel n [] f key h s = refl
 keys-same w vel n (t ∷ ts) f key h s = rw (h t (s .0), keys-same w vel n ts f key h (s .1)) refl
+
+-- ---- the words of a pair
+
+half : (b : Bool) (g : ℕ) → coded b g / 2 ≡ g
+unfolding coded plusOneIf
+half true g = omega arith
+half false g = omega arith
+
+odd : (b : Bool) (g : ℕ) → eqb (coded b g % 2) 1 ≡ b
+unfolding coded plusOneIf
+odd true g = eq-eqb (suc (2 * g) % 2) 1 (omega arith)
+odd false g = ne-eqb (2 * g % 2) 1 (λ e. omega (arith, e))
+
+words-back : (t : GatePair) → gatesBy (gateWord t) (farWord t) ≡ t
+words-back t = λ j. record { gate = half (t .bridged) (t .gate) j; far = half (t .bridged) (t .far) j; bridged = odd (t .bridged) (t .far) j }
+
+-- no pair of gates
+nowhere : GatePair
+nowhere = both 0 0 false
 
 -- ---- the three calls
 
@@ -101,37 +121,43 @@ module _ (f : Shape) (u : List ℕ) (a vel : List Float) (n k t : ℕ) (q : Find
     fars-w : seg w (5 * n) m ≡ fars (gatePairs f (seg u 0 n))
     fars-w = adds-fars n u w m (gatePairs f (seg u 0 n)) p (omega (arith, q .scratch)) few
 
-    gate-at : (i : ℕ) → i < m → getD w (n + i) 0 ≡ (getD (gatePairs f (seg u 0 n)) i (both 0 0)) .gate
-    gate-at i h = sym (getD-seg w n m i 0 h) ∙ ap (λ (l : List ℕ). getD l i 0) gates-w ∙ map-at (λ (x : GatePair). x .gate) (gatePairs f (seg u 0 n)) i (both 0 0) 0 (omega (arith, ms))
+    gate-at : (i : ℕ) → i < m → getD w (n + i) 0 ≡ gateWord (getD (gatePairs f (seg u 0 n)) i nowhere)
+    gate-at i h = sym (getD-seg w n m i 0 h) ∙ ap (λ (l : List ℕ). getD l i 0) gates-w ∙ map-at gateWord (gatePairs f (seg u 0 n)) i nowhere 0 (omega (arith, ms))
 
-    far-at : (i : ℕ) → i < m → getD w (5 * n + i) 0 ≡ (getD (gatePairs f (seg u 0 n)) i (both 0 0)) .far
-    far-at i h = sym (getD-seg w (5 * n) m i 0 h) ∙ ap (λ (l : List ℕ). getD l i 0) fars-w ∙ map-at (λ (x : GatePair). x .far) (gatePairs f (seg u 0 n)) i (both 0 0) 0 (omega (arith, ms))
+    far-at : (i : ℕ) → i < m → getD w (5 * n + i) 0 ≡ farWord (getD (gatePairs f (seg u 0 n)) i nowhere)
+    far-at i h = sym (getD-seg w (5 * n) m i 0 h) ∙ ap (λ (l : List ℕ). getD l i 0) fars-w ∙ map-at farWord (gatePairs f (seg u 0 n)) i nowhere 0 (omega (arith, ms))
 
-    within-at : (i : ℕ) → i < m → Within n (getD (gatePairs f (seg u 0 n)) i (both 0 0))
-    within-at i h = all-index (Within n) (gatePairs f (seg u 0 n)) (both 0 0) inside i (omega (arith, ms))
+    gate-half : (i : ℕ) → i < m → getD w (n + i) 0 / 2 ≡ getD (gatePairs f (seg u 0 n)) i nowhere .gate
+    gate-half i h = let p : GatePair = getD (gatePairs f (seg u 0 n)) i nowhere in ap (λ (x : ℕ). x / 2) (gate-at i h) ∙ half (p .bridged) (p .gate)
+
+    far-half : (i : ℕ) → i < m → getD w (5 * n + i) 0 / 2 ≡ getD (gatePairs f (seg u 0 n)) i nowhere .far
+    far-half i h = let p : GatePair = getD (gatePairs f (seg u 0 n)) i nowhere in ap (λ (x : ℕ). x / 2) (far-at i h) ∙ half (p .bridged) (p .far)
+
+    within-at : (i : ℕ) → i < m → Within n (getD (gatePairs f (seg u 0 n)) i nowhere)
+    within-at i h = all-index (Within n) (gatePairs f (seg u 0 n)) nowhere inside i (omega (arith, ms))
 
     pub sorts : Sorts w n m (k + 1)
     sorts = record {
       room = omega (arith, q .scratch, lw, few);
       few = few;
       small = omega (arith, q .small, few);
-      gate = λ i h. omega (arith, gate-at i h, within-at i h .gate);
-      far = λ i h. omega (arith, far-at i h, within-at i h .far);
+      gate = λ i h. omega (arith, gate-half i h, within-at i h .gate);
+      far = λ i h. omega (arith, far-half i h, within-at i h .far);
       label = λ j h. omega (arith, q .label j h, label-at u n j h, label-at w n j h, ap (λ (l : List ℕ). getD l j 0) labels-w);
     }
 
     keys-one : labelsOf w n m ≡ map (λ p. p .one) (map (pairOf (seg u 0 n) vel) (gatePairs f (seg u 0 n)))
     unfolding labelsOf pairOf
     keys-one =
-        ap (map (λ x. getD w x 0)) gates-w
-        ∙ keys-same w vel n (gatePairs f (seg u 0 n)) (λ (x : GatePair). x .gate) (λ p. p .one) (λ x i. label-at w n (x .gate) (i .gate)) inside
+        ap (map (λ x. getD w (x / 2) 0)) gates-w
+        ∙ keys-same w vel n (gatePairs f (seg u 0 n)) gateWord (λ p. p .one) (λ x i. label-at w n (x .gate) (i .gate) ∙ ap (λ (z : ℕ). getD w z 0) (sym (half (x .bridged) (x .gate)))) inside
         ∙ ap (λ (l : List ℕ). map (λ (p : Pair). p .one) (map (pairOf l vel) (gatePairs f (seg u 0 n)))) labels-w
 
     keys-two : labelsOf w (5 * n) m ≡ map (λ p. p .two) (map (pairOf (seg u 0 n) vel) (gatePairs f (seg u 0 n)))
     unfolding labelsOf pairOf
     keys-two =
-        ap (map (λ x. getD w x 0)) fars-w
-        ∙ keys-same w vel n (gatePairs f (seg u 0 n)) (λ (x : GatePair). x .far) (λ p. p .two) (λ x i. label-at w n (x .far) (i .far)) inside
+        ap (map (λ x. getD w (x / 2) 0)) fars-w
+        ∙ keys-same w vel n (gatePairs f (seg u 0 n)) farWord (λ p. p .two) (λ x i. label-at w n (x .far) (i .far) ∙ ap (λ (z : ℕ). getD w z 0) (sym (half (x .bridged) (x .far)))) inside
         ∙ ap (λ (l : List ℕ). map (λ (p : Pair). p .two) (map (pairOf l vel) (gatePairs f (seg u 0 n)))) labels-w
 
     module _ (v : List ℕ) (lv : length v ≡ length w) (o : Sorted w v n m (k + 1)) where
@@ -155,13 +181,15 @@ module _ (f : Shape) (u : List ℕ) (a vel : List Float) (n k t : ℕ) (q : Find
           let X : ℕ = getD (seg v (9 * n) m) i 0 in
           let x : getD v (9 * n + i) 0 ≡ X = sym (getD-seg v (9 * n) m i 0 h) in
           let xl : X < m = number-lt i h in
-          let g : getD v (n + X) 0 ≡ (getD (gatePairs f (seg u 0 n)) X (both 0 0)) .gate = o .kept (n + X) (omega (arith, few)) ∙ gate-at X xl in
-          let r : getD v (5 * n + X) 0 ≡ (getD (gatePairs f (seg u 0 n)) X (both 0 0)) .far = o .kept (5 * n + X) (omega (arith, few)) ∙ far-at X xl in
-          ap (λ (y : ℕ). pairOf (seg v 0 n) vel (both (getD v (n + y) 0) (getD v (5 * n + y) 0))) x
-          ∙ ap (λ (y : ℕ). pairOf (seg v 0 n) vel (both y (getD v (5 * n + X) 0))) g
-          ∙ ap (λ (y : ℕ). pairOf (seg v 0 n) vel (both ((getD (gatePairs f (seg u 0 n)) X (both 0 0)) .gate) y)) r
-          ∙ ap (λ (l : List ℕ). pairOf l vel (getD (gatePairs f (seg u 0 n)) X (both 0 0))) labels-v
-          ∙ sym (map-at (pairOf (seg u 0 n) vel) (gatePairs f (seg u 0 n)) X (both 0 0) blank (omega (arith, ms)))
+          let p : GatePair = getD (gatePairs f (seg u 0 n)) X nowhere in
+          let g : getD v (n + X) 0 ≡ gateWord p = o .kept (n + X) (omega (arith, few)) ∙ gate-at X xl in
+          let r : getD v (5 * n + X) 0 ≡ farWord p = o .kept (5 * n + X) (omega (arith, few)) ∙ far-at X xl in
+          ap (λ (y : ℕ). pairOf (seg v 0 n) vel (gatesBy (getD v (n + y) 0) (getD v (5 * n + y) 0))) x
+          ∙ ap (λ (y : ℕ). pairOf (seg v 0 n) vel (gatesBy y (getD v (5 * n + X) 0))) g
+          ∙ ap (λ (y : ℕ). pairOf (seg v 0 n) vel (gatesBy (gateWord p) y)) r
+          ∙ ap (pairOf (seg v 0 n) vel) (words-back p)
+          ∙ ap (λ (l : List ℕ). pairOf l vel (getD (gatePairs f (seg u 0 n)) X nowhere)) labels-v
+          ∙ sym (map-at (pairOf (seg u 0 n) vel) (gatePairs f (seg u 0 n)) X nowhere blank (omega (arith, ms)))
 
       later-is : later v vel n m 0 ≡ ordered (suc k) (map (pairOf (seg u 0 n) vel) (gatePairs f (seg u 0 n)))
       unfolding later
@@ -188,8 +216,8 @@ module _ (f : Shape) (u : List ℕ) (a vel : List Float) (n k t : ℕ) (q : Find
         little = omega (arith, q .small);
         vels = q .vels;
         index = λ i h. omega (arith, getD-seg v (9 * n) m i 0 h, number-lt i h);
-        gate = λ x h. omega (arith, o .kept (n + x) (omega (arith, few)), gate-at x h, within-at x h .gate);
-        far = λ x h. omega (arith, o .kept (5 * n + x) (omega (arith, few)), far-at x h, within-at x h .far);
+        gate = λ x h. subst (λ (y : ℕ). y / 2 < n) (sym (o .kept (n + x) (omega (arith, few)))) (omega (arith, gate-half x h, within-at x h .gate));
+        far = λ x h. subst (λ (y : ℕ). y / 2 < n) (sym (o .kept (5 * n + x) (omega (arith, few)))) (omega (arith, far-half x h, within-at x h .far));
       }
 
       later-long : length (later v vel n m 0) ≡ m
@@ -219,17 +247,22 @@ module _ (f : Shape) (u : List ℕ) (a vel : List Float) (n k t : ℕ) (q : Find
             let lX : length (map (λ (r : EdgeRecord). r .count) R) ≡ e = length-map R (λ r. r .count) ∙ sym (r .count) in
             let lY : length (map (λ (r : EdgeRecord). r .one) R) ≡ e = length-map R (λ r. r .one) ∙ sym (r .count) in
             let lZ : length (map (λ (r : EdgeRecord). r .two) R) ≡ e = length-map R (λ r. r .two) ∙ sym (r .count) in
+            let lU : length (map (λ (r : EdgeRecord). r .bridged) R) ≡ e = length-map R (λ r. r .bridged) ∙ sym (r .count) in
             let lD : length (map (difference twoNyquist) R) ≡ e = length-map R (difference twoNyquist) ∙ sym (r .count) in
             let W1 : List ℕ = put v t (map (λ r. r .count) R) in
             let W2 : List ℕ = put W1 (t + 3 * c) (map (λ r. r .one) R) in
             let l1 : length W1 ≡ length v = length-put v t (map (λ r. r .count) R) in
             let l2 : length W2 ≡ length v = length-put W1 (t + 3 * c) (map (λ r. r .one) R) ∙ l1 in
+            let W3 : List ℕ = put W2 (t + 4 * c) (map (λ r. r .two) R) in
+            let l3 : length W3 ≡ length v = length-put W2 (t + 4 * c) (map (λ r. r .two) R) ∙ l2 in
             record {
               count = r .count ∙ ap length runs-are;
               few = omega arith;
               light = omega (arith, sym (ap (λ (l : List EdgeRecord). sum (map (λ r. r .count) l)) runs-are) ∙ weights (later v vel n m 0), later-long, few);
+              spans = omega (arith, spans (later v vel n m 0), ap (λ (l : List EdgeRecord). sum (map (λ r. r .bridged) l)) runs-are, later-long, few);
               weight =
                   ap (λ (l : List ℕ). seg l t e) (r .words)
+                  ∙ seg-put-below W3 (t + 5 * c) (map (λ r. r .bridged) R) t e (omega arith)
                   ∙ seg-put-below W2 (t + 4 * c) (map (λ r. r .two) R) t e (omega arith)
                   ∙ seg-put-below W1 (t + 3 * c) (map (λ r. r .one) R) t e (omega arith)
                   ∙ ap (λ (x : ℕ). seg W1 t x) (sym lX) ∙ seg-put-same v t (map (λ r. r .count) R) (omega (arith, q .words, lv, lw))
@@ -237,14 +270,21 @@ module _ (f : Shape) (u : List ℕ) (a vel : List Float) (n k t : ℕ) (q : Find
               first =
                   ap (λ (x : ℕ). seg y (t + 3 * x) e) (sym ce)
                   ∙ ap (λ (l : List ℕ). seg l (t + 3 * c) e) (r .words)
+                  ∙ seg-put-below W3 (t + 5 * c) (map (λ r. r .bridged) R) (t + 3 * c) e (omega arith)
                   ∙ seg-put-below W2 (t + 4 * c) (map (λ r. r .two) R) (t + 3 * c) e (omega arith)
                   ∙ ap (λ (x : ℕ). seg W2 (t + 3 * c) x) (sym lY) ∙ seg-put-same W1 (t + 3 * c) (map (λ r. r .one) R) (omega (arith, q .words, lv, lw))
                   ∙ ap (map (λ (r : EdgeRecord). r .one)) runs-are;
               second =
                   ap (λ (x : ℕ). seg y (t + 4 * x) e) (sym ce)
                   ∙ ap (λ (l : List ℕ). seg l (t + 4 * c) e) (r .words)
-                  ∙ ap (λ (x : ℕ). seg (put W2 (t + 4 * c) (map (λ r. r .two) R)) (t + 4 * c) x) (sym lZ) ∙ seg-put-same W2 (t + 4 * c) (map (λ r. r .two) R) (omega (arith, q .words, lv, lw))
+                  ∙ seg-put-below W3 (t + 5 * c) (map (λ r. r .bridged) R) (t + 4 * c) e (omega arith)
+                  ∙ ap (λ (x : ℕ). seg W3 (t + 4 * c) x) (sym lZ) ∙ seg-put-same W2 (t + 4 * c) (map (λ r. r .two) R) (omega (arith, q .words, lv, lw))
                   ∙ ap (map (λ (r : EdgeRecord). r .two)) runs-are;
+              bridged =
+                  ap (λ (x : ℕ). seg y (t + 5 * x) e) (sym ce)
+                  ∙ ap (λ (l : List ℕ). seg l (t + 5 * c) e) (r .words)
+                  ∙ ap (λ (x : ℕ). seg (put W3 (t + 5 * c) (map (λ r. r .bridged) R)) (t + 5 * c) x) (sym lU) ∙ seg-put-same W3 (t + 5 * c) (map (λ r. r .bridged) R) (omega (arith, q .words, lv, lw))
+                  ∙ ap (map (λ (r : EdgeRecord). r .bridged)) runs-are;
               diff =
                   ap (λ (l : List Float). seg l 0 e) (r .diffs)
                   ∙ ap (λ (x : ℕ). seg (put a 0 (map (difference twoNyquist) R)) 0 x) (sym lD) ∙ seg-put-same a 0 (map (difference twoNyquist) R) (omega (arith, q .diffs))

@@ -11,8 +11,8 @@ use lib.Ieee.{Float}
 use borrow.Author.Tests.{le-ltb, eqb-true}
 use Rattle.lists.specs.Seq.{upto, keep, each}
 use Rattle.lists.proofs.SeqLaws.{keep-each, map-each, each-same}
-use Rattle.edges.specs.Edges.{Shape, Direction, Left, Right, Top, Bottom, next, look, sees, skip, pairTo, pairsAt, pairs}
-use Rattle.edges.specs.Inside.GatePairs.{both, gatePairTo, gatePairsAt, gatePairs, pairOf, greater}
+use Rattle.edges.specs.Edges.{Shape, Direction, Left, Right, Top, Bottom, next, look, sees, bridges, skip, Pair, pairTo, pairsAt, pairs}
+use Rattle.edges.specs.Inside.GatePairs.{both, gatePairTo, gatePairsOf, gatePairsAt, gatePairs, pairOf, greater}
 use Rattle.edges.proofs.Next.{next-in}
 
 -- ---- a look's gate
@@ -52,12 +52,12 @@ module _ (s : Shape) (d : Direction) (L : List ℕ) where
 
 -- ---- how many
 
-pub linkTo-most : (L : List ℕ) (g : ℕ) (o : Option ℕ) → length (gatePairTo L g o) ≤ 1
+pub linkTo-most : (L : List ℕ) (g : ℕ) (x : Bool) (o : Option ℕ) → length (gatePairTo L g x o) ≤ 1
 unfolding gatePairTo
-linkTo-most L g none = omega arith
-linkTo-most L g (some h) = go (ltb (getD L h 0) (getD L g 0))
+linkTo-most L g x none = omega arith
+linkTo-most L g x (some h) = go (ltb (getD L h 0) (getD L g 0))
   where
-    go : (b : Bool) → length (cond b (both g h ∷ []) []) ≤ 1
+    go : (b : Bool) → length (cond b (both g h x ∷ []) []) ≤ 1
     go true = omega arith
     go false = omega arith
 
@@ -68,34 +68,40 @@ unfolding keep
 none-kept t f = refl
 
 module _ (L : List ℕ) (vel : List Float) (g : ℕ) where
-  keep-one : (h : ℕ) (c : Bool) → ltb (getD L h 0) (getD L g 0) ≡ c → keep greater (pairOf L vel (both g h) ∷ []) ≡ map (pairOf L vel) (cond c (both g h ∷ []) [])
+  keep-one : (h : ℕ) (x c : Bool) → ltb (getD L h 0) (getD L g 0) ≡ c → keep greater (pairOf L vel (both g h x) ∷ []) ≡ map (pairOf L vel) (cond c (both g h x ∷ []) [])
   unfolding keep greater pairOf
-  keep-one h true e = rw e refl
-  keep-one h false e = rw e refl
+  keep-one h x true e = rw e refl
+  keep-one h x false e = rw e refl
 
-  to-same : (o : Option ℕ) → keep greater (pairTo L vel g o) ≡ map (pairOf L vel) (gatePairTo L g o)
+  to-same : (x : Bool) (o : Option ℕ) → keep greater (pairTo L vel g x o) ≡ map (pairOf L vel) (gatePairTo L g x o)
   unfolding gatePairTo pairTo keep pairOf
-  to-same none = refl
-  to-same (some h) = go (eqb (getD L g 0) (getD L h 0)) refl
+  to-same x none = refl
+  to-same x (some h) = go (eqb (getD L g 0) (getD L h 0)) refl
     where
       go : (b : Bool) → eqb (getD L g 0) (getD L h 0) ≡ b
-          → keep greater (cond b [] (pairOf L vel (both g h) ∷ [])) ≡ map (pairOf L vel) (cond (ltb (getD L h 0) (getD L g 0)) (both g h ∷ []) [])
+          → keep greater (cond b [] (pairOf L vel (both g h x) ∷ [])) ≡ map (pairOf L vel) (cond (ltb (getD L h 0) (getD L g 0)) (both g h x ∷ []) [])
       go true e = rw (le-ltb (getD L h 0) (getD L g 0) (omega (arith, eqb-true (getD L g 0) (getD L h 0) e))) refl
-      go false e = keep-one h (ltb (getD L h 0) (getD L g 0)) refl
+      go false e = keep-one h x (ltb (getD L h 0) (getD L g 0)) refl
 
   at-same : (s : Shape) → keep greater (pairsAt s L vel g) ≡ map (pairOf L vel) (gatePairsAt s L g)
   unfolding pairsAt gatePairsAt
   at-same s = go (eqb (getD L g 0) 0)
     where
-      all : keep greater (each (λ d. pairTo L vel g (sees s L d g)) (Left ∷ Right ∷ Top ∷ Bottom ∷ [])) ≡ map (pairOf L vel) (each (λ d. gatePairTo L g (sees s L d g)) (Left ∷ Right ∷ Top ∷ Bottom ∷ []))
-      all =
-          keep-each greater (λ d. pairTo L vel g (sees s L d g)) (Left ∷ Right ∷ Top ∷ Bottom ∷ [])
-          ∙ each-same (λ d. keep greater (pairTo L vel g (sees s L d g))) (λ d. map (pairOf L vel) (gatePairTo L g (sees s L d g))) (Left ∷ Right ∷ Top ∷ Bottom ∷ []) (λ d. to-same (sees s L d g))
-          ∙ sym (map-each (pairOf L vel) (λ d. gatePairTo L g (sees s L d g)) (Left ∷ Right ∷ Top ∷ Bottom ∷ []))
+      all : List Direction
+      all = Left ∷ Right ∷ Top ∷ Bottom ∷ []
 
-      go : (b : Bool) → keep greater (cond b [] (each (λ d. pairTo L vel g (sees s L d g)) (Left ∷ Right ∷ Top ∷ Bottom ∷ []))) ≡ map (pairOf L vel) (cond b [] (each (λ d. gatePairTo L g (sees s L d g)) (Left ∷ Right ∷ Top ∷ Bottom ∷ [])))
+      to : Direction → List Pair
+      to d = pairTo L vel g (bridges s L d g) (sees s L d g)
+
+      each-way : keep greater (each to all) ≡ map (pairOf L vel) (each (gatePairsOf s L g) all)
+      each-way =
+          keep-each greater to all
+          ∙ each-same (λ d. keep greater (to d)) (λ d. map (pairOf L vel) (gatePairsOf s L g d)) all (λ d. to-same (bridges s L d g) (sees s L d g))
+          ∙ sym (map-each (pairOf L vel) (gatePairsOf s L g) all)
+
+      go : (b : Bool) → keep greater (cond b [] (each to all)) ≡ map (pairOf L vel) (cond b [] (each (gatePairsOf s L g) all))
       go true = none-kept greater (pairOf L vel)
-      go false = all
+      go false = each-way
 
 -- the definition's pairs of which the first label is the greater, in their order
 pub links-same : (s : Shape) (L : List ℕ) (vel : List Float) → keep greater (pairs s L vel) ≡ map (pairOf L vel) (gatePairs s L)

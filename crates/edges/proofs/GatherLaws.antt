@@ -1,15 +1,17 @@
 -- Gathering, over plain values. Assumes nothing.
-use Prim.Native.Nat.{ℕ, suc, _+_, _-_, _*_, _≤_, _<_, _^_}
+use Prim.Native.Nat.{ℕ, suc, _+_, _-_, _*_, _/_, _%_, _≤_, _<_, _^_}
 use native.Mathlib.Omega.{arith}
 use mathlib.Core.Path.{_≡_, refl, sym, ap, _∙_}
 use mathlib.Core.Bool.{Bool, true, false, cond}
 use mathlib.Core.List.{List, [], _∷_, _++_, map}
+use lib.Dec.{eqb}
 use lib.ListN.{length, getD, set, length-map}
 use lib.Ieee.{Float, nan}
 use Rattle.lists.specs.Seq.{upto}
 use Rattle.lists.proofs.SeqLaws.{map-append}
 use Rattle.lists.specs.Inside.Seg.{seg, put}
-use Rattle.lists.proofs.SegLaws.{length-put, put-snoc, set-put-below, getD-put-below, seg-put-below}
+use Rattle.lists.proofs.SegLaws.{length-put, getD-put-below, seg-put-below}
+use Rattle.edges.proofs.GrowLaws.{snoc-at, four}
 use Rattle.edges.specs.Edges.{Pair, begun, plus, difference}
 use Rattle.edges.specs.Inside.GatePairs.{pairOf}
 use Rattle.edges.specs.Inside.Order.{alike, runsFrom}
@@ -17,13 +19,20 @@ use Rattle.edges.specs.Inside.Gather.{pairAt, later, ReadsPairs, written
 use Rattle.edges.proofs.PairTurn.{label-at}
 use Rattle.edges.specs.declared.edges.EdgeRecord.{EdgeRecord}
 
--- where the i-th pair's gates lie
+-- the words of the i-th pair
+abbrev pub gateAtOrder : List ℕ → ℕ → ℕ → ℕ
+gateAtOrder w n i = getD w (n + getD w (9 * n + i) 0) 0
+
+abbrev pub farAtOrder : List ℕ → ℕ → ℕ → ℕ
+farAtOrder w n i = getD w (5 * n + getD w (9 * n + i) 0) 0
+
+-- where its gates lie
 pub record Found (w : List ℕ) (vel : List Float) (n m i : ℕ) : Type 0 where
   pub x-lt : getD w (9 * n + i) 0 < m
-  pub g-lt : getD w (n + getD w (9 * n + i) 0) 0 < n
-  pub h-lt : getD w (5 * n + getD w (9 * n + i) 0) 0 < n
-  pub g-vel : getD w (n + getD w (9 * n + i) 0) 0 < length vel
-  pub h-vel : getD w (5 * n + getD w (9 * n + i) 0) 0 < length vel
+  pub g-lt : gateAtOrder w n i / 2 < n
+  pub h-lt : farAtOrder w n i / 2 < n
+  pub g-vel : gateAtOrder w n i / 2 < length vel
+  pub h-vel : farAtOrder w n i / 2 < length vel
   pub room : 9 * n + m ≤ length w
   pub few : m ≤ 4 * n
   pub little : n < 2 ^ 32
@@ -43,67 +52,79 @@ found w vel n m i r h =
       little = r .little;
     }
 
-pub is-pair : (w : List ℕ) (vel : List Float) (n m i : ℕ) → ReadsPairs w vel n m → i < m → (a b : ℕ) (v u : Float)
-    → a ≡ getD w (getD w (n + getD w (9 * n + i) 0) 0) 0 → b ≡ getD w (getD w (5 * n + getD w (9 * n + i) 0) 0) 0
-    → v ≡ getD vel (getD w (n + getD w (9 * n + i) 0) 0) nan → u ≡ getD vel (getD w (5 * n + getD w (9 * n + i) 0) 0) nan
-    → _≡_ {A = Pair} (record { one = a; two = b; vel1 = v; vel2 = u }) (pairAt w vel n i)
+pub is-pair : (w : List ℕ) (vel : List Float) (n m i : ℕ) → ReadsPairs w vel n m → i < m → (v u : Float) (b : Bool)
+    → v ≡ getD vel (gateAtOrder w n i / 2) nan → u ≡ getD vel (farAtOrder w n i / 2) nan → b ≡ eqb (farAtOrder w n i % 2) 1
+    → _≡_ {A = Pair} (record { one = getD w (gateAtOrder w n i / 2) 0; two = getD w (farAtOrder w n i / 2) 0; vel1 = v; vel2 = u; bridged = b }) (pairAt w vel n i)
 unfolding pairAt pairOf
-is-pair w vel n m i r h a b v u ea eb ev eu =
+is-pair w vel n m i r h v u b ev eu eb =
     let f : Found w vel n m i = found w vel n m i r h in
-    let la : a ≡ getD (seg w 0 n) (getD w (n + getD w (9 * n + i) 0) 0) 0 = ea ∙ sym (label-at w n (getD w (n + getD w (9 * n + i) 0) 0) (f .g-lt)) in
-    let lb : b ≡ getD (seg w 0 n) (getD w (5 * n + getD w (9 * n + i) 0) 0) 0 = eb ∙ sym (label-at w n (getD w (5 * n + getD w (9 * n + i) 0) 0) (f .h-lt)) in
-    λ j. record { one = la j; two = lb j; vel1 = ev j; vel2 = eu j }
+    let g : ℕ = gateAtOrder w n i / 2 in
+    let k : ℕ = farAtOrder w n i / 2 in
+    let la : getD w g 0 ≡ getD (seg w 0 n) g 0 = sym (label-at w n g (f .g-lt)) in
+    let lb : getD w k 0 ≡ getD (seg w 0 n) k 0 = sym (label-at w n k (f .h-lt)) in
+    λ j. record { one = la j; two = lb j; vel1 = ev j; vel2 = eu j; bridged = eb j }
 
 -- its labels, whatever the velocities are
 pub are-labels : (w : List ℕ) (vel : List Float) (n m i : ℕ) → ReadsPairs w vel n m → i < m → (v : List Float)
-    → (getD w (getD w (n + getD w (9 * n + i) 0) 0) 0 ≡ pairAt w v n i .one) × (getD w (getD w (5 * n + getD w (9 * n + i) 0) 0) 0 ≡ pairAt w v n i .two)
+    → (getD w (gateAtOrder w n i / 2) 0 ≡ pairAt w v n i .one) × (getD w (farAtOrder w n i / 2) 0 ≡ pairAt w v n i .two)
 unfolding pairAt pairOf
 are-labels w vel n m i r h v =
     let f : Found w vel n m i = found w vel n m i r h in
-    (sym (label-at w n (getD w (n + getD w (9 * n + i) 0) 0) (f .g-lt)), sym (label-at w n (getD w (5 * n + getD w (9 * n + i) 0) 0) (f .h-lt)))
+    (sym (label-at w n (gateAtOrder w n i / 2) (f .g-lt)), sym (label-at w n (farAtOrder w n i / 2) (f .h-lt)))
 
 -- ---- tables
 
-module _ {A : Type 0} where
-  snoc-at : (w : List A) (b : ℕ) (vs : List A) (k : ℕ) (x : A) → length vs ≡ k → set (put w b vs) (b + k) x ≡ put w b (vs ++ (x ∷ []))
-  snoc-at w b vs k x e = ap (λ (j : ℕ). set (put w b vs) (b + j) x) (sym e) ∙ put-snoc w b vs x
+module _ (w : List ℕ) (t c : ℕ) where
+  -- the four tables of edges
+  abbrev laid : List ℕ → List ℕ → List ℕ → List ℕ → List ℕ
+  laid X Y Z U = put (put (put (put w t X) (t + 3 * c) Y) (t + 4 * c) Z) (t + 5 * c) U
 
-  three : (w : List A) (a b c k : ℕ) (X Y Z : List A) (x y z : A) → length X ≡ k → length Y ≡ k → length Z ≡ k → a + k < b → b + k < c
-      → set (set (set (put (put (put w a X) b Y) c Z) (a + k) x) (b + k) y) (c + k) z ≡ put (put (put w a (X ++ (x ∷ []))) b (Y ++ (y ∷ []))) c (Z ++ (z ∷ []))
-  three w a b c k X Y Z x y z lX lY lZ h g =
-      ap (λ (l : List A). set (set l (b + k) y) (c + k) z) (set-put-below (put (put w a X) b Y) c Z (a + k) x (omega arith))
-      ∙ ap (λ (l : List A). set (set (put l c Z) (b + k) y) (c + k) z) (set-put-below (put w a X) b Y (a + k) x h)
-      ∙ ap (λ (l : List A). set (set (put (put l b Y) c Z) (b + k) y) (c + k) z) (snoc-at w a X k x lX)
-      ∙ ap (λ (l : List A). set l (c + k) z) (set-put-below (put (put w a (X ++ (x ∷ []))) b Y) c Z (b + k) y g)
-      ∙ ap (λ (l : List A). set (put l c Z) (c + k) z) (snoc-at (put w a (X ++ (x ∷ []))) b Y k y lY)
-      ∙ snoc-at (put (put w a (X ++ (x ∷ []))) b (Y ++ (y ∷ []))) c Z k z lZ
+  pub tables-snoc : (e : ℕ) (rs : List EdgeRecord) (r : EdgeRecord) → e ≡ length rs → e < c → written (tables w t c rs) t c e r ≡ tables w t c (rs ++ (r ∷ []))
+  unfolding written tables
+  tables-snoc e rs r l h =
+      let X : List ℕ = map (λ r. r .count) rs in
+      let Y : List ℕ = map (λ r. r .one) rs in
+      let Z : List ℕ = map (λ r. r .two) rs in
+      let U : List ℕ = map (λ r. r .bridged) rs in
+      four w t (t + 3 * c) (t + 4 * c) (t + 5 * c) e X Y Z U (r .count) (r .one) (r .two) (r .bridged)
+      (long (λ r. r .count)) (long (λ r. r .one)) (long (λ r. r .two)) (long (λ r. r .bridged)) (omega arith) (omega arith) (omega arith)
+      ∙ ap (λ (z : List ℕ). laid z (Y ++ (r .one ∷ [])) (Z ++ (r .two ∷ [])) (U ++ (r .bridged ∷ []))) (more (λ r. r .count))
+      ∙ ap (λ (z : List ℕ). laid (map (λ r. r .count) (rs ++ (r ∷ []))) z (Z ++ (r .two ∷ [])) (U ++ (r .bridged ∷ []))) (more (λ r. r .one))
+      ∙ ap (λ (z : List ℕ). laid (map (λ r. r .count) (rs ++ (r ∷ []))) (map (λ r. r .one) (rs ++ (r ∷ []))) z (U ++ (r .bridged ∷ []))) (more (λ r. r .two))
+      ∙ ap (laid (map (λ r. r .count) (rs ++ (r ∷ []))) (map (λ r. r .one) (rs ++ (r ∷ []))) (map (λ r. r .two) (rs ++ (r ∷ [])))) (more (λ r. r .bridged))
+    where
+      long : (f : EdgeRecord → ℕ) → length (map f rs) ≡ e
+      long f = length-map rs f ∙ sym l
 
-pub tables-snoc : (w : List ℕ) (t c e : ℕ) (rs : List EdgeRecord) (r : EdgeRecord) → e ≡ length rs → e < c → written (tables w t c rs) t c e r ≡ tables w t c (rs ++ (r ∷ []))
-unfolding written tables
-tables-snoc w t c e rs r l h =
-    three w t (t + 3 * c) (t + 4 * c) e (map (λ r. r .count) rs) (map (λ r. r .one) rs) (map (λ r. r .two) rs) (r .count) (r .one) (r .two)
-    (length-map rs (λ r. r .count) ∙ sym l) (length-map rs (λ r. r .one) ∙ sym l) (length-map rs (λ r. r .two) ∙ sym l) (omega arith) (omega arith)
-    ∙ ap (λ (z : List ℕ). put (put (put w t z) (t + 3 * c) (map (λ r. r .one) rs ++ (r .one ∷ []))) (t + 4 * c) (map (λ r. r .two) rs ++ (r .two ∷ []))) (sym (map-append (λ (r : EdgeRecord). r .count) rs (r ∷ [])))
-    ∙ ap (λ (z : List ℕ). put (put (put w t (map (λ r. r .count) (rs ++ (r ∷ [])))) (t + 3 * c) z) (t + 4 * c) (map (λ r. r .two) rs ++ (r .two ∷ []))) (sym (map-append (λ (r : EdgeRecord). r .one) rs (r ∷ [])))
-    ∙ ap (λ (z : List ℕ). put (put (put w t (map (λ r. r .count) (rs ++ (r ∷ [])))) (t + 3 * c) (map (λ r. r .one) (rs ++ (r ∷ [])))) (t + 4 * c) z) (sym (map-append (λ (r : EdgeRecord). r .two) rs (r ∷ [])))
+      more : (f : EdgeRecord → ℕ) → map f rs ++ (f r ∷ []) ≡ map f (rs ++ (r ∷ []))
+      more f = sym (map-append f rs (r ∷ []))
 
-pub tables-below : (w : List ℕ) (t c : ℕ) (rs : List EdgeRecord) (j : ℕ) → j < t → getD (tables w t c rs) j 0 ≡ getD w j 0
-unfolding tables
-tables-below w t c rs j h =
-    getD-put-below (put (put w t (map (λ r. r .count) rs)) (t + 3 * c) (map (λ r. r .one) rs)) (t + 4 * c) (map (λ r. r .two) rs) j 0 (omega arith)
-    ∙ getD-put-below (put w t (map (λ r. r .count) rs)) (t + 3 * c) (map (λ r. r .one) rs) j 0 (omega arith)
-    ∙ getD-put-below w t (map (λ r. r .count) rs) j 0 h
+  module _ (rs : List EdgeRecord) where
+    abbrev first-two : List ℕ
+    first-two = put (put w t (map (λ r. r .count) rs)) (t + 3 * c) (map (λ r. r .one) rs)
 
-pub tables-labels : (w : List ℕ) (t c : ℕ) (rs : List EdgeRecord) (n : ℕ) → n ≤ t → seg (tables w t c rs) 0 n ≡ seg w 0 n
-unfolding tables
-tables-labels w t c rs n h =
-    seg-put-below (put (put w t (map (λ r. r .count) rs)) (t + 3 * c) (map (λ r. r .one) rs)) (t + 4 * c) (map (λ r. r .two) rs) 0 n (omega arith)
-    ∙ seg-put-below (put w t (map (λ r. r .count) rs)) (t + 3 * c) (map (λ r. r .one) rs) 0 n (omega arith)
-    ∙ seg-put-below w t (map (λ r. r .count) rs) 0 n (omega arith)
+    abbrev first-three : List ℕ
+    first-three = put first-two (t + 4 * c) (map (λ r. r .two) rs)
 
-pub tables-length : (w : List ℕ) (t c : ℕ) (rs : List EdgeRecord) → length (tables w t c rs) ≡ length w
-unfolding tables
-tables-length w t c rs = simp length-put refl
+    pub tables-below : (j : ℕ) → j < t → getD (tables w t c rs) j 0 ≡ getD w j 0
+    unfolding tables
+    tables-below j h =
+        getD-put-below first-three (t + 5 * c) (map (λ r. r .bridged) rs) j 0 (omega arith)
+        ∙ getD-put-below first-two (t + 4 * c) (map (λ r. r .two) rs) j 0 (omega arith)
+        ∙ getD-put-below (put w t (map (λ r. r .count) rs)) (t + 3 * c) (map (λ r. r .one) rs) j 0 (omega arith)
+        ∙ getD-put-below w t (map (λ r. r .count) rs) j 0 h
+
+    pub tables-labels : (n : ℕ) → n ≤ t → seg (tables w t c rs) 0 n ≡ seg w 0 n
+    unfolding tables
+    tables-labels n h =
+        seg-put-below first-three (t + 5 * c) (map (λ r. r .bridged) rs) 0 n (omega arith)
+        ∙ seg-put-below first-two (t + 4 * c) (map (λ r. r .two) rs) 0 n (omega arith)
+        ∙ seg-put-below (put w t (map (λ r. r .count) rs)) (t + 3 * c) (map (λ r. r .one) rs) 0 n (omega arith)
+        ∙ seg-put-below w t (map (λ r. r .count) rs) 0 n (omega arith)
+
+    pub tables-length : length (tables w t c rs) ≡ length w
+    unfolding tables
+    tables-length = simp length-put refl
 
 pub diffs-snoc : (twoNyquist : Float) (d : List Float) (e : ℕ) (rs : List EdgeRecord) (r : EdgeRecord) → e ≡ length rs → set (put d 0 (map (difference twoNyquist) rs)) e (difference twoNyquist r) ≡ put d 0 (map (difference twoNyquist) (rs ++ (r ∷ [])))
 diffs-snoc twoNyquist d e rs r l =

@@ -1,7 +1,7 @@
 -- The loop of `gather`, over plain values. Assumes nothing.
-use Prim.Native.Nat.{ℕ, _+_, _*_, _≤_, _<_}
+use Prim.Native.Nat.{ℕ, _+_, _*_, _/_, _≤_, _<_}
 use native.Mathlib.Omega.{arith}
-use mathlib.Core.Path.{_≡_, refl, sym, ap, _∙_}
+use mathlib.Core.Path.{_≡_, refl, sym, ap, _∙_, subst}
 use mathlib.Core.Bool.{Bool, true, false, true≢false}
 use mathlib.Core.List.{List, [], _∷_, _++_, map, append-assoc}
 use lib.ListN.{length, getD, set, length-append}
@@ -11,10 +11,11 @@ use Rattle.lists.proofs.SegLaws.{length-put}
 use Rattle.edges.specs.Edges.{Pair, begun, plus, difference}
 use Rattle.edges.specs.declared.edges.Gathering.{Gathering}
 use Rattle.edges.specs.declared.edges.Raw.{Raw}
-use Rattle.edges.specs.Inside.GatePairs.{both, pairOf}
+use Rattle.edges.specs.Inside.GatePairs.{pairOf}
 use Rattle.edges.specs.Inside.Order.{alike, runs, runsFrom}
-use Rattle.edges.specs.Inside.Gather.{pairIs, pairAt, later, ReadsPairs, written, tables, Slot, GathersPair, Gathers, Gathered}
+use Rattle.edges.specs.Inside.Gather.{pairIs, gatesBy, pairAt, later, ReadsPairs, written, tables, Slot, GathersPair, Gathers, Gathered}
 use Rattle.edges.proofs.GatherLaws.{tables-snoc, tables-below, tables-labels, tables-length, diffs-snoc, later-cons, later-end, runs-some}
+use Rattle.edges.proofs.Weights.{one-spans, more-spans}
 use Rattle.edges.specs.declared.edges.EdgeRecord.{EdgeRecord}
 
 -- i pairs are read: these records are written, s is open, and what is left gives the rest
@@ -25,6 +26,7 @@ pub record Going (twoNyquist : Float) (u : List ℕ) (a vel : List Float) (n m t
   pub edges : s .edges ≡ length done
   pub rest : done ++ runsFrom (s .«record») (later u vel n m i) ≡ runs (later u vel n m 0)
   pub few : s .«record» .count ≤ i
+  pub spans : s .«record» .bridged ≤ s .«record» .count
 
 runs-on : (r : EdgeRecord) (p : Pair) (l : List Pair) → alike r p ≡ true → runsFrom r (p ∷ l) ≡ runsFrom (plus r p) l
 unfolding runsFrom
@@ -44,6 +46,7 @@ module _ (twoNyquist : Float) (u : List ℕ) (a vel : List Float) (n m t c : ℕ
     edges = z;
     rest = ap (λ (r : EdgeRecord). runsFrom r (later u vel n m 1)) e ∙ sym (ap runs (later-cons u vel n m 0 h ∙ ap (λ (x : ℕ). pairAt u vel n 0 ∷ later u vel n m x) {x = 0 + 1} {y = 1} (omega arith)));
     few = omega (arith, ap (λ (r : EdgeRecord). r .count) e);
+    spans = subst (λ (r : EdgeRecord). r .bridged ≤ r .count) (sym e) (one-spans (pairAt u vel n 0));
   }
 
   module _ (w : List ℕ) (d : List Float) (s : Gathering) (i : ℕ) (g : Going twoNyquist u a vel n m t c w d s i) where
@@ -66,8 +69,8 @@ module _ (twoNyquist : Float) (u : List ℕ) (a vel : List Float) (n m t c : ℕ
           little = r .little;
           vels = r .vels;
           index = λ j h. omega (arith, below (9 * n + j) (omega arith), r .index j h);
-          gate = λ x h. omega (arith, below (n + x) (omega (arith, r .few)), r .gate x h);
-          far = λ x h. omega (arith, below (5 * n + x) (omega (arith, r .few)), r .far x h);
+          gate = λ x h. subst (λ (y : ℕ). y / 2 < n) (sym (below (n + x) (omega (arith, r .few)))) (r .gate x h);
+          far = λ x h. subst (λ (y : ℕ). y / 2 < n) (sym (below (5 * n + x) (omega (arith, r .few)))) (r .far x h);
         }
 
     pub going-slot : Slot w d n m t c (s .edges)
@@ -84,10 +87,10 @@ module _ (twoNyquist : Float) (u : List ℕ) (a vel : List Float) (n m t c : ℕ
         let x : ℕ = getD u (9 * n + i) 0 in
         let xl : x < m = lay .ready .index i h in
         let few : m ≤ 4 * n = lay .ready .few in
-        ap (λ (y : ℕ). pairOf (seg w 0 n) vel (both (getD w (n + y) 0) (getD w (5 * n + y) 0))) (below (9 * n + i) (omega arith))
-        ∙ ap (λ (y : ℕ). pairOf (seg w 0 n) vel (both y (getD w (5 * n + x) 0))) (below (n + x) (omega arith))
-        ∙ ap (λ (y : ℕ). pairOf (seg w 0 n) vel (both (getD u (n + x) 0) y)) (below (5 * n + x) (omega arith))
-        ∙ ap (λ (l : List ℕ). pairOf l vel (both (getD u (n + x) 0) (getD u (5 * n + x) 0))) (ap (λ (l : List ℕ). seg l 0 n) (g .mem) ∙ tables-labels u t c (g .done) n (omega (arith, lay .above)))
+        ap (λ (y : ℕ). pairOf (seg w 0 n) vel (gatesBy (getD w (n + y) 0) (getD w (5 * n + y) 0))) (below (9 * n + i) (omega arith))
+        ∙ ap (λ (y : ℕ). pairOf (seg w 0 n) vel (gatesBy y (getD w (5 * n + x) 0))) (below (n + x) (omega arith))
+        ∙ ap (λ (y : ℕ). pairOf (seg w 0 n) vel (gatesBy (getD u (n + x) 0) y)) (below (5 * n + x) (omega arith))
+        ∙ ap (λ (l : List ℕ). pairOf l vel (gatesBy (getD u (n + x) 0) (getD u (5 * n + x) 0))) (ap (λ (l : List ℕ). seg l 0 n) (g .mem) ∙ tables-labels u t c (g .done) n (omega (arith, lay .above)))
 
     -- the record closed
     closed : (v : List ℕ) → v ≡ written w t c (s .edges) (s .«record») → v ≡ tables u t c (g .done ++ (s .«record» ∷ []))
@@ -117,6 +120,7 @@ module _ (twoNyquist : Float) (u : List ℕ) (a vel : List Float) (n m t c : ℕ
               ∙ sym (ap (λ (l : List EdgeRecord). g .done ++ l) (runs-on (s .«record») (pairAt u vel n i) (later u vel n m (i + 1)) (sym (ap (alike (s .«record»)) (going-pair h)) ∙ e)))
               ∙ before;
           few = omega (arith, ap (λ (z : EdgeRecord). z .count) (o .2), g .few);
+          spans = subst (λ (z : EdgeRecord). z .bridged ≤ z .count) (sym (o .2)) (more-spans (s .«record») (pairAt w vel n i) (g .spans));
         }
         go false e = let o = q .off e in record {
           done = g .done ++ (s .«record» ∷ []);
@@ -129,6 +133,7 @@ module _ (twoNyquist : Float) (u : List ℕ) (a vel : List Float) (n m t c : ℕ
               ∙ sym (ap (λ (l : List EdgeRecord). g .done ++ l) (runs-off (s .«record») (pairAt u vel n i) (later u vel n m (i + 1)) (sym (ap (alike (s .«record»)) (going-pair h)) ∙ e)))
               ∙ before;
           few = omega (arith, ap (λ (z : EdgeRecord). z .count) (o .2));
+          spans = subst (λ (z : EdgeRecord). z .bridged ≤ z .count) (sym (o .2)) (one-spans (pairAt w vel n i));
         }
 
     pub going-end : (v : List ℕ) (b : List Float) → m ≤ i → v ≡ written w t c (s .edges) (s .«record») → b ≡ set d (s .edges) (difference twoNyquist (s .«record»)) → Gathered twoNyquist u v a b t c (s .edges + 1) (runs (later u vel n m 0))

@@ -4,6 +4,7 @@ pub mod Going
 pub mod GatePairLaws
 pub mod Stored
 pub mod PairTurn
+pub mod GrowLaws
 pub mod Fills
 pub mod Runs
 pub mod Sorting
@@ -13,3 +14,4 @@ pub mod RunCount
 pub mod Assembly
 pub mod Weights
 pub mod RecordLaws
+pub mod Bridged

@@ -1,10 +1,14 @@
--- A look, step by step. Assumes nothing.
-use Prim.Native.Nat.{ℕ, zero, suc}
-use mathlib.Core.Path.{_≡_, refl, sym, ap}
+-- A look, step by step, and whether it is bridged. Assumes nothing.
+use Prim.Native.Nat.{ℕ, zero, suc, _+_, _<_}
+use native.Mathlib.Omega.{arith}
+use mathlib.Core.Path.{_≡_, refl, sym, ap, _∙_}
+use mathlib.Core.Bool.{true, false}
 use mathlib.Core.List.{List}
 use mathlib.Core.Option.{Option, none, some}
+use lib.Dec.{ltb}
 use lib.ListN.{getD}
-use Rattle.edges.specs.Edges.{Shape, Direction, next, look, sees, skip}
+use borrow.Author.Tests.{lt-ltb}
+use Rattle.edges.specs.Edges.{Shape, Direction, next, look, sees, bridges, skip}
 
 module _ (s : Shape) (d : Direction) (L : List ℕ) where
   pub none-on : (q h : ℕ) → next s d h ≡ none → look s d L (suc q) h ≡ none
@@ -30,3 +34,29 @@ module _ (s : Shape) (d : Direction) (L : List ℕ) where
   pub begins : (m g : ℕ) → m ≡ skip s d → sees s L d g ≡ look s d L (suc m) g
   unfolding sees
   begins m g e = ap (λ (x : ℕ). look s d L (suc x) g) (sym e)
+
+  -- ---- whether it is bridged
+
+  pub near-on : (g j : ℕ) → next s d g ≡ some j → (getD L j 0 ≡ 0 → ⊥) → bridges s L d g ≡ false
+  unfolding bridges
+  near-on g j e n = rw (seen-on 0 g j e n, bridges) refl
+
+  gap-on : (g j : ℕ) → next s d g ≡ some j → getD L j 0 ≡ 0 → bridges s L d g ≡ true
+  unfolding bridges
+  gap-on g j e z = rw (last-on g j e z, bridges) refl
+
+  -- so many steps over label 0 lead from gate g to gate h
+  pub record Stepped (g skipped h : ℕ) : Type 0 where
+    pub at : skipped ≡ 0 → h ≡ g
+    pub over : 0 < skipped → bridges s L d g ≡ true
+
+  pub not-stepped : (g : ℕ) → Stepped g 0 g
+  not-stepped g = record { at = λ e. refl; over = λ h. absurd (omega arith) }
+
+  pub stepped-on : (g k h j : ℕ) → Stepped g k h → next s d h ≡ some j → getD L j 0 ≡ 0 → Stepped g (k + 1) j
+  stepped-on g zero h j S e z = record { at = λ q. absurd (omega arith); over = λ q. gap-on g j (ap (next s d) (sym (S .at refl)) ∙ e) z }
+  stepped-on g (suc k) h j S e z = record { at = λ q. absurd (omega arith); over = λ q. S .over (omega arith) }
+
+  pub stepped-end : (g k h j : ℕ) → Stepped g k h → next s d h ≡ some j → (getD L j 0 ≡ 0 → ⊥) → ltb 0 k ≡ bridges s L d g
+  stepped-end g zero h j S e n = sym (near-on g j (ap (next s d) (sym (S .at refl)) ∙ e) n)
+  stepped-end g (suc k) h j S e n = lt-ltb 0 (suc k) (omega arith) ∙ sym (S .over (omega arith))

@@ -77,7 +77,7 @@ runs-few (p ∷ ps) = from-few (begun p) ps
 
 -- a pair of these labels
 abbrev pub labelled : ℕ → ℕ → Pair
-labelled a b = record { one = a; two = b; vel1 = nan; vel2 = nan }
+labelled a b = record { one = a; two = b; vel1 = nan; vel2 = nan; bridged = false }
 
 pub record Counting (w : List ℕ) (n m a b e i : ℕ) : Type 0 where
   pub left : (vel : List Float) → e + length (runsFrom (begun (labelled a b)) (later w vel n m i)) ≡ length (runs (later w vel n m 0)) + 1

@@ -12,15 +12,15 @@ use borrow.Author.Tests.{ltb-true}
 use Rattle.lists.specs.Seq.{upto, keep, each, All}
 use Rattle.lists.proofs.SeqLaws.{keep-each, keep-of-map, keep-same, map-each, each-same, keep-swap}
 use Rattle.memory.specs.Inside.Sort.{keyIs, sorted}
-use Rattle.edges.specs.Edges.{Shape, Direction, Left, Right, Top, Bottom, sees, skip, Pair, firstIs, secondIs, pairs, records, used}
-use Rattle.edges.specs.Inside.GatePairs.{GatePair, both, gatePairTo, gatePairsAt, gatePairs, pairOf}
+use Rattle.edges.specs.Edges.{Shape, Left, Right, Top, Bottom, sees, bridges, skip, Pair, firstIs, secondIs, pairs, records, used}
+use Rattle.edges.specs.Inside.GatePairs.{GatePair, both, gatePairTo, gatePairsOf, gatePairsAt, gatePairs, pairOf}
 use Rattle.edges.specs.Inside.Order.{ordered, runs}
 use Rattle.edges.proofs.GatePairLaws.{look-labelled, links-same}
 use Rattle.edges.proofs.Runs.{Labelled, runs-records, used-records}
 
 -- no pair
 abbrev pub blank : Pair
-blank = record { one = 0; two = 0; vel1 = nan; vel2 = nan }
+blank = record { one = 0; two = 0; vel1 = nan; vel2 = nan; bridged = false }
 
 key-at : (key : Pair → ℕ) → key blank ≡ 0 → (ps : List Pair) (i : ℕ) → getD (map key ps) i 0 ≡ key (getD ps i blank)
 key-at key z [] i = sym z
@@ -57,12 +57,12 @@ two-passes ps k =
 -- ---- the gatePairs
 
 module _ (L : List ℕ) (vel : List Float) where
-  to-good : (s : Shape) (d : Direction) (g : ℕ) (o : Option ℕ) → ((h : ℕ) → o ≡ some h → getD L h 0 ≡ 0 → ⊥) → All Labelled (map (pairOf L vel) (gatePairTo L g o))
+  to-good : (g : ℕ) (x : Bool) (o : Option ℕ) → ((h : ℕ) → o ≡ some h → getD L h 0 ≡ 0 → ⊥) → All Labelled (map (pairOf L vel) (gatePairTo L g x o))
   unfolding gatePairTo pairOf
-  to-good s d g none n = tt
-  to-good s d g (some h) n = go (ltb (getD L h 0) (getD L g 0)) refl
+  to-good g x none n = tt
+  to-good g x (some h) n = go (ltb (getD L h 0) (getD L g 0)) refl
     where
-      go : (b : Bool) → ltb (getD L h 0) (getD L g 0) ≡ b → All Labelled (map (pairOf L vel) (cond b (both g h ∷ []) []))
+      go : (b : Bool) → ltb (getD L h 0) (getD L g 0) ≡ b → All Labelled (map (pairOf L vel) (cond b (both g h x ∷ []) []))
       go true e = (record { one = omega (arith, n h refl, ltb-true (getD L h 0) (getD L g 0) e); two = omega (arith, n h refl) }, tt)
       go false e = tt
 
@@ -77,9 +77,9 @@ module _ (L : List ℕ) (vel : List Float) where
 
   at-good : (s : Shape) (g : ℕ) → All Labelled (map (pairOf L vel) (gatePairsAt s L g))
   unfolding gatePairsAt sees
-  at-good s g = go (eqb (getD L g 0) 0) (each-good (λ d. gatePairTo L g (sees s L d g)) (Left ∷ Right ∷ Top ∷ Bottom ∷ []) (λ d. to-good s d g (sees s L d g) (λ h e. look-labelled s d L (suc (skip s d)) g h e)))
+  at-good s g = go (eqb (getD L g 0) 0) (each-good (gatePairsOf s L g) (Left ∷ Right ∷ Top ∷ Bottom ∷ []) (λ d. to-good g (bridges s L d g) (sees s L d g) (λ h e. look-labelled s d L (suc (skip s d)) g h e)))
     where
-      go : (b : Bool) → All Labelled (map (pairOf L vel) (each (λ d. gatePairTo L g (sees s L d g)) (Left ∷ Right ∷ Top ∷ Bottom ∷ []))) → All Labelled (map (pairOf L vel) (cond b [] (each (λ d. gatePairTo L g (sees s L d g)) (Left ∷ Right ∷ Top ∷ Bottom ∷ []))))
+      go : (b : Bool) → All Labelled (map (pairOf L vel) (each (gatePairsOf s L g) (Left ∷ Right ∷ Top ∷ Bottom ∷ []))) → All Labelled (map (pairOf L vel) (cond b [] (each (gatePairsOf s L g) (Left ∷ Right ∷ Top ∷ Bottom ∷ []))))
       go true h = tt
       go false h = h
 

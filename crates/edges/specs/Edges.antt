@@ -1,8 +1,8 @@
 -- edges.rs: looks, pairs, and the edge records. Three types are the code's own: a `Shape` is rays, gates per ray, the two skips, and whether
 -- rays wrap; a `Direction` is Left or Right, from ray to ray, or Top or Bottom, along a ray; an `EdgeRecord` is two labels, the number of
--- their pairs, and the sums of the velocities at either end.
+-- their pairs, the sums of the velocities at either end, and how many of the pairs are bridged.
 use Prim.Native.Nat.{ℕ, zero, suc, _+_, _-_, _*_, _%_}
-use mathlib.Core.Bool.{Bool, cond, not}
+use mathlib.Core.Bool.{Bool, true, false, cond, not}
 use mathlib.Core.List.{List, [], _∷_, foldl}
 use mathlib.Core.Option.{Option, none, some}
 use lib.Dec.{leb, ltb, eqb}
@@ -41,37 +41,53 @@ look s d labels (suc k) g = elim (next s d g) [
 unfoldable pub sees : Shape → List ℕ → Direction → ℕ → Option ℕ
 sees s labels d g = look s d labels (suc (skip s d)) g
 
--- two labels and the velocities at either end
+-- whether gate g's look takes more than one step, over masked gates or valid ones of label 0: within one step it sees nothing
+unfoldable pub bridges : Shape → List ℕ → Direction → ℕ → Bool
+bridges s labels d g = elim (look s d labels 1 g) [ none ↦ true | some h ↦ false ]
+
+-- two labels, the velocities at either end, and whether the look was bridged
 pub record Pair : Type 0 where
   pub one : ℕ
   pub two : ℕ
   pub vel1 : Float
   pub vel2 : Float
+  pub bridged : Bool
 
--- a pair, where a gate is seen and has another label
-unfoldable pub pairTo : List ℕ → List Float → ℕ → Option ℕ → List Pair
-pairTo labels vel g none = []
-pairTo labels vel g (some h) =
+-- a pair, where a gate is seen, by a look that was bridged or not, and has another label
+unfoldable pub pairTo : List ℕ → List Float → ℕ → Bool → Option ℕ → List Pair
+pairTo labels vel g b none = []
+pairTo labels vel g b (some h) =
     cond (eqb (getD labels g 0) (getD labels h 0)) []
-    (record { one = getD labels g 0; two = getD labels h 0; vel1 = getD vel g nan; vel2 = getD vel h nan } ∷ [])
+    (record { one = getD labels g 0; two = getD labels h 0; vel1 = getD vel g nan; vel2 = getD vel h nan; bridged = b } ∷ [])
 
 -- the pairs of gate g, if it is labelled
 unfoldable pub pairsAt : Shape → List ℕ → List Float → ℕ → List Pair
 pairsAt s labels vel g =
     cond (eqb (getD labels g 0) 0) []
-    (each (λ d. pairTo labels vel g (sees s labels d g)) (Left ∷ Right ∷ Top ∷ Bottom ∷ []))
+    (each (λ d. pairTo labels vel g (bridges s labels d g) (sees s labels d g)) (Left ∷ Right ∷ Top ∷ Bottom ∷ []))
 
 -- all pairs, in scan order
 unfoldable pub pairs : Shape → List ℕ → List Float → List Pair
 pairs s labels vel = each (pairsAt s labels vel) (upto (length labels) 0)
 
+-- one more, where asked
+unfoldable pub plusOneIf : Bool → ℕ → ℕ
+plusOneIf b n = cond b (suc n) n
+
 -- the record of one pair
 unfoldable pub begun : Pair → EdgeRecord
-begun p = record { one = p .one; two = p .two; count = 1; sum1 = p .vel1; sum2 = p .vel2 }
+begun p = record { one = p .one; two = p .two; count = 1; sum1 = p .vel1; sum2 = p .vel2; bridged = plusOneIf (p .bridged) 0 }
 
 -- a record with one more pair
 unfoldable pub plus : EdgeRecord → Pair → EdgeRecord
-plus r p = record { one = r .one; two = r .two; count = suc (r .count); sum1 = add binary64 (r .sum1) (p .vel1); sum2 = add binary64 (r .sum2) (p .vel2) }
+plus r p = record {
+  one = r .one;
+  two = r .two;
+  count = suc (r .count);
+  sum1 = add binary64 (r .sum1) (p .vel1);
+  sum2 = add binary64 (r .sum2) (p .vel2);
+  bridged = plusOneIf (p .bridged) (r .bridged);
+}
 
 -- the difference of a record: (sum1 − sum2)/(2 × Nyquist) in f64, narrowed to f32; w is 2 × Nyquist
 unfoldable pub difference : Float → EdgeRecord → Float

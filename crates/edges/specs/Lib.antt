@@ -1,3 +1,4 @@
 pub mod Edges
 pub mod Evaluating
 pub mod Inside
+pub mod Theorems

@@ -1,28 +1,29 @@
-// edges.rs: looks, pairs, and the edge records gathered from them.
+// edges.rs: looks, and the edge records gathered from the pairs of pairs.rt.
 use memory::layout;
 ghost use mathlib.Core.Path.{_≡_};
 ghost use mathlib.Core.Bool.{cond, _&&_};
-ghost use Prim.Native.Nat.{_+_, _-_, _*_, _≤_, _<_, _^_};
-ghost use lib.Dec.{eqb};
+ghost use Prim.Native.Nat.{_+_, _-_, _*_, _/_, _%_, _≤_, _<_, _^_};
+ghost use lib.Dec.{eqb, ltb};
+ghost use mathlib.Core.Option.{some};
 ghost use mathlib.Core.List.{List};
 ghost use lib.Ieee.{Float};
 ghost use lib.ListN.{length, set};
-ghost use Rattle.lists.specs.Inside.Seg.{seg, put};
-ghost use Rattle.edges.specs.Edges.{next, Left, Right, Top, Bottom, sees, skip, begun, plus, difference, pairs, used};
+ghost use Rattle.lists.specs.Inside.Seg.{seg};
+ghost use Rattle.edges.specs.Edges.{next, Left, Right, Top, Bottom, sees, bridges, skip, plusOneIf, begun, plus, difference, pairs, used};
 ghost use Rattle.edges.specs.Inside.Whole.{FindsEdges, Edged};
 ghost use Rattle.edges.specs.Inside.Gather.{pairIs, pairAt, later, ReadsPairs, Legible, LabelsAt, written, Slot, GathersPair, Gathers, Gathered};
 ghost use Rattle.edges.specs.Inside.Order.{alike, runs};
-ghost use Rattle.edges.specs.Inside.Sorts.{labelsOf, Reads, Sorts, Sorted};
-ghost use Rattle.edges.specs.Inside.GatePairs.{gatePairTo, gatePairsAt, gatePairs, AddsPairs, Sheet, Place};
-ghost use Rattle.edges.specs.Inside.Sees.{answer, Inside, Looks};
+ghost use Rattle.edges.specs.Inside.Sorts.{withLabels, Reads, Sorts, Sorted};
+ghost use Rattle.edges.specs.Inside.Sees.{answer, sighted, Inside, Looks};
 
-// Two labels, the number of their pairs, and the sums of the velocities at either end.
+// Two labels, the number of their pairs, the sums of the velocities at either end, and how many of the pairs are bridged.
 pub struct EdgeRecord {
     pub one: u32,
     pub two: u32,
     pub count: u32,
     pub sum1: f64,
     pub sum2: f64,
+    pub bridged: u32,
 }
 
 // Rays, gates per ray, the two skips, and whether rays wrap.
@@ -41,9 +42,17 @@ pub enum Direction {
     Bottom,
 }
 
+// One step: the gate it leads to, or none where it leaves the sweep.
 pub enum Seen {
     At(usize),
     Nothing,
+}
+
+// A look: the gate seen in one step, the gate seen in more, or none.
+pub enum Sight {
+    Near(usize),
+    Bridged(usize),
+    Unseen,
 }
 
 // One step to the ray before.
@@ -125,10 +134,20 @@ fn skip(f: Shape, d: Direction) -> usize
     }
 }
 
-// The gate that gate g sees.
-fn sees(labels: &[u32], f: Shape, d: Direction, g: usize) -> Seen
+// Gate j seen after so many steps over label 0.
+fn seen_after(skipped: usize, j: usize) -> Sight
+    ensures { λ r. ⌜ r ≡ sighted (ltb 0 skipped) (some j) ⌝ }
+{
+    if skipped > 0 {
+        return Sight::Bridged(j);
+    }
+    Sight::Near(j)
+}
+
+// The gate that gate g sees, and whether the look was bridged.
+pub fn sees(labels: &[u32], f: Shape, d: Direction, g: usize) -> Sight
     requires { ⌜ Looks f (now labels) g ⌝ }
-    ensures { λ r. ⌜ answer r ≡ sees f (now (labels .entry)) d g ⌝ }
+    ensures { λ r. ⌜ r ≡ sighted (bridges f (now (labels .entry)) d g) (sees f (now (labels .entry)) d g) ⌝ }
 {
     let most = skip(f, d);
     let mut skipped = 0;
@@ -136,74 +155,32 @@ fn sees(labels: &[u32], f: Shape, d: Direction, g: usize) -> Seen
     loop {
         let s = next(f, d, h);
         let Seen::At(j) = s else {
-            return Seen::Nothing;
+            return Sight::Unseen;
         };
         if labels[j] != 0 {
-            return Seen::At(j);
+            return seen_after(skipped, j);
         }
         if skipped == most {
-            return Seen::Nothing;
+            return Sight::Unseen;
         }
         h = j;
         skipped += 1;
     }
 }
 
-// Gate g and the gate that it sees one way, as pair c, if its label is the greater. Gives how many pairs there are then.
-fn pair_one(w: &mut [u32], n: usize, f: Shape, d: Direction, g: usize, c: usize) -> usize
-    requires { ⌜ Place f n (now w) g c 1 ⌝ }
-    ensures { λ r. ⌜ AddsPairs n (now (w .entry)) (now (w .exit)) c r (gatePairTo (seg (now (w .entry)) 0 n) g (sees f (seg (now (w .entry)) 0 n) d g)) ⌝ }
+// The labels of the gates of m pairs, and of the gates that these see, where the sort looks for them.
+fn labels_of(w: &mut [u32], n: usize, m: usize)
+    requires { ⌜ Reads (now w) n m ⌝ }
+    ensures { λ _. ⌜ now (w .exit) ≡ withLabels (now (w .entry)) n m m ⌝ }
 {
-    let s = sees(&w[0..n], f, d, g);
-    let Seen::At(h) = s else {
-        return c;
-    };
-    if w[g] <= w[h] {
-        return c;
-    }
-    w[n + c] = g as u32;
-    w[layout::SEEN * n + c] = h as u32;
-    c + 1
-}
-
-// The pairs of gate g.
-fn pair_gate(w: &mut [u32], n: usize, f: Shape, g: usize, c: usize) -> usize
-    requires { ⌜ Place f n (now w) g c 4 ⌝ }
-    ensures { λ r. ⌜ AddsPairs n (now (w .entry)) (now (w .exit)) c r (gatePairsAt f (seg (now (w .entry)) 0 n) g) ⌝ }
-{
-    if w[g] == 0 {
-        return c;
-    }
-    let c1 = pair_one(w, n, f, Direction::Left, g, c);
-    let c2 = pair_one(w, n, f, Direction::Right, g, c1);
-    let c3 = pair_one(w, n, f, Direction::Top, g, c2);
-    pair_one(w, n, f, Direction::Bottom, g, c3)
-}
-
-// All pairs, in scan order.
-pub fn pair_all(w: &mut [u32], n: usize, f: Shape) -> usize
-    requires { ⌜ Sheet f n (now w) ⌝ }
-    ensures { λ r. ⌜ AddsPairs n (now (w .entry)) (now (w .exit)) 0 r (gatePairs f (seg (now (w .entry)) 0 n)) ⌝ }
-    ensures { λ r. ⌜ r ≤ 4 * n ⌝ }
-{
-    let mut c = 0;
-    let mut g = 0;
-    while g < n {
-        c = pair_gate(w, n, f, g, c);
-        g += 1;
-    }
-    c
-}
-
-// The labels of the m gates from src on, from dst on.
-fn labels_of(w: &mut [u32], n: usize, src: usize, m: usize, dst: usize)
-    requires { ⌜ Reads (now w) n src m dst ⌝ }
-    ensures { λ _. ⌜ now (w .exit) ≡ put (now (w .entry)) dst (labelsOf (now (w .entry)) src m) ⌝ }
-{
+    let one = layout::ORDER * n + m + m;
+    let two = one + m;
     let mut i = 0;
     while i < m {
-        let x = w[src + i] as usize;
-        w[dst + i] = w[x];
+        let g = (w[n + i] / 2) as usize;
+        let h = (w[layout::SEEN * n + i] / 2) as usize;
+        w[one + i] = w[g];
+        w[two + i] = w[h];
         i += 1;
     }
 }
@@ -215,17 +192,17 @@ pub fn sort_pairs(w: &mut [u32], n: usize, m: usize, k: usize)
 {
     let base = layout::ORDER * n;
     memory::words::number(w, base, m);
-    labels_of(w, n, n, m, base + m + m);
-    labels_of(w, n, layout::SEEN * n, m, base + m + m + m);
+    labels_of(w, n, m);
     memory::sort::sort2(w, base, m, m, k);
 }
 
-// Two labels and the velocities at either end.
+// Two labels, the velocities at either end, and whether the look was bridged.
 pub struct Raw {
     pub one: u32,
     pub two: u32,
     pub vel1: f64,
     pub vel2: f64,
+    pub bridged: bool,
 }
 
 // The record being gathered, and how many there were before it.
@@ -247,14 +224,27 @@ fn pair_at(w: &[u32], vel: &[f32], n: usize, m: usize, i: usize) -> Raw
     ensures { λ r. ⌜ pairIs r ≡ pairAt (now (w .entry)) (now (vel .entry)) n i ⌝ }
 {
     let x = w[layout::ORDER * n + i] as usize;
-    let g = w[n + x] as usize;
-    let h = w[layout::SEEN * n + x] as usize;
+    let g = (w[n + x] / 2) as usize;
+    let y = w[layout::SEEN * n + x];
+    let h = (y / 2) as usize;
     Raw {
         one: w[g],
         two: w[h],
         vel1: std::num::f32_to_f64_with_nan(vel[g]),
         vel2: std::num::f32_to_f64_with_nan(vel[h]),
+        bridged: y % 2 == 1,
     }
+}
+
+// One more, where asked.
+fn plus_one_if(asked: bool, n: u32) -> u32
+    requires { ⌜ n + 1 < 2 ^ 32 ⌝ }
+    ensures { λ r. ⌜ r ≡ plusOneIf asked n ⌝ }
+{
+    if asked {
+        return n + 1;
+    }
+    n
 }
 
 // A record of one pair.
@@ -267,12 +257,13 @@ fn begin(p: Raw) -> EdgeRecord
         count: 1,
         sum1: p.vel1,
         sum2: p.vel2,
+        bridged: plus_one_if(p.bridged, 0),
     }
 }
 
 // A record with one more pair.
 fn go_on(s: EdgeRecord, p: Raw) -> EdgeRecord
-    requires { ⌜ s .count + 1 < 2 ^ 32 ⌝ }
+    requires { ⌜ (s .count + 1 < 2 ^ 32) × (s .bridged ≤ s .count) ⌝ }
     ensures { λ r. ⌜ r ≡ plus s (pairIs p) ⌝ }
 {
     EdgeRecord {
@@ -281,6 +272,7 @@ fn go_on(s: EdgeRecord, p: Raw) -> EdgeRecord
         count: s.count + 1,
         sum1: s.sum1 + p.vel1,
         sum2: s.sum2 + p.vel2,
+        bridged: plus_one_if(p.bridged, s.bridged),
     }
 }
 
@@ -302,13 +294,14 @@ fn put_edge(
     s: EdgeRecord,
     e: usize,
 )
-    requires { ⌜ (t + 5 * c ≤ length (now w)) × (c ≤ length (now d)) × (e < c) ⌝ }
+    requires { ⌜ (t + 6 * c ≤ length (now w)) × (c ≤ length (now d)) × (e < c) ⌝ }
     ensures { λ _. ⌜ now (w .exit) ≡ written (now (w .entry)) t c e s ⌝ }
     ensures { λ _. ⌜ now (d .exit) ≡ set (now (d .entry)) e (difference «two_nyquist» s) ⌝ }
 {
     w[t + e] = s.count;
     w[t + layout::FIRST * c + e] = s.one;
     w[t + layout::SECOND * c + e] = s.two;
+    w[t + layout::BRIDGED * c + e] = s.bridged;
     d[e] = difference(s, two_nyquist);
 }
 
@@ -337,7 +330,7 @@ fn gather_one(
 ) -> Gathering
     requires { ⌜ ReadsPairs (now w) (now vel) n m ⌝ }
     requires { ⌜ Slot (now w) (now d) n m t c (s .edges) ⌝ }
-    requires { ⌜ (i < m) × (s .«record» .count + 1 < 2 ^ 32) ⌝ }
+    requires { ⌜ (i < m) × (s .«record» .count + 1 < 2 ^ 32) × (s .«record» .bridged ≤ s .«record» .count) ⌝ }
     ensures { λ r. ⌜ GathersPair «two_nyquist» t c (pairAt (now (w .entry)) (now (vel .entry)) n i) s r (now (w .entry)) (now (w .exit)) (now (d .entry)) (now (d .exit)) ⌝ }
 {
     let p = pair_at(w, vel, n, m, i);
@@ -392,8 +385,8 @@ fn labels_at(w: &[u32], n: usize, m: usize, i: usize) -> Labels
     ensures { λ r. ⌜ LabelsAt (now (w .entry)) n i r ⌝ }
 {
     let x = w[layout::ORDER * n + i] as usize;
-    let g = w[n + x] as usize;
-    let h = w[layout::SEEN * n + x] as usize;
+    let g = (w[n + x] / 2) as usize;
+    let h = (w[layout::SEEN * n + x] / 2) as usize;
     Labels {
         one: w[g],
         two: w[h],
@@ -448,7 +441,7 @@ pub fn find_edges(
     requires { ⌜ FindsEdges f (now w) (now d) (now vel) n k t ⌝ }
     ensures { λ r. ⌜ Edged «two_nyquist» n (now (w .entry)) (now (w .exit)) (now (d .exit)) t r (used k (pairs f (seg (now (w .entry)) 0 n) (now (vel .entry)))) ⌝ }
 {
-    let m = pair_all(w, n, f);
+    let m = crate::pairs::pair_all(w, n, f);
     sort_pairs(w, n, m, k + 1);
     let e = count_runs(w, n, m);
     gather(w, d, vel, n, m, t, e, two_nyquist)

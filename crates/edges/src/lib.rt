@@ -1,2 +1,3 @@
 // Which regions see each other, and the edges between them.
 pub mod edges;
+pub mod pairs;

@@ -43,10 +43,10 @@ look-labelled s d labels (suc k) g h e = go (next s d g) e (look-labelled s d la
 
 module _ (ρ : ℕ → ℕ) where
   unfoldable pub renP : Pair → Pair
-  renP p = record { one = ρ (p .one); two = ρ (p .two); vel1 = p .vel1; vel2 = p .vel2 }
+  renP p = record { one = ρ (p .one); two = ρ (p .two); vel1 = p .vel1; vel2 = p .vel2; bridged = p .bridged }
 
   unfoldable pub renQ : EdgeRecord → EdgeRecord
-  renQ r = record { one = ρ (r .one); two = ρ (r .two); count = r .count; sum1 = r .sum1; sum2 = r .sum2 }
+  renQ r = record { one = ρ (r .one); two = ρ (r .two); count = r .count; sum1 = r .sum1; sum2 = r .sum2; bridged = r .bridged }
 
   plus-ren : (ps : List Pair) (r : EdgeRecord) → foldl plus (renQ r) (map renP ps) ≡ renQ (foldl plus r ps)
   unfolding plus renP renQ

@@ -16,7 +16,8 @@ use Rattle.locality.proofs.Spot.{shift, flag, shift-inj}
 use Rattle.locality.proofs.RootsEcho.{at}
 use Rattle.locality.proofs.LabelEcho.{Parts}
 use Rattle.lists.proofs.AllLaws.{all-each}
-use Rattle.edges.specs.Edges.{next, skip, look, sees, Pair, pairTo, pairsAt, pairs}
+use Rattle.edges.specs.Edges.{next, skip, look, sees, bridges, Pair, pairTo, pairsAt, pairs}
+use Rattle.edges.proofs.Bridged.{look-on}
 use Rattle.edges.specs.declared.edges.Shape.{Shape}
 use Rattle.edges.specs.declared.edges.Direction.{Direction}
 use Rattle.edges.specs.declared.edges.Direction.the-variants.{Left, Right, Top, Bottom}
@@ -92,6 +93,10 @@ module _ (E : ℕ → Bool) (s : Shape) (bs : List Bool) (f f′ : Found) (P : P
   unfolding sees
   sees-part d g e p = look-part d (suc (skip s d)) g (λ h w. sym (A d g h p w) ∙ e)
 
+  bridges-part : (d : Direction) (g : ℕ) → E g ≡ true → 0 < at L g → bridges s L′ d g ≡ bridges s L d g
+  unfolding bridges
+  bridges-part d g e p = ap (λ (o : Option ℕ). elim o [ none ↦ true | some h ↦ false ]) (look-part d 1 g (λ h w. sym (A d g h p (unfold sees in look-on s d L g (skip s d) h w)) ∙ e))
+
   sees-labelled : (d : Direction) (g h : ℕ) → sees s L d g ≡ some h → 0 < at L h
   unfolding sees
   sees-labelled d g h w = look-labelled s d L (suc (skip s d)) g h w
@@ -107,15 +112,15 @@ module _ (E : ℕ → Bool) (s : Shape) (bs : List Bool) (f f′ : Found) (P : P
 
   module _ (vel vel′ : List Float) (same-vel : (g : ℕ) → E g ≡ true → 0 < at L g → getD vel′ g nan ≡ getD vel g nan) where
     -- one look, from a labelled gate
-    pair-part : (d : Direction) (g : ℕ) → 0 < at L g → (o : Option ℕ) → sees s L d g ≡ o
-        → keep (pairIn (flag bs)) (pairTo L vel g o) ≡ cond (E g) (map (renP (shift bs)) (pairTo L′ vel′ g o)) []
+    pair-part : (d : Direction) (g : ℕ) (b : Bool) → 0 < at L g → (o : Option ℕ) → sees s L d g ≡ o
+        → keep (pairIn (flag bs)) (pairTo L vel g b o) ≡ cond (E g) (map (renP (shift bs)) (pairTo L′ vel′ g b o)) []
     unfolding pairTo keep
-    pair-part d g p none w = nothing (E g)
+    pair-part d g b p none w = nothing (E g)
       where
         nothing : (e : Bool) → [] ≡ cond e (map (renP (shift bs)) []) []
         nothing true = refl
         nothing false = refl
-    pair-part d g p (some h) w = go (E g) refl
+    pair-part d g b p (some h) w = go (E g) refl
       where
         q : 0 < at L h
         q = sees-labelled d g h w
@@ -124,7 +129,7 @@ module _ (E : ℕ → Bool) (s : Shape) (bs : List Bool) (f f′ : Found) (P : P
         side = A d g h p w
 
         pair : Pair
-        pair = record { one = at L g; two = at L h; vel1 = getD vel g nan; vel2 = getD vel h nan }
+        pair = record { one = at L g; two = at L h; vel1 = getD vel g nan; vel2 = getD vel h nan; bridged = b }
 
         passes : pairIn (flag bs) pair ≡ E g
         passes = unfold pairIn in rw (flag-side g p, flag-side h q, ← side) (and-self (E g))
@@ -137,12 +142,12 @@ module _ (E : ℕ → Bool) (s : Shape) (bs : List Bool) (f f′ : Found) (P : P
         into true e = refl
         into false e = rw (passes, e) refl
 
-        renamed : (c : Bool) → E g ≡ true → cond c [] (pair ∷ []) ≡ map (renP (shift bs)) (cond c [] (record { one = at L′ g; two = at L′ h; vel1 = getD vel′ g nan; vel2 = getD vel′ h nan } ∷ []))
+        renamed : (c : Bool) → E g ≡ true → cond c [] (pair ∷ []) ≡ map (renP (shift bs)) (cond c [] (record { one = at L′ g; two = at L′ h; vel1 = getD vel′ g nan; vel2 = getD vel′ h nan; bridged = b } ∷ []))
         renamed true e = refl
         renamed false e = unfold renP in rw (same-vel g e p, same-vel h (sym side ∙ e) q, P .within g e, P .within h (sym side ∙ e)) refl
 
         go : (e : Bool) → E g ≡ e → keep (pairIn (flag bs)) (cond (eqb (at L g) (at L h)) [] (pair ∷ []))
-            ≡ cond e (map (renP (shift bs)) (cond (eqb (at L′ g) (at L′ h)) [] (record { one = at L′ g; two = at L′ h; vel1 = getD vel′ g nan; vel2 = getD vel′ h nan } ∷ []))) []
+            ≡ cond e (map (renP (shift bs)) (cond (eqb (at L′ g) (at L′ h)) [] (record { one = at L′ g; two = at L′ h; vel1 = getD vel′ g nan; vel2 = getD vel′ h nan; bridged = b } ∷ []))) []
         go true e =
             let t : eqb (at L g) (at L h) ≡ eqb (at L′ g) (at L′ h) = rw (P .within g e, P .within h (sym side ∙ e)) (eqb-renamed (shift bs) (shift-inj bs) (at L′ g) (at L′ h)) in
             into (eqb (at L g) (at L h)) e ∙ (rw t (renamed (eqb (at L′ g) (at L′ h)) e))
@@ -156,7 +161,7 @@ module _ (E : ℕ → Bool) (s : Shape) (bs : List Bool) (f f′ : Found) (P : P
         dirs = Left ∷ Right ∷ Top ∷ Bottom ∷ []
 
         seen : (labels : List ℕ) → List Float → Direction → List Pair
-        seen labels v d = pairTo labels v g (sees s labels d g)
+        seen labels v d = pairTo labels v g (bridges s labels d g) (sees s labels d g)
 
         empty : at L′ g ≡ 0 → [] ≡ map (renP (shift bs)) (cond (eqb (at L′ g) 0) [] (each (seen L′ vel′) dirs))
         empty h = rw h refl
@@ -164,7 +169,7 @@ module _ (E : ℕ → Bool) (s : Shape) (bs : List Bool) (f f′ : Found) (P : P
         inE : (e : Bool) → E g ≡ e → 0 < at L g → keep (pairIn (flag bs)) (each (seen L vel) dirs) ≡ map (renP (shift bs)) (cond (eqb (at L′ g) 0) [] (each (seen L′ vel′) dirs))
         inE true e p =
             keep-each (pairIn (flag bs)) (seen L vel) dirs
-            ∙ each-same (λ d. keep (pairIn (flag bs)) (seen L vel d)) (λ d. map (renP (shift bs)) (seen L′ vel′ d)) dirs (λ d. pair-part d g p (sees s L d g) refl ∙ (rw (e, ← (sees-part d g e p)) refl))
+            ∙ each-same (λ d. keep (pairIn (flag bs)) (seen L vel d)) (λ d. map (renP (shift bs)) (seen L′ vel′ d)) dirs (λ d. pair-part d g (bridges s L d g) p (sees s L d g) refl ∙ (rw (e, ← (sees-part d g e p), ← (bridges-part d g e p)) refl))
             ∙ sym (map-each (renP (shift bs)) (seen L′ vel′) dirs)
             ∙ (let q : eqb (at L′ g) 0 ≡ false = ne-eqb (at L′ g) 0 (λ w. positive (suc-part g e p) w) in rw q refl)
           where
@@ -172,7 +177,7 @@ module _ (E : ℕ → Bool) (s : Shape) (bs : List Bool) (f f′ : Found) (P : P
             positive h w = omega arith
         inE false e p =
             keep-each (pairIn (flag bs)) (seen L vel) dirs
-            ∙ each-same (λ d. keep (pairIn (flag bs)) (seen L vel d)) (λ d. []) dirs (λ d. pair-part d g p (sees s L d g) refl ∙ (rw e refl))
+            ∙ each-same (λ d. keep (pairIn (flag bs)) (seen L vel d)) (λ d. []) dirs (λ d. pair-part d g (bridges s L d g) p (sees s L d g) refl ∙ (rw e refl))
             ∙ (unfold each in empty (P .outside g e))
 
         go : (b : Bool) → eqb (at L g) 0 ≡ b → keep (pairIn (flag bs)) (cond b [] (each (seen L vel) dirs)) ≡ map (renP (shift bs)) (cond (eqb (at L′ g) 0) [] (each (seen L′ vel′) dirs))
@@ -200,14 +205,14 @@ pairs-all R s labels vel H = all-each Good (pairsAt s labels vel) (upto (length 
     Good : Pair → Type 0
     Good x = R (x .one) (x .two)
 
-    one : (d : Direction) (g : ℕ) → 0 < at labels g → (o : Option ℕ) → sees s labels d g ≡ o → All Good (pairTo labels vel g o)
-    one d g q none w = unfold pairTo in tt
-    one d g q (some h) w = unfold pairTo in (go (eqb (at labels g) (at labels h)))
+    one : (d : Direction) (g : ℕ) (b : Bool) → 0 < at labels g → (o : Option ℕ) → sees s labels d g ≡ o → All Good (pairTo labels vel g b o)
+    one d g b q none w = unfold pairTo in tt
+    one d g b q (some h) w = unfold pairTo in (go (eqb (at labels g) (at labels h)))
       where
         r : 0 < at labels h
         r = unfold sees in look-labelled s d labels (suc (skip s d)) g h w
 
-        go : (c : Bool) → All Good (cond c [] (record { one = at labels g; two = at labels h; vel1 = getD vel g nan; vel2 = getD vel h nan } ∷ []))
+        go : (c : Bool) → All Good (cond c [] (record { one = at labels g; two = at labels h; vel1 = getD vel g nan; vel2 = getD vel h nan; bridged = b } ∷ []))
         go true = tt
         go false = (H d g h q r w, tt)
 
@@ -217,9 +222,9 @@ pairs-all R s labels vel H = all-each Good (pairsAt s labels vel) (upto (length 
         positive : (at labels g ≡ 0 → ⊥) → 0 < at labels g
         positive h = omega arith
 
-        go : (b : Bool) → eqb (at labels g) 0 ≡ b → All Good (cond b [] (each (λ d. pairTo labels vel g (sees s labels d g)) (Left ∷ Right ∷ Top ∷ Bottom ∷ [])))
+        go : (b : Bool) → eqb (at labels g) 0 ≡ b → All Good (cond b [] (each (λ d. pairTo labels vel g (bridges s labels d g) (sees s labels d g)) (Left ∷ Right ∷ Top ∷ Bottom ∷ [])))
         go true e = tt
-        go false e = all-each Good (λ d. pairTo labels vel g (sees s labels d g)) (Left ∷ Right ∷ Top ∷ Bottom ∷ []) (λ d. one d g (positive (eqb-false (at labels g) 0 e)) (sees s labels d g) refl)
+        go false e = all-each Good (λ d. pairTo labels vel g (bridges s labels d g) (sees s labels d g)) (Left ∷ Right ∷ Top ∷ Bottom ∷ []) (λ d. one d g (bridges s labels d g) (positive (eqb-false (at labels g) 0 e)) (sees s labels d g) refl)
 
 -- What a test says of a gate's label, where it is the gate's side, it says of both labels of a pair
 pub pairs-sides : (E : ℕ → Bool) (s : Shape) (labels : List ℕ) (vel : List Float) (p : ℕ → Bool) → ApartIn E s labels → ((g : ℕ) → 0 < at labels g → p (at labels g) ≡ E g)

@@ -9,15 +9,8 @@ use lib.Dec.{ltb, leb, eqb}
 use lib.ListN.{length, length-map}
 use lib.IntN.{ℤ}
 use Rattle.lists.proofs.SeqLaws.{eqb-renamed}
+use Rattle.network.proofs.Lists.{map-swap, cond-map}
 use Rattle.network.specs.Network.{Edge, Region, State, Plan, Link, Event, sizeOf, gather, members, raised, at, planFor, plan, kill, adjust, turnIf, turn, find, absorb, hand, combine, prepare, joinAll, mergeEdges, move, merge, stepTo, step, better, choose, follow, run, merges, eventOf, event, trace, replay}
-
-map-swap : {A B : Type 0} (f : A → B) (g : A → A) (h : B → B) → ((a : A) → h (f a) ≡ f (g a)) → (l : List A) → map h (map f l) ≡ map f (map g l)
-map-swap f g h e [] = refl
-map-swap f g h e (x ∷ xs) = rw (e x, map-swap f g h e xs) refl
-
-cond-map : {A B : Type 0} (f : A → B) (b : Bool) (x y : A) → f (cond b x y) ≡ cond b (f x) (f y)
-cond-map f true x y = refl
-cond-map f false x y = refl
 
 module _ (ρ σ : ℕ → ℕ) where
   unfoldable pub renE : Edge → Edge

@@ -16,14 +16,17 @@ pub const ORDER: usize = 9;
 
 pub const TABLES: usize = 13;
 
-// In edges, from the tables on: where the first ends begin, the second ends, the slots of the chains, and what there is of each node.
+// In edges, from the tables on: where the first ends begin, the second ends, the numbers of bridged pairs, the slots of the chains, and what
+// there is of each node.
 pub const FIRST: usize = 3;
 
 pub const SECOND: usize = 4;
 
-pub const SLOTS: usize = 5;
+pub const BRIDGED: usize = 5;
 
-pub const NODES: usize = 7;
+pub const SLOTS: usize = 6;
+
+pub const NODES: usize = 8;
 
 // In nodes, from there on: where the stamps begin, the sizes, the lengths of the chains of slots and of regions, and the counts.
 // The headers of the slots lie before them, and the chains of regions one table further on.

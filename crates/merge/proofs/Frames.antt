@@ -5,14 +5,14 @@ use Prim.Native.Nat.{ℕ, zero, suc, _+_, _*_, _-_, _/_}
 use lib.Dec.{eqb, ltb}
 use lib.Ieee.{nan, Float, neg}
 use lib.ListN.{getD}
-use Rattle.merge.specs.Inside.Table.{Table, weight, first, second, enext, elen, is}
+use Rattle.merge.specs.Inside.Table.{Table, weight, first, second, bridged, enext, elen, is}
 use Rattle.merge.specs.Inside.Tables.{Tables, store}
-use Rattle.merge.specs.Inside.Steps.{spent, dropAt, passed, kept, along, pruned, movedAll, turnAt, turned, faceAt, mate, absorbAt, attachAt, joinEdge, shift, movedEdge, takeEdge, walkMoved}
+use Rattle.merge.specs.Inside.Steps.{spent, dropAt, passed, kept, along, pruned, movedAll, turnAt, turned, faceAt, mate, handOver, absorbAt, attachAt, joinEdge, shift, movedEdge, takeEdge, walkMoved}
 use Rattle.merge.proofs.TableLaws.{Alike, alike-refl, alike-then, alike-store, alike-diff}
 
 -- the tables of the edges themselves
 abbrev ofEdges : Table → Bool
-ofEdges u = is weight u || is first u || is second u
+ofEdges u = is weight u || is first u || is second u || is bridged u
 
 -- all other tables are alike
 abbrev pub Frame : Tables → Tables → Type 0
@@ -35,9 +35,13 @@ frame-face s f = go (turned s f)
     go true = frame-then _ _ _ (alike-diff ofEdges _ f _) (frame-then _ _ _ (frame-store second _ f _ refl) (frame-store first s f _ refl))
     go false = frame-refl s
 
+frame-hand : (t : Table) (s : Tables) (q f : ℕ) → ofEdges t ≡ true → Frame (handOver t s q f) s
+unfolding handOver
+frame-hand t s q f e = frame-then _ _ _ (frame-store t _ f 0 e) (frame-store t s q _ e)
+
 pub frame-absorb : (s : Tables) (q f : ℕ) (x : Float) → Frame (absorbAt s q f x) s
 unfolding absorbAt
-frame-absorb s q f x = frame-then _ _ _ (frame-store weight _ f 0 refl) (frame-then _ _ _ (frame-store weight _ q _ refl) (alike-diff ofEdges s q _))
+frame-absorb s q f x = frame-then _ _ _ (frame-hand weight _ q f refl) (frame-then _ _ _ (frame-hand bridged _ q f refl) (alike-diff ofEdges s q _))
 
 pub frame-attach : (b : ℕ) (s : Tables) (f c : ℕ) (x : Float) → Frame (attachAt b s f c x) s
 unfolding attachAt

@@ -1,19 +1,33 @@
--- `join_edge`, `moved_edge` and `take_edge` over plain values. Assumes nothing.
+-- `absorb`, `join_edge`, `moved_edge` and `take_edge` over plain values. Assumes nothing.
 use mathlib.Core.Path.{_≡_, refl, sym, ap, _∙_, subst}
 use mathlib.Core.Bool.{true, false}
 use mathlib.Core.List.{List}
 use Prim.Native.Nat.{ℕ, _+_, _*_, _-_, _≤_, _<_}
 use lib.Dec.{T, eqb}
-use lib.Ieee.{nan, binary32, fits, Float, neg}
-use lib.ListN.{length, getD}
+use lib.Ieee.{nan, binary32, fits, Float, neg, add}
+use lib.ListN.{length, getD, set, length-set}
 use borrow.Author.Tests.{lt-ltb, le-ltb, eq-eqb, ne-eqb}
 use Rattle.merge.specs.Inside.Tables.{Tables, view, HoldsTables, Sound}
-use Rattle.merge.specs.Inside.Table.{weight, first, second}
-use Rattle.merge.specs.Inside.Steps.{faceAt, mate, absorbAt, attachAt, joinEdge, shift, movedEdge, takeEdge}
+use Rattle.merge.specs.Inside.Table.{weight, first, second, bridged}
+use Rattle.merge.specs.Inside.Steps.{faceAt, mate, handOver, absorbAt, attachAt, joinEdge, shift, movedEdge, takeEdge}
 use Rattle.merge.specs.Inside.Leaves.{LeavesTables, OtherEdge, Joins, Gains}
-use Rattle.merge.proofs.View.{weight-at, read}
-use Rattle.merge.proofs.SoundSteps.{sound-face, joins-first, joins-second}
+use Rattle.merge.proofs.View.{weight-at, read, diff-put}
+use Rattle.merge.proofs.SoundSet.{sound-diff}
+use Rattle.merge.proofs.SoundSteps.{add-ok, sound-hand, sound-face, joins-first, joins-second}
 use Rattle.merge.proofs.Leaf.{room-of}
+
+-- the tables before the bridged pairs are handed over, and after it
+pub hand-ready : (m n : ℕ) (w : List ℕ) (d : List Float) (q : ℕ) (x z : Float) → HoldsTables m n w d → Sound m n (view m n w d) → z ≡ add binary32 (getD d q nan) x
+    → HoldsTables m n w (set d q z) × Sound m n (view m n w (set d q z))
+hand-ready m n w d q x z r h e = (
+  room-of m n w w d (set d q z) r refl (length-set d q z) (r .tree),
+  subst (Sound m n) (sym (diff-put m n w d q z)) (sound-diff m n (view m n w d) h q z (subst (λ (y : Float). T (fits binary32 y)) (sym e) (add-ok (getD d q nan) x))),
+)
+
+pub hand-room : (m n : ℕ) (w : List ℕ) (d : List Float) (q f : ℕ) (w₁ : List ℕ) (d₁ : List Float) → HoldsTables m n w d × Sound m n (view m n w d) → OtherEdge m q f → length w₁ ≡ length w → length d₁ ≡ length d
+    → LeavesTables m n w₁ d₁ (handOver bridged (view m n w d) q f) → HoldsTables m n w₁ d₁ × Sound m n (view m n w₁ d₁)
+hand-room m n w d q f w₁ d₁ r o lw ld D₁ =
+    (room-of m n w w₁ d d₁ (r .0) lw ld (D₁ .tree), subst (Sound m n) (sym (D₁ .tables)) (sound-hand bridged m n (view m n w d) q f (r .1) (λ x. tt) (o .q-in) (o .f-in) (o .apart)))
 
 pub join-apart : (m n b : ℕ) (s : Tables) (f c q : ℕ) → Joins m n b s f c → q ≡ mate m b s c → q < m → OtherEdge m q f
 join-apart m n b s f c q j e lt = record { q-in = lt; f-in = j .f-in; apart = λ r. j .other (sym e ∙ r) }

@@ -76,7 +76,7 @@ raise-keeps m n g (suc k) s x t e lt h = go (countInRange (getD (s .at count) x 
     go : (b : Bool) → countInRange (getD (s .at count) x 0 + g) ≡ b → cond b (walkRaise k g s₁ (getD (s .at rnext) x 0)) none ≡ some t
         → (walkRaise k g s₁ (getD (s .at rnext) x 0) ≡ some t → getD (s .at rnext) x 0 < n → Sound m n s₁ → Sound m n t × CountsDiffer t s₁) → Sound m n t × CountsDiffer t s
     go true a q ih =
-        let w : Sound m n t × CountsDiffer t s₁ = ih q (h .within rnext x lt) (sound-store count m n s h x (getD (s .at count) x 0 + g - 1000) refl (accepted-most (getD (s .at count) x 0 + g) a)) in
+        let w : Sound m n t × CountsDiffer t s₁ = ih q (h .within rnext x lt) (sound-store count m n s h x (getD (s .at count) x 0 + g - 1000) refl refl (accepted-most (getD (s .at count) x 0 + g) a)) in
         (w .0, counted-store t s x _ (w .1))
     go false a q ih = absurd (Option·none-ne-some t q)
 
@@ -115,7 +115,7 @@ module _ (m n b v g k e : ℕ) (w : List ℕ) (d : List Float) (r : HoldsTables 
     room₂ = room-of m n w w₂ d d₂ r (lw₂ ∙ len₁) ld₂ (D₂ .tree)
 
     sound₂ : Sound m n (view m n w₂ d₂)
-    sound₂ = subst (Sound m n) (sym tables₂) (sound-store stamp m n (store weight s e 0) sound₁ b k refl tt)
+    sound₂ = subst (Sound m n) (sym tables₂) (sound-store stamp m n (store weight s e 0) sound₁ b k refl refl tt)
 
     pub merge-raise : HoldsTables m n w₂ d₂ × (Sound m n (view m n w₂ d₂) × ((v < n) × (g ≤ 2000)))
     merge-raise = (room₂, (sound₂, (ok .v-in, ok .g-in)))

@@ -34,29 +34,29 @@ module _ (m n : ℕ) (w : List ℕ) (d : List Float) (x : ℕ) where
 -- ---- drop_slot
 module _ (m n b p x : ℕ) where
   pub drop-does : (w : List ℕ) (d : List Float) → HoldsTables m n w d → Slots m n b p x (view m n w d)
-      → LeavesTables m n (set (set (set w (5 * m + p) (getD w (5 * m + x) 0)) (5 * m + x) x) (7 * m + 4 * n + b) (getD w (7 * m + 4 * n + b) 0 - 1)) d (dropAt b (view m n w d) p x)
+      → LeavesTables m n (set (set (set w (6 * m + p) (getD w (6 * m + x) 0)) (6 * m + x) x) (8 * m + 4 * n + b) (getD w (8 * m + 4 * n + b) 0 - 1)) d (dropAt b (view m n w d) p x)
   unfolding dropAt
   drop-does w d r k =
-      let t : ℕ = getD w (5 * m + x) 0 in
-      let l : ℕ = getD w (7 * m + 4 * n + b) 0 in
-      let w₁ : List ℕ = set w (5 * m + p) t in
-      let w₂ : List ℕ = set w₁ (5 * m + x) x in
+      let t : ℕ = getD w (6 * m + x) 0 in
+      let l : ℕ = getD w (8 * m + 4 * n + b) 0 in
+      let w₁ : List ℕ = set w (6 * m + p) t in
+      let w₂ : List ℕ = set w₁ (6 * m + x) x in
       let l₀ : tableWords m n ≤ length w = r .words in
-      let l₁ : length w₁ ≡ length w = length-set w (5 * m + p) t in
-      let l₂ : length w₂ ≡ length w₁ = length-set w₁ (5 * m + x) x in
+      let l₁ : length w₁ ≡ length w = length-set w (6 * m + p) t in
+      let l₂ : length w₂ ≡ length w₁ = length-set w₁ (6 * m + x) x in
       record {
         tables = rw (read enext m n w d x (k .x-in), read elen m n w d b (k .b-in))
             (write elen m n w₂ d b (l - 1) (k .b-in) (omega arith)
             ∙ ap (λ (s : Tables). store elen s b (l - 1)) (write enext m n w₁ d x x (k .x-in) (omega arith)
             ∙ ap (λ (s : Tables). store enext s x x) (write enext m n w d p t (k .p-in) l₀)));
-        tree = tree-set m w₂ (7 * m + 4 * n + b) (l - 1) (omega arith) (tree-set m w₁ (5 * m + x) x (omega arith) (tree-set m w (5 * m + p) t (omega arith) (r .tree)));
+        tree = tree-set m w₂ (8 * m + 4 * n + b) (l - 1) (omega arith) (tree-set m w₁ (6 * m + x) x (omega arith) (tree-set m w (6 * m + p) t (omega arith) (r .tree)));
       }
 
   pub sound-drop : (s : Tables) → Sound m n s → p < 2 * m + n → x < 2 * m + n → Sound m n (dropAt b s p x)
   unfolding dropAt
   sound-drop s h hp hx =
-      let h₁ : Sound m n (store enext s p (getD (s .at enext) x 0)) = sound-store enext m n s h p (getD (s .at enext) x 0) refl (h .within enext x hx) in
-      sound-store elen m n _ (sound-store enext m n _ h₁ x x refl hx) b _ refl tt
+      let h₁ : Sound m n (store enext s p (getD (s .at enext) x 0)) = sound-store enext m n s h p (getD (s .at enext) x 0) refl refl (h .within enext x hx) in
+      sound-store elen m n _ (sound-store enext m n _ h₁ x x refl refl hx) b _ refl refl tt
 
   -- ---- pass_slot
   module _ (s : Tables) (w : List ℕ) (d : List Float) (q : Bool) (is : q ≡ spent m s x) where
@@ -93,7 +93,7 @@ pub record Pass (m n b : ℕ) (w₀ : List ℕ) (d₀ : List Float) (w : List �
 
 module _ (m n b : ℕ) (hb : b < n) where
   pub prune-start : (w : List ℕ) (d : List Float) → HoldsTables m n w d → Sound m n (view m n w d)
-      → Pass m n b w d w d (getD w (7 * m + 4 * n + b) 0) (2 * m + b) (getD w (5 * m + (2 * m + b)) 0) 1 (pruned m b (view m n w d))
+      → Pass m n b w d w d (getD w (8 * m + 4 * n + b) 0) (2 * m + b) (getD w (6 * m + (2 * m + b)) 0) 1 (pruned m b (view m n w d))
   unfolding pruned
   prune-start w d r h = record {
     room = r;
@@ -164,13 +164,13 @@ module _ (m n b : ℕ) (hb : b < n) where
     prune-slots lt = record { b-in = hb; p-in = k .p-in; x-in = k .x-in; some = omega (arith, k .long) }
 
     pub prune-turned : i < l → (w' : List ℕ) (d' : List Float) (q : ℕ) → Passes m n w' d' (passed m b (view m n w d) p x) (kept m (view m n w d) p x) q → length w' ≡ length w → length d' ≡ length d
-        → Pass m n b w₀ d₀ w' d' l q (getD w (5 * m + x) 0) (i + 1) goal
+        → Pass m n b w₀ d₀ w' d' l q (getD w (6 * m + x) 0) (i + 1) goal
     unfolding along
     prune-turned lt w' d' q e lw ld =
         let s : Tables = view m n w d in
         let s' : Tables = passed m b s p x in
         let z : l - i ≡ suc (l - (i + 1)) = omega arith in
-        let nx : getD (s .at enext) x 0 ≡ getD w (5 * m + x) 0 = read enext m n w d x (k .x-in) in
+        let nx : getD (s .at enext) x 0 ≡ getD w (6 * m + x) 0 = read enext m n w d x (k .x-in) in
         let el : getD (view m n w' d' .at elen) b 0 ≡ getD (s' .at elen) b 0 = ap (λ (u : Tables). getD (u .at elen) b 0) (e .does .tables) in
         record {
           room = room-of m n w w' d d' (k .room) lw ld (e .does .tree);
@@ -179,7 +179,7 @@ module _ (m n b : ℕ) (hb : b < n) where
           x-in = omega (arith, k .sound .within enext x (k .x-in));
           some-i = omega arith;
           long = omega (arith, k .long, passed-len s p x (k .sound));
-          left = ap (λ (u : Tables). along (l - (i + 1)) m b u q (getD w (5 * m + x) 0)) (e .does .tables) ∙ ap (λ (u : ℕ). along (l - (i + 1)) m b s' u (getD w (5 * m + x) 0)) (e .prev)
+          left = ap (λ (u : Tables). along (l - (i + 1)) m b u q (getD w (6 * m + x) 0)) (e .does .tables) ∙ ap (λ (u : ℕ). along (l - (i + 1)) m b s' u (getD w (6 * m + x) 0)) (e .prev)
               ∙ ap (along (l - (i + 1)) m b s' (kept m s p x)) (sym nx) ∙ ap (λ (y : ℕ). along y m b s p x) (sym z) ∙ k .left;
           same-w = lw ∙ k .same-w;
           same-d = ld ∙ k .same-d;

@@ -1,8 +1,8 @@
 -- Each step keeps the tables sound. Assumes nothing.
-use mathlib.Core.Path.{_≡_, refl, sym, _∙_, subst}
+use mathlib.Core.Path.{_≡_, refl, sym, ap, _∙_, subst}
 use mathlib.Core.Logic.{⊎-elim}
 use mathlib.Core.Bool.{Bool, true, false, cond}
-use Prim.Native.Nat.{ℕ, _+_, _<_, _^_}
+use Prim.Native.Nat.{ℕ, _+_, _<_}
 use native.Mathlib.Omega.{arith}
 use lib.Dec.{T, eqb, ltb}
 use lib.Ieee.{nan, binary32, fits, Float, neg, add}
@@ -10,17 +10,18 @@ use lib.Ieee.Fits as Fits
 use lib.ListN.{length, getD, set}
 use borrow.Author.Tests.{ltb-true, eqb-true, eqb-false}
 use Rattle.lists.specs.Seq.{sum}
-use Rattle.merge.specs.Inside.Tables.{Tables, Sound, store, diff-set}
-use Rattle.merge.specs.Inside.Table.{weight, first, second}
-use Rattle.merge.specs.Inside.Steps.{unbias, turnAt, turned, faceAt, mate, absorbAt, attachAt, joinEdge, shift, movedEdge, takeEdge}
+use Rattle.merge.specs.Inside.Tables.{Tables, Sound, limit, Below, store, diff-set}
+use Rattle.merge.specs.Inside.Table.{Table, weight, first, second, bridged, is}
+use Rattle.merge.specs.Inside.Steps.{unbias, turnAt, turned, faceAt, mate, handOver, absorbAt, attachAt, joinEdge, shift, movedEdge, takeEdge}
 use Rattle.merge.specs.Inside.Leaves.{Joins, Gains}
 use Rattle.merge.proofs.SoundSet.{Ranges, ranges-of, ranges-store, sound-store, sound-diff}
+use Rattle.merge.proofs.TableLaws.{same-table}
 use Rattle.merge.proofs.Mates.{Mate, mate-is}
 use Rattle.merge.proofs.Leaf.{sum-move}
 use Rattle.arithmetic.specs.Rounding.{scale}
 
 -- what the sums and negations give fits an f32
-add-ok : (x y : Float) → T (fits binary32 (add binary32 x y))
+pub add-ok : (x y : Float) → T (fits binary32 (add binary32 x y))
 unfolding add
 add-ok x y = Fits.add-fits binary32 x y
 
@@ -39,8 +40,8 @@ shift-ok b g w x h = go (eqb g 1000)
 sound-turn : (m n : ℕ) (s : Tables) (f : ℕ) → Sound m n s → f < m → Sound m n (turnAt s f)
 unfolding turnAt store
 sound-turn m n s f h lt =
-    let h₁ : Sound m n (store first s f (getD (s .at second) f 0)) = sound-store first m n s h f (getD (s .at second) f 0) refl (h .within second f lt) in
-    let h₂ : Sound m n (store second (store first s f (getD (s .at second) f 0)) f (getD (s .at first) f 0)) = sound-store second m n _ h₁ f (getD (s .at first) f 0) refl (h .within first f lt) in
+    let h₁ : Sound m n (store first s f (getD (s .at second) f 0)) = sound-store first m n s h f (getD (s .at second) f 0) refl refl (h .within second f lt) in
+    let h₂ : Sound m n (store second (store first s f (getD (s .at second) f 0)) f (getD (s .at first) f 0)) = sound-store second m n _ h₁ f (getD (s .at first) f 0) refl refl (h .within first f lt) in
     sound-diff m n _ h₂ f (neg (getD (s .diff) f nan)) (neg-ok _ (h .single f lt))
 
 pub sound-face : (m n : ℕ) (s : Tables) (f : ℕ) → Sound m n s → f < m → Sound m n (faceAt s f)
@@ -51,24 +52,42 @@ sound-face m n s f h lt = go (turned s f)
     go true = sound-turn m n s f h lt
     go false = h
 
+-- what an edge hands over stays in the sum
+sum-hand : (t u : Table) (s : Tables) (q f : ℕ) → q < length (s .at u) → f < length (s .at u) → (q ≡ f → ⊥) → sum (handOver t s q f .at u) ≡ sum (s .at u)
+unfolding handOver store
+sum-hand t u s q f hq hf ne = go (is t u) refl
+  where
+    both : Table → ℕ
+    both y = getD (s .at y) q 0 + getD (s .at y) f 0
+
+    go : (b : Bool) → is t u ≡ b → sum (cond b (set (cond b (set (s .at u) q (both t)) (s .at u)) f 0) (cond b (set (s .at u) q (both t)) (s .at u))) ≡ sum (s .at u)
+    go true e = ap (λ (y : Table). sum (set (set (s .at u) q (both y)) f 0)) (same-table t u e) ∙ sum-move (s .at u) q f hq hf ne
+    go false e = refl
+
+pub sound-hand : (t : Table) (m n : ℕ) (s : Tables) (q f : ℕ) → Sound m n s → ((x : ℕ) → Below (limit t m n) x) → q < m → f < m → (q ≡ f → ⊥) → Sound m n (handOver t s q f)
+unfolding handOver store
+sound-hand t m n s q f h free hq hf ne =
+    let v : ℕ = getD (s .at t) q 0 + getD (s .at t) f 0 in
+    let r : Ranges m n (handOver t s q f) = ranges-store t m n (store t s q v) (ranges-store t m n s (ranges-of m n s h) q v (free v)) f 0 (free 0) in
+    record {
+      lengths = r .lengths;
+      l-diff = h .l-diff;
+      within = r .within;
+      single = h .single;
+      light = omega (arith, sum-hand t weight s q f (omega (arith, h .lengths weight)) (omega (arith, h .lengths weight)) ne, h .light);
+      spanned = omega (arith, sum-hand t bridged s q f (omega (arith, h .lengths bridged)) (omega (arith, h .lengths bridged)) ne, h .spanned);
+    }
+
 sound-absorb : (m n : ℕ) (s : Tables) (q f : ℕ) (x : Float) → Sound m n s → q < m → f < m → (q ≡ f → ⊥) → Sound m n (absorbAt s q f x)
-unfolding absorbAt store diff-set
+unfolding absorbAt
 sound-absorb m n s q f x h hq hf ne =
     let h₁ : Sound m n (diff-set s q (add binary32 (getD (s .diff) q nan) x)) = sound-diff m n s h q (add binary32 (getD (s .diff) q nan) x) (add-ok _ x) in
-    let lq : q < length (s .at weight) = omega (arith, h .lengths weight) in
-    let lf : f < length (s .at weight) = omega (arith, h .lengths weight) in
-    let t : sum (set (set (s .at weight) q (getD (s .at weight) q 0 + getD (s .at weight) f 0)) f 0) ≡ sum (s .at weight) = sum-move (s .at weight) q f lq lf ne in
-    two m n (diff-set s q (add binary32 (getD (s .diff) q nan) x)) q f (getD (s .at weight) q 0 + getD (s .at weight) f 0) h₁ (omega (arith, h .light))
-  where
-    two : (m n : ℕ) (u : Tables) (q f v : ℕ) → Sound m n u → sum (set (set (u .at weight) q v) f 0) < 2 ^ 32 → Sound m n (store weight (store weight u q v) f 0)
-    two m n u q f v h k =
-        let r : Ranges m n (store weight (store weight u q v) f 0) = ranges-store weight m n (store weight u q v) (ranges-store weight m n u (ranges-of m n u h) q v tt) f 0 tt in
-        record { lengths = r .lengths; l-diff = h .l-diff; within = r .within; single = h .single; light = k }
+    sound-hand weight m n _ q f (sound-hand bridged m n _ q f h₁ (λ v. tt) hq hf ne) (λ v. tt) hq hf ne
 
 sound-attach : (m n b : ℕ) (s : Tables) (f c : ℕ) (x : Float) → Sound m n s → f < m → b < n → c < n → T (fits binary32 x) → Sound m n (attachAt b s f c x)
 unfolding attachAt
 sound-attach m n b s f c x h lt hb hc fx =
-    sound-diff m n _ (sound-store second m n _ (sound-store first m n s h f b refl hb) f c refl hc) f x fx
+    sound-diff m n _ (sound-store second m n _ (sound-store first m n s h f b refl refl hb) f c refl refl hc) f x fx
 
 sound-join : (m n b : ℕ) (s : Tables) (f c : ℕ) (x : Float) → Sound m n s → Joins m n b s f c → T (fits binary32 x) → Sound m n (joinEdge m b s f c x)
 unfolding joinEdge

@@ -9,8 +9,8 @@ ghost use lib.Ieee.{binary32, fits, add};
 ghost use Rattle.arithmetic.specs.Rounding.{scale};
 ghost use lib.ListN.{getD};
 ghost use Rattle.merge.specs.Inside.Tables.{view, HoldsTables, Sound, store};
-ghost use Rattle.merge.specs.Inside.Table.{stamp, rlen};
-ghost use Rattle.merge.specs.Inside.Steps.{unbias, spent, passed, kept, dropAt, pruned, faceAt, joinsAt, seekAll, mate, absorbAt, attachAt, joinEdge, shift};
+ghost use Rattle.merge.specs.Inside.Table.{bridged, stamp, rlen};
+ghost use Rattle.merge.specs.Inside.Steps.{unbias, spent, passed, kept, dropAt, pruned, faceAt, joinsAt, seekAll, mate, handOver, absorbAt, attachAt, joinEdge, shift};
 ghost use Rattle.merge.specs.Inside.Steps.{movedEdge, takeEdge, movedAll, walkRaise, splice, grow, handed, merged};
 ghost use Rattle.merge.specs.Inside.Leaves.{LeavesTables, Raised, Passes, Slots, OtherEdge, Joins, Gains, Fit};
 
@@ -212,6 +212,22 @@ fn mate(w: &[u32], d: &[f64], m: usize, n: usize, b: u32, c: u32) -> usize
     seek(w, d, m, n, b, c, c)
 }
 
+// Edge f's bridged pairs go to edge q.
+fn hand_bridged(w: &mut [u32], d: &mut [f64], m: usize, n: usize, q: usize, f: usize)
+    requires { ⌜ HoldsTables m n (now w) (now d) ⌝ }
+    requires { ⌜ Sound m n (view m n (now w) (now d)) ⌝ }
+    requires { ⌜ OtherEdge m q f ⌝ }
+    ensures { λ _. ⌜ LeavesTables m n (now (w .exit)) (now (d .exit)) (handOver bridged (view m n (now (w .entry)) (now (d .entry))) q f) ⌝ }
+{
+    let b = w[layout::BRIDGED * m + f];
+    if b == 0 {
+        return;
+    }
+    let t = w[layout::BRIDGED * m + q] + b;
+    w[layout::BRIDGED * m + q] = t;
+    w[layout::BRIDGED * m + f] = 0;
+}
+
 // Edge q takes up edge f, whose difference is x.
 fn absorb(w: &mut [u32], d: &mut [f64], m: usize, n: usize, q: usize, f: usize, x: f64)
     requires { ⌜ HoldsTables m n (now w) (now d) ⌝ }
@@ -223,6 +239,7 @@ fn absorb(w: &mut [u32], d: &mut [f64], m: usize, n: usize, q: usize, f: usize, 
     let y = d[q];
     let z = plus(y, x);
     d[q] = z;
+    hand_bridged(w, d, m, n, q, f);
     let t = w[q] + w[f];
     memory::tree::weigh(w, m, q, t);
     memory::tree::weigh(w, m, f, 0);

@@ -89,13 +89,13 @@ module _ (m b v : ℕ) (s : Tables) where
   sound-splice : (n : ℕ) → b < n → v < n → Sound m n s → Sound m n (splice m b v s)
   unfolding splice
   sound-splice n hb hv h =
-      let h₁ : Sound m n (store enext s (2 * m + b) (getD (s .at enext) (2 * m + v) 0)) = sound-store enext m n s h (2 * m + b) (getD (s .at enext) (2 * m + v) 0) refl (h .within enext (2 * m + v) (omega arith)) in
-      let h₂ : Sound m n (store enext (store enext s (2 * m + b) (getD (s .at enext) (2 * m + v) 0)) (2 * m + v) (getD (s .at enext) (2 * m + b) 0)) = sound-store enext m n _ h₁ (2 * m + v) (getD (s .at enext) (2 * m + b) 0) refl (h .within enext (2 * m + b) (omega arith)) in
-      sound-store rnext m n _ (sound-store rnext m n _ h₂ b (getD (s .at rnext) v 0) refl (h .within rnext v hv)) v (getD (s .at rnext) b 0) refl (h .within rnext b hb)
+      let h₁ : Sound m n (store enext s (2 * m + b) (getD (s .at enext) (2 * m + v) 0)) = sound-store enext m n s h (2 * m + b) (getD (s .at enext) (2 * m + v) 0) refl refl (h .within enext (2 * m + v) (omega arith)) in
+      let h₂ : Sound m n (store enext (store enext s (2 * m + b) (getD (s .at enext) (2 * m + v) 0)) (2 * m + v) (getD (s .at enext) (2 * m + b) 0)) = sound-store enext m n _ h₁ (2 * m + v) (getD (s .at enext) (2 * m + b) 0) refl refl (h .within enext (2 * m + b) (omega arith)) in
+      sound-store rnext m n _ (sound-store rnext m n _ h₂ b (getD (s .at rnext) v 0) refl refl (h .within rnext v hv)) v (getD (s .at rnext) b 0) refl refl (h .within rnext b hb)
 
   pub sound-after : (n : ℕ) → b < n → v < n → Sound m n s → Sound m n after
   unfolding grow
-  sound-after n hb hv h = sound-store rlen m n _ (sound-store elen m n _ (sound-store size m n _ (sound-splice n hb hv h) b _ refl tt) b _ refl tt) b _ refl tt
+  sound-after n hb hv h = sound-store rlen m n _ (sound-store elen m n _ (sound-store size m n _ (sound-splice n hb hv h) b _ refl refl tt) b _ refl refl tt) b _ refl refl tt
 
 -- a table with a sum at b
 pub sum-there : (l : List ℕ) (n b v x : ℕ) → length l ≡ n → b < n → getD (set l b (getD l b 0 + getD l v 0)) x 0 ≡ cond (eqb b x) (getD l b 0 + getD l v 0) (getD l x 0)

@@ -34,43 +34,43 @@ pub going-start : (m n : ℕ) (rest : ℕ → Tables → ℕ → Tables) (w : Li
 going-start m n rest w d l r = let z : l - 0 ≡ l = omega arith in record { room = r; most = omega arith; left = ap (λ (x : ℕ). rest x (view m n w d) 0) z; same-w = refl }
 
 -- the slots numbered
-pub slots-does : (m n : ℕ) (w v : List ℕ) (d : List Float) → HoldsTables m n w d → v ≡ put w (5 * m) (upto (2 * m + n) 0) → LeavesTables m n v d (slots m n (view m n w d))
+pub slots-does : (m n : ℕ) (w v : List ℕ) (d : List Float) → HoldsTables m n w d → v ≡ put w (6 * m) (upto (2 * m + n) 0) → LeavesTables m n v d (slots m n (view m n w d))
 unfolding view slots
 slots-does m n w v d r e =
     let l : length (upto (2 * m + n) 0) ≡ 2 * m + n = upto-length (2 * m + n) 0 in
     rw e (record {
       tables = λ i. record { at = λ u. go u (is enext u) refl l i; diff = d };
-      tree = played-like m (put w (5 * m) (upto (2 * m + n) 0)) w 1 0 (length-put w (5 * m) (upto (2 * m + n) 0)) (λ i h. getD-put-below w (5 * m) (upto (2 * m + n) 0) i 0 (omega arith)) (r .tree);
+      tree = played-like m (put w (6 * m) (upto (2 * m + n) 0)) w 1 0 (length-put w (6 * m) (upto (2 * m + n) 0)) (λ i h. getD-put-below w (6 * m) (upto (2 * m + n) 0) i 0 (omega arith)) (r .tree);
     })
   where
     go : (u : Table) (b : Bool) → is enext u ≡ b → length (upto (2 * m + n) 0) ≡ 2 * m + n
-        → seg (put w (5 * m) (upto (2 * m + n) 0)) (from u m n) (long u m n) ≡ cond b (upto (2 * m + n) 0) (seg w (from u m n) (long u m n))
+        → seg (put w (6 * m) (upto (2 * m + n) 0)) (from u m n) (long u m n) ≡ cond b (upto (2 * m + n) 0) (seg w (from u m n) (long u m n))
     go u true q l =
-        ap (λ (t : Table). seg (put w (5 * m) (upto (2 * m + n) 0)) (from t m n) (long t m n)) (sym (same-table enext u q))
-        ∙ ap (seg (put w (5 * m) (upto (2 * m + n) 0)) (5 * m)) (sym l) ∙ seg-put-same w (5 * m) (upto (2 * m + n) 0) (omega (arith, r .words))
-    go u false q l = seg-put-out w (5 * m) (upto (2 * m + n) 0) (from u m n) (long u m n) (λ j a b c f. apart m n enext u q j c (omega arith) a b)
+        ap (λ (t : Table). seg (put w (6 * m) (upto (2 * m + n) 0)) (from t m n) (long t m n)) (sym (same-table enext u q))
+        ∙ ap (seg (put w (6 * m) (upto (2 * m + n) 0)) (6 * m)) (sym l) ∙ seg-put-same w (6 * m) (upto (2 * m + n) 0) (omega (arith, r .words))
+    go u false q l = seg-put-out w (6 * m) (upto (2 * m + n) 0) (from u m n) (long u m n) (λ j a b c f. apart m n enext u q j c (omega arith) a b)
 
 abbrev stored : ℕ → ℕ → List ℕ → ℕ → List ℕ
-stored m n w x = set (set (set (set (set w (7 * m + n + x) x) (7 * m + 5 * n + x) 1) (7 * m + 4 * n + x) 1) (7 * m + 6 * n + x) 1000) (7 * m + 2 * n + x) 0
+stored m n w x = set (set (set (set (set w (8 * m + n + x) x) (8 * m + 5 * n + x) 1) (8 * m + 4 * n + x) 1) (8 * m + 6 * n + x) 1000) (8 * m + 2 * n + x) 0
 
 pub regions-turn : (m n : ℕ) (w₀ w : List ℕ) (d : List Float) (x : ℕ) (goal : Tables) → Going m n regionsFrom w₀ w d n x goal → x < n → Going m n regionsFrom w₀ (stored m n w x) d n (x + 1) goal
 unfolding regionsFrom
 regions-turn m n w₀ w d x goal k lt =
     let z : n - x ≡ suc (n - (x + 1)) = omega arith in
-    let w₁ : List ℕ = set w (7 * m + n + x) x in
-    let w₂ : List ℕ = set w₁ (7 * m + 5 * n + x) 1 in
-    let w₃ : List ℕ = set w₂ (7 * m + 4 * n + x) 1 in
-    let w₄ : List ℕ = set w₃ (7 * m + 6 * n + x) 1000 in
-    let w₅ : List ℕ = set w₄ (7 * m + 2 * n + x) 0 in
+    let w₁ : List ℕ = set w (8 * m + n + x) x in
+    let w₂ : List ℕ = set w₁ (8 * m + 5 * n + x) 1 in
+    let w₃ : List ℕ = set w₂ (8 * m + 4 * n + x) 1 in
+    let w₄ : List ℕ = set w₃ (8 * m + 6 * n + x) 1000 in
+    let w₅ : List ℕ = set w₄ (8 * m + 2 * n + x) 0 in
     let l₀ : tableWords m n ≤ length w = k .room .words in
-    let l₁ : length w₁ ≡ length w = length-set w (7 * m + n + x) x in
-    let l₂ : length w₂ ≡ length w₁ = length-set w₁ (7 * m + 5 * n + x) 1 in
-    let l₃ : length w₃ ≡ length w₂ = length-set w₂ (7 * m + 4 * n + x) 1 in
-    let l₄ : length w₄ ≡ length w₃ = length-set w₃ (7 * m + 6 * n + x) 1000 in
-    let l₅ : length w₅ ≡ length w₄ = length-set w₄ (7 * m + 2 * n + x) 0 in
+    let l₁ : length w₁ ≡ length w = length-set w (8 * m + n + x) x in
+    let l₂ : length w₂ ≡ length w₁ = length-set w₁ (8 * m + 5 * n + x) 1 in
+    let l₃ : length w₃ ≡ length w₂ = length-set w₂ (8 * m + 4 * n + x) 1 in
+    let l₄ : length w₄ ≡ length w₃ = length-set w₃ (8 * m + 6 * n + x) 1000 in
+    let l₅ : length w₅ ≡ length w₄ = length-set w₄ (8 * m + 2 * n + x) 0 in
     record {
       room = room-of m n w w₅ d d (k .room) (l₅ ∙ l₄ ∙ l₃ ∙ l₂ ∙ l₁) refl
-          (tree-set m w₄ (7 * m + 2 * n + x) 0 (omega arith) (tree-set m w₃ (7 * m + 6 * n + x) 1000 (omega arith) (tree-set m w₂ (7 * m + 4 * n + x) 1 (omega arith) (tree-set m w₁ (7 * m + 5 * n + x) 1 (omega arith) (tree-set m w (7 * m + n + x) x (omega arith) (k .room .tree))))));
+          (tree-set m w₄ (8 * m + 2 * n + x) 0 (omega arith) (tree-set m w₃ (8 * m + 6 * n + x) 1000 (omega arith) (tree-set m w₂ (8 * m + 4 * n + x) 1 (omega arith) (tree-set m w₁ (8 * m + 5 * n + x) 1 (omega arith) (tree-set m w (8 * m + n + x) x (omega arith) (k .room .tree))))));
       most = omega arith;
       left = ap (λ (s : Tables). regionsFrom (n - (x + 1)) s (x + 1))
           (write stamp m n w₄ d x 0 lt (omega arith)
@@ -88,23 +88,23 @@ regions-end m n w₀ w d x goal k h = let z : n - x ≡ 0 = omega arith in recor
 
 -- ---- link
 pub link-does : (m n : ℕ) (w : List ℕ) (d : List Float) → HoldsTables m n w d → (a i : ℕ) → a < n → i < 2 * m
-    → LeavesTables m n (set (set (set w (5 * m + (2 * m + a)) (getD w (5 * m + i) 0)) (5 * m + i) (getD w (5 * m + (2 * m + a)) 0)) (7 * m + 4 * n + a) (getD w (7 * m + 4 * n + a) 0 + 1)) d (linkAt m a i (view m n w d))
+    → LeavesTables m n (set (set (set w (6 * m + (2 * m + a)) (getD w (6 * m + i) 0)) (6 * m + i) (getD w (6 * m + (2 * m + a)) 0)) (8 * m + 4 * n + a) (getD w (8 * m + 4 * n + a) 0 + 1)) d (linkAt m a i (view m n w d))
 unfolding linkAt
 link-does m n w d r a i ha hi =
-    let t : ℕ = getD w (5 * m + i) 0 in
-    let h : ℕ = getD w (5 * m + (2 * m + a)) 0 in
-    let l : ℕ = getD w (7 * m + 4 * n + a) 0 in
-    let w₁ : List ℕ = set w (5 * m + (2 * m + a)) t in
-    let w₂ : List ℕ = set w₁ (5 * m + i) h in
+    let t : ℕ = getD w (6 * m + i) 0 in
+    let h : ℕ = getD w (6 * m + (2 * m + a)) 0 in
+    let l : ℕ = getD w (8 * m + 4 * n + a) 0 in
+    let w₁ : List ℕ = set w (6 * m + (2 * m + a)) t in
+    let w₂ : List ℕ = set w₁ (6 * m + i) h in
     let l₀ : tableWords m n ≤ length w = r .words in
-    let l₁ : length w₁ ≡ length w = length-set w (5 * m + (2 * m + a)) t in
-    let l₂ : length w₂ ≡ length w₁ = length-set w₁ (5 * m + i) h in
+    let l₁ : length w₁ ≡ length w = length-set w (6 * m + (2 * m + a)) t in
+    let l₂ : length w₂ ≡ length w₁ = length-set w₁ (6 * m + i) h in
     record {
       tables = rw (read enext m n w d i (omega arith), read enext m n w d (2 * m + a) (omega arith), read elen m n w d a ha)
           (write elen m n w₂ d a (l + 1) ha (omega arith)
           ∙ ap (λ (s : Tables). store elen s a (l + 1)) (write enext m n w₁ d i h (omega arith) (omega arith)
           ∙ ap (λ (s : Tables). store enext s i h) (write enext m n w d (2 * m + a) t (omega arith) l₀)));
-      tree = tree-set m w₂ (7 * m + 4 * n + a) (l + 1) (omega arith) (tree-set m w₁ (5 * m + i) h (omega arith) (tree-set m w (5 * m + (2 * m + a)) t (omega arith) (r .tree)));
+      tree = tree-set m w₂ (8 * m + 4 * n + a) (l + 1) (omega arith) (tree-set m w₁ (6 * m + i) h (omega arith) (tree-set m w (6 * m + (2 * m + a)) t (omega arith) (r .tree)));
     }
 
 link-len : (m a i : ℕ) (s : Tables) (x : ℕ) → getD (linkAt m a i s .at elen) x 0 ≤ getD (s .at elen) x 0 + 1

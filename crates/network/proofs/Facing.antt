@@ -11,8 +11,8 @@ use lib.Seq.{getD-set-same, getD-set-other}
 use borrow.Author.Tests.{ltb-true, lt-ltb, le-ltb, eq-eqb, ne-eqb}
 use Rattle.network.specs.Network.{Edge, turn, turnIf}
 use Rattle.merge.specs.Inside.Tables.{Tables, Sound, store, diff-set}
-use Rattle.merge.specs.Inside.Table.{weight, first, second, stamp}
-use Rattle.merge.specs.Inside.Steps.{turnAt, turned, faceAt, absorbAt, attachAt}
+use Rattle.merge.specs.Inside.Table.{weight, first, second, bridged, stamp}
+use Rattle.merge.specs.Inside.Steps.{turnAt, turned, faceAt, handOver, absorbAt, attachAt}
 use Rattle.network.specs.Inside.Net.{edgeOf, edgeNow}
 use Rattle.merge.proofs.SoundSet.{eq-or-ne}
 use Rattle.merge.proofs.Mates.{Mate}
@@ -35,7 +35,7 @@ if-false e = refl
 
 if-twice : (e : Edge) → turnIf true (turnIf true e) ≡ e
 unfolding turnIf
-if-twice e = λ i. record { num = e .num; live = e .live; first = e .first; second = e .second; link = record { weight = e .link .weight; diff = neg-twice (e .link .diff) i } }
+if-twice e = λ i. record { num = e .num; live = e .live; first = e .first; second = e .second; link = record { weight = e .link .weight; diff = neg-twice (e .link .diff) i; bridged = e .link .bridged } }
 
 turn-yes : (b : ℕ) (e : Edge) → e .second ≡ b → turn b e ≡ turnIf true e
 unfolding turn
@@ -67,6 +67,7 @@ module _ (s : Tables) (j : ℕ) where
 pub record Stands (s : Tables) (j : ℕ) (e : Edge) : Type 0 where
   pub some : getD (s .at weight) j 0 ≡ 0 → ⊥
   pub weight-is : getD (s .at weight) j 0 ≡ e .link .weight
+  pub bridged-is : getD (s .at bridged) j 0 ≡ e .link .bridged
   pub ends : ((getD (s .at first) j 0 ≡ e .first) × (getD (s .at second) j 0 ≡ e .second)) ⊎ ((getD (s .at first) j 0 ≡ e .second) × (getD (s .at second) j 0 ≡ e .first))
 
 pub stands : (s : Tables) (j : ℕ) (e : Edge) → edgeNow s j ≡ e → e .live ≡ true → Stands s j e
@@ -74,6 +75,7 @@ unfolding edgeNow turnIf edgeOf
 stands s j e h l = record {
   some = live-word s j (unfold edgeOf in ap (λ (x : Edge). x .live) h ∙ l);
   weight-is = ap (λ (x : Edge). x .link .weight) h;
+  bridged-is = ap (λ (x : Edge). x .link .bridged) h;
   ends = go (turned s j) (ap (λ (x : Edge). x .first) h) (ap (λ (x : Edge). x .second) h);
 }
   where
@@ -210,7 +212,7 @@ module _ (m n : ℕ) (s : Tables) (h : Sound m n s) (b k : ℕ) (hb : b < n) (ne
 
 -- ---- which way edges stand after a step
 pub absorb-turned : (s : Tables) (q f : ℕ) (x : Float) (j : ℕ) → turned (absorbAt s q f x) j ≡ turned s j
-unfolding turned absorbAt store diff-set
+unfolding turned absorbAt handOver store diff-set
 absorb-turned s q f x j = refl
 
 module _ (m n b : ℕ) (s : Tables) (h : Sound m n s) (f c : ℕ) (x : Float) (lt : f < m) where

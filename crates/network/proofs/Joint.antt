@@ -23,13 +23,13 @@ use Rattle.network.specs.Network as Network
 use Rattle.network.specs.Network.{Edge, Region, numbered, sizeIn, gatesOf}
 use Rattle.network.specs.Inside.Simple.{Simple, Joined}
 use Rattle.merge.specs.Inside.Tables.{Tables}
-use Rattle.merge.specs.Inside.Table.{weight, first, second, size}
+use Rattle.merge.specs.Inside.Table.{weight, first, second, bridged, size}
 use Rattle.network.specs.Inside.Net.{edgeOf}
 use Rattle.network.specs.Inside.Begin.{Raw, rawRegion}
 use Rattle.edges.proofs.RecordLaws.{Good, used-rise, used-good, all-place, rise-place}
 
 abbrev pub blank : EdgeRecord
-blank = record { one = 0; two = 0; count = 0; sum1 = nan; sum2 = nan }
+blank = record { one = 0; two = 0; count = 0; sum1 = nan; sum2 = nan; bridged = 0 }
 
 -- the tables of m edges, from records of k regions, and of the sizes of labels 0 to k
 pub record Filled (twoNyquist : Float) (k m : ℕ) (L : List ℕ) (rs : List EdgeRecord) (s : Tables) : Type 0 where
@@ -37,6 +37,7 @@ pub record Filled (twoNyquist : Float) (k m : ℕ) (L : List ℕ) (rs : List Edg
   pub weight : s .at weight ≡ map (λ r. r .count) rs
   pub first : s .at first ≡ map (λ r. r .one) rs
   pub second : s .at second ≡ map (λ r. r .two) rs
+  pub bridged : s .at bridged ≡ map (λ r. r .bridged) rs
   pub diff : seg (s .diff) 0 m ≡ map (difference twoNyquist) rs
   pub size : s .at size ≡ tabulate (k + 1) (sizeIn L)
 
@@ -123,6 +124,9 @@ module _ (twoNyquist : Float) (k m : ℕ) (L : List ℕ) (ps : List Pair) (s : T
   pub second-of : (j : ℕ) → j < m → getD (s .at second) j 0 ≡ getD (used k ps) j blank .two
   second-of j h = ap (λ (l : List ℕ). getD l j 0) (F .second) ∙ map-at (λ (r : EdgeRecord). r .two) (used k ps) j blank 0 (in-rs j h)
 
+  bridged-of : (j : ℕ) → j < m → getD (s .at bridged) j 0 ≡ getD (used k ps) j blank .bridged
+  bridged-of j h = ap (λ (l : List ℕ). getD l j 0) (F .bridged) ∙ map-at (λ (r : EdgeRecord). r .bridged) (used k ps) j blank 0 (in-rs j h)
+
   diff-of : (j : ℕ) → j < m → getD (s .diff) j nan ≡ difference twoNyquist (getD (used k ps) j blank)
   diff-of j h =
       sym (getD-seg (s .diff) 0 m j nan h ∙ ap (λ (i : ℕ). getD (s .diff) i nan) (omega arith))
@@ -132,7 +136,7 @@ module _ (twoNyquist : Float) (k m : ℕ) (L : List ℕ) (ps : List Pair) (s : T
   unfolding edgeOf Network.edgeOf
   edge-of j h =
       let live : not (eqb (getD (s .at weight) j 0) 0) ≡ true = ap (λ (b : Bool). not b) (ne-eqb (getD (s .at weight) j 0) 0 (λ e. omega (arith, weight-of j h, good j h .some))) in
-      λ i. record { num = j; live = live i; first = first-of j h i; second = second-of j h i; link = record { weight = weight-of j h i; diff = diff-of j h i } }
+      λ i. record { num = j; live = live i; first = first-of j h i; second = second-of j h i; link = record { weight = weight-of j h i; diff = diff-of j h i; bridged = bridged-of j h i } }
 
   pub edges-are : map (edgeOf s) (upto m 0) ≡ numbered twoNyquist 0 (used k ps)
   edges-are =
@@ -195,12 +199,13 @@ module _ (twoNyquist : Float) (k m : ℕ) (L : List ℕ) (ps : List Pair) (s : T
   gates-few i zero = refl
   gates-few i (suc n) = ap (λ (x : ℕ). sizeIn L i + x) (gates-few (suc i) n)
 
-  pub raw : (n : ℕ) → sum (map (λ r. r .count) (used k ps)) ≤ 4 * n → 4 * n < 2 ^ 32 → length L ≡ n → Raw m (k + 1) s
-  raw n light small long = record {
+  pub raw : (n : ℕ) → sum (map (λ r. r .count) (used k ps)) ≤ 4 * n → sum (map (λ r. r .bridged) (used k ps)) ≤ 4 * n → 4 * n < 2 ^ 32 → length L ≡ n → Raw m (k + 1) s
+  raw n light spans small long = record {
     first-in = λ j h. omega (arith, first-of j h, good j h .high);
     second-in = λ j h. omega (arith, second-of j h, good j h .high, good j h .less);
     single = λ j h. subst (λ (x : Float). T (fits binary32 x)) (sym (diff-of j h)) (unfold difference in narrowed-fits _);
     light = omega (arith, ap sum (F .weight));
+    spanned = omega (arith, ap sum (F .bridged));
     gates = omega (arith, ap gatesOf regions-are, gates-few 0 (k + 1), gates-most L 0 (k + 1));
     simple = tables-simple;
   }

@@ -1,4 +1,5 @@
 pub mod Lists
+pub mod Bridged
 pub mod Restrict
 pub mod Ends
 pub mod Own

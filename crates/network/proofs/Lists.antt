@@ -70,3 +70,12 @@ all-any (e ∷ es) = (tt, all-any es)
 
 pub at-num : (i : ℕ) (es : List Edge) (e : Edge) → at es i ≡ some e → e .num ≡ i
 at-num i es e h = at-all (λ e. Unit {0}) i es (all-any es) e h .0
+
+-- A map f that leads from g to h
+pub map-swap : {A B : Type 0} (f : A → B) (g : A → A) (h : B → B) → ((a : A) → h (f a) ≡ f (g a)) → (l : List A) → map h (map f l) ≡ map f (map g l)
+map-swap f g h e [] = refl
+map-swap f g h e (x ∷ xs) = rw (e x, map-swap f g h e xs) refl
+
+pub cond-map : {A B : Type 0} (f : A → B) (b : Bool) (x y : A) → f (cond b x y) ≡ cond b (f x) (f y)
+cond-map f true x y = refl
+cond-map f false x y = refl

@@ -162,14 +162,23 @@ module _ (m b v g : ℕ) (P Q : ℕ → Edge) (S : Setting m b v g P Q) where
   pub record Before (j : ℕ) : Type 0 where
     pub ends : ((Q j .first ≡ v) × (Q j .second ≡ P j .second)) ⊎ ((Q j .first ≡ P j .second) × (Q j .second ≡ v))
     pub weigh : Q j .link .weight ≡ P j .link .weight
+    pub span : Q j .link .bridged ≡ P j .link .bridged
 
   pub before : (j : ℕ) → j < m → P j .live ≡ true → P j .first ≡ v → Before j
   unfolding turn turnIf adjust
   before j lt l e = go (eqb v (Q j .second)) refl (S .prepared j lt l)
     where
       go : (t : Bool) → eqb v (Q j .second) ≡ t → P j ≡ turnIf t (adjust v (unbias g) (Q j)) → Before j
-      go true r h = record { ends = inr (sym (ap (λ (x : Edge). x .second) h), sym (eqb-true v (Q j .second) r)); weigh = sym (ap (λ (x : Edge). x .link .weight) h) }
-      go false r h = record { ends = inl (sym (ap (λ (x : Edge). x .first) h) ∙ e, sym (ap (λ (x : Edge). x .second) h)); weigh = sym (ap (λ (x : Edge). x .link .weight) h) }
+      go true r h = record {
+        ends = inr (sym (ap (λ (x : Edge). x .second) h), sym (eqb-true v (Q j .second) r));
+        weigh = sym (ap (λ (x : Edge). x .link .weight) h);
+        span = sym (ap (λ (x : Edge). x .link .bridged) h);
+      }
+      go false r h = record {
+        ends = inl (sym (ap (λ (x : Edge). x .first) h) ∙ e, sym (ap (λ (x : Edge). x .second) h));
+        weigh = sym (ap (λ (x : Edge). x .link .weight) h);
+        span = sym (ap (λ (x : Edge). x .link .bridged) h);
+      }
 
   -- the step that the code takes at an edge of the moved node
   pub moved-is : (s : Tables) (f : ℕ) → f < m → edgeOf s f ≡ Q f → P f .live ≡ true → P f .first ≡ v → movedEdge m b v g s f ≡ joinEdge m b s f (P f .second) (P f .link .diff)

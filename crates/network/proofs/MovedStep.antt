@@ -13,7 +13,7 @@ use borrow.Author.Tests.{eqb-true, eqb-false, ne-eqb, lt-ltb, ltb-true, ltb-fals
 use Rattle.lists.specs.Seq.{upto}
 use Rattle.network.specs.Network.{Edge, Link, find, absorb, absent, hand}
 use Rattle.merge.specs.Inside.Tables.{Tables, Sound}
-use Rattle.merge.specs.Inside.Table.{weight, enext, stamp, elen}
+use Rattle.merge.specs.Inside.Table.{weight, bridged, enext, stamp, elen}
 use Rattle.merge.specs.Inside.Steps.{turned, faceAt, mate, absorbAt, attachAt, joinEdge, movedEdge, takeEdge}
 use Rattle.merge.specs.Inside.Chain.{cur}
 use Rattle.network.specs.Inside.Net.{edgeOf, edgeNow, Like}
@@ -54,6 +54,9 @@ module _ (m b v g : ℕ) (P Q : ℕ → Edge) (S : Setting m b v g P Q) (N L T :
 
     weighs : getD (s .at weight) f 0 ≡ P f .link .weight
     weighs = stands s f (Q f) now (S .alike f ∙ l) .weight-is ∙ before m b v g P Q S f lt l e .weigh
+
+    spans : getD (s .at bridged) f 0 ≡ P f .link .bridged
+    spans = stands s f (Q f) now (S .alike f ∙ l) .bridged-is ∙ before m b v g P Q S f lt l e .span
 
     me : Hit v c₀ (P f)
     me = record { live = l; first = e; second = refl }
@@ -152,6 +155,7 @@ module _ (m b v g : ℕ) (P Q : ℕ → Edge) (S : Setting m b v g P Q) (N L T :
             link = record {
               weight = (ap (λ (x : ℕ). x + getD (s .at weight) f 0) (w .weight-is) ∙ ap (λ (x : ℕ). P q .link .weight + x) weighs) i;
               diff = ap (λ (x : Float). add binary32 x (P f .link .diff)) (w .diff-is) i;
+              bridged = (ap (λ (x : ℕ). x + getD (s .at bridged) f 0) (w .bridged-is) ∙ ap (λ (x : ℕ). P q .link .bridged + x) spans) i;
             };
           })
           ∙ sym (mid-base m b v g P Q S (also done f) q (pq .q-first) ∙ ap (λ (o : Option Link). absorb o (P q)) (ap (find (map (only P (also done f)) (upto m 0)) v) (pq .q-second) ∙ found-now m b v g P Q S (also done f) f lt l e (also-new done f)))
@@ -210,7 +214,7 @@ module _ (m b v g : ℕ) (P Q : ℕ → Edge) (S : Setting m b v g P Q) (N L T :
           let pl : (P f .live && true) ≡ true = rw l refl in
           now-straight s'' f (attach-straight m n b s sound f c₀ (P f .link .diff) lt older)
           ∙ attach-new m n s sound b f c₀ (P f .link .diff) lt
-          ∙ (λ i. record { num = sym (S .number f) i; live = (fl ∙ sym pl) i; first = b; second = c₀; link = record { weight = weighs i; diff = P f .link .diff } })
+          ∙ (λ i. record { num = sym (S .number f) i; live = (fl ∙ sym pl) i; first = b; second = c₀; link = record { weight = weighs i; diff = P f .link .diff; bridged = spans i } })
           ∙ sym (mid-moved m b v g P Q S (also done f) f true e (also-new done f) ∙ (rw free refl))
 
       attached : Middle m b v P Q N L T (also done f) s''

@@ -40,7 +40,7 @@ module _ (m b v g : ℕ) (P Q : ℕ → Edge) (S : Setting m b v g P Q) where
       go false r true p h = absurd (ne (ap (λ (x : Edge). x .first) h ∙ sym (eqb-true v (Q j .first) p)))
       go false r false p h =
           let d : shifted (isZero (unbias g)) (eqb v (Q j .first)) (eqb v (Q j .second)) (unbias g) (Q j .link .weight) (Q j .link .diff) ≡ Q j .link .diff = rw (r, p) (fixed (isZero (unbias g)) (Q j .link .weight) (Q j .link .diff)) in
-          h ∙ (λ i. record { num = Q j .num; live = Q j .live; first = Q j .first; second = Q j .second; link = record { weight = Q j .link .weight; diff = d i } })
+          h ∙ (λ i. record { num = Q j .num; live = Q j .live; first = Q j .first; second = Q j .second; link = record { weight = Q j .link .weight; diff = d i; bridged = Q j .link .bridged } })
 
   abbrev nothing : ℕ → Bool
   nothing j = false

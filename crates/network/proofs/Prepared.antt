@@ -56,7 +56,7 @@ commute b v k e n h = go (eqb b (e .second)) refl (eqb v (e .first)) refl (eqb v
     go true te false xe false ye =
         let d₁ : shifted (isZero k) (eqb v (e .first)) (eqb v (e .second)) k (e .link .weight) (e .link .diff) ≡ e .link .diff = rw (xe, ye) (fixed (isZero k) (e .link .weight) (e .link .diff)) in
         let d₂ : shifted (isZero k) (eqb v (e .second)) (eqb v (e .first)) k (e .link .weight) (lib.Ieee.neg (e .link .diff)) ≡ lib.Ieee.neg (e .link .diff) = rw (xe, ye) (fixed (isZero k) (e .link .weight) (lib.Ieee.neg (e .link .diff))) in
-        λ i. record { num = e .num; live = e .live; first = e .second; second = e .first; link = record { weight = e .link .weight; diff = (ap (λ (z : Float). lib.Ieee.neg z) d₁ ∙ sym d₂) i } }
+        λ i. record { num = e .num; live = e .live; first = e .second; second = e .first; link = record { weight = e .link .weight; diff = (ap (λ (z : Float). lib.Ieee.neg z) d₁ ∙ sym d₂) i; bridged = e .link .bridged } }
 
 module _ (m : ℕ) (E : ℕ → Edge) (num : (j : ℕ) → E j .num ≡ j) (simple : Simple (map E (upto m 0))) (e : ℕ) (lt : e < m) (l : E e .live ≡ true) (rs : List Region) where
   abbrev pl : Plan

@@ -59,23 +59,23 @@ module _ (f : Shape) (u : List ℕ) (d vel : List Float) (n k : ℕ) (twoNyquist
       sizes-2 : seg v2 n (k + 1) ≡ tabulate (k + 1) (sizeIn (seg u 0 n))
       sizes-2 = ap (λ (x : List ℕ). seg x n (k + 1)) e2′ ∙ ap (seg (put v1 n (tabulate (k + 1) (sizeIn (seg u 0 n)))) n) (sym ls) ∙ seg-put-same v1 n (tabulate (k + 1) (sizeIn (seg u 0 n))) (omega (arith, ls, l1, q .words, q .few))
 
-      pub copy-ask : (n + (k + 1) ≤ length v2) × (13 * n + 7 * e + 3 * (k + 1) + (k + 1) ≤ length v2) × Disjoint n (k + 1) (13 * n + 7 * e + 3 * (k + 1)) (k + 1)
+      pub copy-ask : (n + (k + 1) ≤ length v2) × (13 * n + 8 * e + 3 * (k + 1) + (k + 1) ≤ length v2) × Disjoint n (k + 1) (13 * n + 8 * e + 3 * (k + 1)) (k + 1)
       copy-ask = (omega (arith, l2, q .words, q .few), omega (arith, l2, q .words, q .few, E .few), λ j a b c g. omega (arith, q .few, q .some))
 
-      module _ (v3 : List ℕ) (e3 : v3 ≡ put v2 (13 * n + 7 * e + 3 * (k + 1)) (seg v2 n (k + 1))) where
-        e3′ : v3 ≡ put v2 (13 * n + 7 * e + 3 * (k + 1)) (tabulate (k + 1) (sizeIn (seg u 0 n)))
-        e3′ = e3 ∙ ap (put v2 (13 * n + 7 * e + 3 * (k + 1))) sizes-2
+      module _ (v3 : List ℕ) (e3 : v3 ≡ put v2 (13 * n + 8 * e + 3 * (k + 1)) (seg v2 n (k + 1))) where
+        e3′ : v3 ≡ put v2 (13 * n + 8 * e + 3 * (k + 1)) (tabulate (k + 1) (sizeIn (seg u 0 n)))
+        e3′ = e3 ∙ ap (put v2 (13 * n + 8 * e + 3 * (k + 1))) sizes-2
 
         l3 : length v3 ≡ length u
-        l3 = ap length e3′ ∙ length-put v2 (13 * n + 7 * e + 3 * (k + 1)) (tabulate (k + 1) (sizeIn (seg u 0 n))) ∙ l2
+        l3 = ap length e3′ ∙ length-put v2 (13 * n + 8 * e + 3 * (k + 1)) (tabulate (k + 1) (sizeIn (seg u 0 n))) ∙ l2
 
         -- a table of edges is as the edges were found
-        table : (a b : ℕ) → 13 * n ≤ a → a + b ≤ 13 * n + 7 * e → seg v3 a b ≡ seg v1 a b
+        table : (a b : ℕ) → 13 * n ≤ a → a + b ≤ 13 * n + 8 * e → seg v3 a b ≡ seg v1 a b
         table a b g h =
-            ap (λ (x : List ℕ). seg x a b) e3′ ∙ seg-put-below v2 (13 * n + 7 * e + 3 * (k + 1)) (tabulate (k + 1) (sizeIn (seg u 0 n))) a b (omega arith)
+            ap (λ (x : List ℕ). seg x a b) e3′ ∙ seg-put-below v2 (13 * n + 8 * e + 3 * (k + 1)) (tabulate (k + 1) (sizeIn (seg u 0 n))) a b (omega arith)
             ∙ ap (λ (x : List ℕ). seg x a b) e2′ ∙ seg-put-above v1 n (tabulate (k + 1) (sizeIn (seg u 0 n))) a b (omega (arith, ls, q .few, q .some))
 
-        module _ (c : ℕ) (ec : c ≡ 7 * e + 7 * (k + 1)) where
+        module _ (c : ℕ) (ec : c ≡ 8 * e + 7 * (k + 1)) where
           abbrev part : List ℕ
           part = seg v3 (13 * n) c
 
@@ -96,17 +96,18 @@ module _ (f : Shape) (u : List ℕ) (d vel : List Float) (n k : ℕ) (twoNyquist
             weight = seg-part v3 (13 * n) c 0 e (omega arith) room ∙ ap (λ (a : ℕ). seg v3 a e) (omega arith) ∙ table (13 * n) e (omega arith) (omega arith) ∙ E .weight;
             first = seg-part v3 (13 * n) c (3 * e) e (omega arith) room ∙ table (13 * n + 3 * e) e (omega arith) (omega arith) ∙ E .first;
             second = seg-part v3 (13 * n) c (4 * e) e (omega arith) room ∙ table (13 * n + 4 * e) e (omega arith) (omega arith) ∙ E .second;
+            bridged = seg-part v3 (13 * n) c (5 * e) e (omega arith) room ∙ table (13 * n + 5 * e) e (omega arith) (omega arith) ∙ E .bridged;
             diff = E .diff;
             size =
-                seg-part v3 (13 * n) c (7 * e + 3 * (k + 1)) (k + 1) (omega arith) room
-                ∙ ap (λ (x : List ℕ). seg x (13 * n + (7 * e + 3 * (k + 1))) (k + 1)) e3′
-                ∙ ap (λ (a : ℕ). seg (put v2 (13 * n + 7 * e + 3 * (k + 1)) (tabulate (k + 1) (sizeIn (seg u 0 n)))) a (k + 1)) (omega arith)
-                ∙ ap (seg (put v2 (13 * n + 7 * e + 3 * (k + 1)) (tabulate (k + 1) (sizeIn (seg u 0 n)))) (13 * n + 7 * e + 3 * (k + 1))) (sym ls)
-                ∙ seg-put-same v2 (13 * n + 7 * e + 3 * (k + 1)) (tabulate (k + 1) (sizeIn (seg u 0 n))) (omega (arith, ls, l2, q .words, q .few, E .few));
+                seg-part v3 (13 * n) c (8 * e + 3 * (k + 1)) (k + 1) (omega arith) room
+                ∙ ap (λ (x : List ℕ). seg x (13 * n + (8 * e + 3 * (k + 1))) (k + 1)) e3′
+                ∙ ap (λ (a : ℕ). seg (put v2 (13 * n + 8 * e + 3 * (k + 1)) (tabulate (k + 1) (sizeIn (seg u 0 n)))) a (k + 1)) (omega arith)
+                ∙ ap (seg (put v2 (13 * n + 8 * e + 3 * (k + 1)) (tabulate (k + 1) (sizeIn (seg u 0 n)))) (13 * n + 8 * e + 3 * (k + 1))) (sym ls)
+                ∙ seg-put-same v2 (13 * n + 8 * e + 3 * (k + 1)) (tabulate (k + 1) (sizeIn (seg u 0 n))) (omega (arith, ls, l2, q .words, q .few, E .few));
           }
 
           pub raw-ask : Raw e (k + 1) (view e (k + 1) (seg v3 (13 * n) c) d1)
-          raw-ask = raw twoNyquist k e (seg u 0 n) ps (view e (k + 1) (seg v3 (13 * n) c) d1) filled n (E .light) (omega (arith, q .small)) (length-seg u 0 n (omega (arith, q .words)))
+          raw-ask = raw twoNyquist k e (seg u 0 n) ps (view e (k + 1) (seg v3 (13 * n) c) d1) filled n (E .light) (E .spans) (omega (arith, q .small)) (length-seg u 0 n (omega (arith, q .words)))
 
           module _ (y : List ℕ) (d2 : List Float) (r : Ran) (ly : length y ≡ length (seg v3 (13 * n) c)) (A : AllIs e (k + 1) (view e (k + 1) (seg v3 (13 * n) c) d1) y d2 r)
               (v4 : List ℕ) (e4 : v4 ≡ putMid (13 * n) c v3 y) where
@@ -119,31 +120,31 @@ module _ (f : Shape) (u : List ℕ) (d vel : List Float) (n k : ℕ) (twoNyquist
             l4 : length v4 ≡ length u
             l4 = ap length e4′ ∙ length-put v3 (13 * n) y ∙ l3
 
-            pub copy2-ask : (13 * n + 7 * e + 6 * (k + 1) + (k + 1) ≤ length v4) × (n + (k + 1) + (k + 1) ≤ length v4) × Disjoint (13 * n + 7 * e + 6 * (k + 1)) (k + 1) (n + (k + 1)) (k + 1)
+            pub copy2-ask : (13 * n + 8 * e + 6 * (k + 1) + (k + 1) ≤ length v4) × (n + (k + 1) + (k + 1) ≤ length v4) × Disjoint (13 * n + 8 * e + 6 * (k + 1)) (k + 1) (n + (k + 1)) (k + 1)
             copy2-ask = (omega (arith, l4, q .words, q .few, E .few), omega (arith, l4, q .words, q .few), λ j a b g h. omega (arith, q .few, q .some))
 
             -- the counts that merging left
-            counts-4 : seg v4 (13 * n + 7 * e + 6 * (k + 1)) (k + 1) ≡ seg y (7 * e + 6 * (k + 1)) (k + 1)
+            counts-4 : seg v4 (13 * n + 8 * e + 6 * (k + 1)) (k + 1) ≡ seg y (8 * e + 6 * (k + 1)) (k + 1)
             counts-4 =
-                ap (λ (a : ℕ). seg v4 a (k + 1)) {x = 13 * n + 7 * e + 6 * (k + 1)} {y = 13 * n + (7 * e + 6 * (k + 1))} (omega arith)
-                ∙ sym (seg-part v4 (13 * n) c (7 * e + 6 * (k + 1)) (k + 1) (omega arith) (omega (arith, l4, q .words, q .few, E .few)))
-                ∙ ap (λ (x : List ℕ). seg x (7 * e + 6 * (k + 1)) (k + 1)) (ap (λ (x : List ℕ). seg x (13 * n) c) e4 ∙ lent-seg v3 (13 * n) c y lc room)
+                ap (λ (a : ℕ). seg v4 a (k + 1)) {x = 13 * n + 8 * e + 6 * (k + 1)} {y = 13 * n + (8 * e + 6 * (k + 1))} (omega arith)
+                ∙ sym (seg-part v4 (13 * n) c (8 * e + 6 * (k + 1)) (k + 1) (omega arith) (omega (arith, l4, q .words, q .few, E .few)))
+                ∙ ap (λ (x : List ℕ). seg x (8 * e + 6 * (k + 1)) (k + 1)) (ap (λ (x : List ℕ). seg x (13 * n) c) e4 ∙ lent-seg v3 (13 * n) c y lc room)
 
-            module _ (v5 v6 : List ℕ) (e5 : v5 ≡ put v4 (n + (k + 1)) (seg v4 (13 * n + 7 * e + 6 * (k + 1)) (k + 1))) (e6 : v6 ≡ set v5 (n + (k + 1)) 1000) where
+            module _ (v5 v6 : List ℕ) (e5 : v5 ≡ put v4 (n + (k + 1)) (seg v4 (13 * n + 8 * e + 6 * (k + 1)) (k + 1))) (e6 : v6 ≡ set v5 (n + (k + 1)) 1000) where
               C : List ℕ
-              C = seg v4 (13 * n + 7 * e + 6 * (k + 1)) (k + 1)
+              C = seg v4 (13 * n + 8 * e + 6 * (k + 1)) (k + 1)
 
-              lC : length (seg v4 (13 * n + 7 * e + 6 * (k + 1)) (k + 1)) ≡ k + 1
-              lC = length-seg v4 (13 * n + 7 * e + 6 * (k + 1)) (k + 1) (copy2-ask .0)
+              lC : length (seg v4 (13 * n + 8 * e + 6 * (k + 1)) (k + 1)) ≡ k + 1
+              lC = length-seg v4 (13 * n + 8 * e + 6 * (k + 1)) (k + 1) (copy2-ask .0)
 
               pub l5 : length v5 ≡ length u
-              l5 = ap length e5 ∙ length-put v4 (n + (k + 1)) (seg v4 (13 * n + 7 * e + 6 * (k + 1)) (k + 1)) ∙ l4
+              l5 = ap length e5 ∙ length-put v4 (n + (k + 1)) (seg v4 (13 * n + 8 * e + 6 * (k + 1)) (k + 1)) ∙ l4
 
               -- what lies below the counts is as it was
               low : (a b : ℕ) → a + b ≤ n + (k + 1) → seg v6 a b ≡ seg v3 a b
               low a b h =
                   ap (λ (x : List ℕ). seg x a b) e6 ∙ seg-set-out v5 (n + (k + 1)) 1000 a b (λ p g. omega arith)
-                  ∙ ap (λ (x : List ℕ). seg x a b) e5 ∙ seg-put-below v4 (n + (k + 1)) (seg v4 (13 * n + 7 * e + 6 * (k + 1)) (k + 1)) a b h
+                  ∙ ap (λ (x : List ℕ). seg x a b) e5 ∙ seg-put-below v4 (n + (k + 1)) (seg v4 (13 * n + 8 * e + 6 * (k + 1)) (k + 1)) a b h
                   ∙ ap (λ (x : List ℕ). seg x a b) e4′ ∙ seg-put-below v3 (13 * n) y a b (omega (arith, q .few, q .some))
 
               -- the count of label l
@@ -152,7 +153,7 @@ module _ (f : Shape) (u : List ℕ) (d vel : List Float) (n k : ℕ) (twoNyquist
               count-of l a b =
                   ap (λ (x : List ℕ). getD x (n + (k + 1) + l) 0) e6 ∙ getD-set-other v5 (n + (k + 1)) (n + (k + 1) + l) 1000 0 (λ p. omega arith)
                   ∙ ap (λ (x : List ℕ). getD x (n + (k + 1) + l) 0) e5
-                  ∙ getD-put-in v4 (n + (k + 1)) (seg v4 (13 * n + 7 * e + 6 * (k + 1)) (k + 1)) l 0 (omega (arith, lC)) (omega (arith, copy2-ask .1))
+                  ∙ getD-put-in v4 (n + (k + 1)) (seg v4 (13 * n + 8 * e + 6 * (k + 1)) (k + 1)) l 0 (omega (arith, lC)) (omega (arith, copy2-ask .1))
                   ∙ ap (λ (x : List ℕ). getD x l 0) counts-4
 
               count-0 : getD v6 (n + (k + 1) + 0) 0 ≡ 1000
@@ -196,9 +197,9 @@ module _ (f : Shape) (u : List ℕ) (d vel : List Float) (n k : ℕ) (twoNyquist
                   count-of′ l a b = unfold countsAt in count-of l a b
 
                   sizes-3 : seg v3 n (k + 1) ≡ tabulate (k + 1) (sizeIn (seg u 0 n))
-                  sizes-3 = ap (λ (x : List ℕ). seg x n (k + 1)) e3′ ∙ seg-put-below v2 (13 * n + 7 * e + 3 * (k + 1)) (tabulate (k + 1) (sizeIn (seg u 0 n))) n (k + 1) (omega (arith, q .few, q .some)) ∙ sizes-2
+                  sizes-3 = ap (λ (x : List ℕ). seg x n (k + 1)) e3′ ∙ seg-put-below v2 (13 * n + 8 * e + 3 * (k + 1)) (tabulate (k + 1) (sizeIn (seg u 0 n))) n (k + 1) (omega (arith, q .few, q .some)) ∙ sizes-2
 
                   labels-3 : seg v3 0 n ≡ seg u 0 n
                   labels-3 =
-                      ap (λ (x : List ℕ). seg x 0 n) e3′ ∙ seg-put-below v2 (13 * n + 7 * e + 3 * (k + 1)) (tabulate (k + 1) (sizeIn (seg u 0 n))) 0 n (omega arith)
+                      ap (λ (x : List ℕ). seg x 0 n) e3′ ∙ seg-put-below v2 (13 * n + 8 * e + 3 * (k + 1)) (tabulate (k + 1) (sizeIn (seg u 0 n))) 0 n (omega arith)
                       ∙ ap (λ (x : List ℕ). seg x 0 n) e2′ ∙ seg-put-below v1 n (tabulate (k + 1) (sizeIn (seg u 0 n))) 0 n (omega arith) ∙ E .labels

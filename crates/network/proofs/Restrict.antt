@@ -197,7 +197,7 @@ module _ (p q : ℕ → Bool) where
   unfolding adjust shifted
   adjust-out m k e a b = rw (a, b) (go (isZero k))
     where
-      go : (z : Bool) → _≡_ {A = Edge} (record { num = e .num; live = e .live; first = e .first; second = e .second; link = record { weight = e .link .weight; diff = shifted z false false k (e .link .weight) (e .link .diff) } }) e
+      go : (z : Bool) → _≡_ {A = Edge} (record { num = e .num; live = e .live; first = e .first; second = e .second; link = record { weight = e .link .weight; diff = shifted z false false k (e .link .weight) (e .link .diff); bridged = e .link .bridged } }) e
       go true = refl
       go false = refl
 

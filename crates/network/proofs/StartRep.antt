@@ -16,7 +16,7 @@ use Rattle.lists.specs.Inside.Seg.{put}
 use Rattle.lists.proofs.SeqLaws.{upto-at, map-upto-same}
 use Rattle.memory.specs.Inside.Tree.{Weighed}
 use Rattle.merge.specs.Inside.Tables.{Tables, view, HoldsTables, Sound}
-use Rattle.merge.specs.Inside.Table.{Table, long, weight, first, second, enext, rnext, stamp, size, elen, rlen, count}
+use Rattle.merge.specs.Inside.Table.{Table, long, weight, first, second, bridged, enext, rnext, stamp, size, elen, rlen, count}
 use Rattle.merge.specs.Inside.Steps.{unbias, turned}
 use Rattle.merge.specs.Inside.Leaves.{LeavesTables}
 use Rattle.network.specs.Inside.Net.{edgeOf, regionOf, stateOf}
@@ -148,7 +148,7 @@ module _ (m n : ℕ) (s : Tables) (lens₀ : Lengths m n s) (raw : Raw m n s) (s
 
   edge₃ : (j : ℕ) → edgeOf s₃ j ≡ edgeOf s j
   unfolding edgeOf
-  edge₃ j = rw (given₃ .tables .at weight, given₃ .tables .at first, given₃ .tables .at second, given₃ .diff) refl
+  edge₃ j = rw (given₃ .tables .at weight, given₃ .tables .at first, given₃ .tables .at second, given₃ .tables .at bridged, given₃ .diff) refl
 
   edges₃ : map (edgeOf s₃) (upto m 0) ≡ map (edgeOf s) (upto m 0)
   edges₃ = map-upto-same (edgeOf s₃) (edgeOf s) m 0 (λ j p q. edge₃ j)
@@ -180,6 +180,7 @@ module _ (m n : ℕ) (s : Tables) (lens₀ : Lengths m n s) (raw : Raw m n s) (s
         (λ j h. omega (arith, count₃ j h));
     single = subst (λ (l : List Float). (j : ℕ) → j < m → lib.Dec.T (lib.Ieee.fits lib.Ieee.binary32 (getD l j nan))) (sym (given₃ .diff)) (raw .single);
     light = subst (λ (l : List ℕ). sum l < 2 ^ 32) (sym (given₃ .tables .at weight)) (raw .light);
+    spanned = subst (λ (l : List ℕ). sum l < 2 ^ 32) (sym (given₃ .tables .at bridged)) (raw .spanned);
   }
 
   rep₃ : Rep m n (gatesIn s₃) 0 s₃ (firstOf m n s₃)
@@ -224,7 +225,7 @@ module _ (m n : ℕ) (w : List ℕ) (d : List Float) (sp : Space m n w d) (raw :
   room₁ : HoldsTables m n w₁ d
   room₁ = record { words = omega (arith, sp .words, D₁ .long); diffs = sp .diffs; small = sp .small; tree = D₁ .tree }
 
-  module _ (w₂ : List ℕ) (lw₂ : length w₂ ≡ length w₁) (e₂ : w₂ ≡ put w₁ (5 * m) (upto (2 * m + n) 0)) where
+  module _ (w₂ : List ℕ) (lw₂ : length w₂ ≡ length w₁) (e₂ : w₂ ≡ put w₁ (6 * m) (upto (2 * m + n) 0)) where
     D₂ : LeavesTables m n w₂ d (slots m n (view m n w₁ d))
     D₂ = slots-does m n w₁ w₂ d room₁ e₂
 

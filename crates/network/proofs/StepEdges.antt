@@ -12,7 +12,7 @@ use Rattle.lists.proofs.AllLaws.{mem-upto}
 use Rattle.lists.specs.Seq.{upto}
 use Rattle.network.specs.Network.{Edge, Region, State, Plan, sizeOf, plan, planFor, kill, turn, turnIf, adjust, prepare, combine}
 use Rattle.merge.specs.Inside.Tables.{Tables, Sound, store}
-use Rattle.merge.specs.Inside.Table.{is, weight, first, second, enext, rnext, stamp, size, elen, rlen, count}
+use Rattle.merge.specs.Inside.Table.{is, weight, first, second, bridged, enext, rnext, stamp, size, elen, rlen, count}
 use Rattle.merge.specs.Inside.Steps.{unbias, turned, pruned, takeEdge, walkMoved, movedAll}
 use Rattle.merge.specs.Inside.Leaves.{Gains}
 use Rattle.network.specs.Inside.Net.{edgeOf, edgeNow, regionOf, Like}
@@ -43,11 +43,11 @@ sound-moved-all m n b v g s ok h = sound-walk-moved m n b v g (getD (s .at elen)
 
 counted-edges : (s t : Tables) → CountsDiffer s t → (j : ℕ) → edgeNow s j ≡ edgeNow t j
 unfolding edgeNow turned edgeOf
-counted-edges s t c j = rw (c .tables .at weight, c .tables .at first, c .tables .at second, c .tables .at stamp, c .diff) refl
+counted-edges s t c j = rw (c .tables .at weight, c .tables .at first, c .tables .at second, c .tables .at bridged, c .tables .at stamp, c .diff) refl
 
 same-edges : (s t : Tables) → Same s t → (j : ℕ) → edgeNow s j ≡ edgeNow t j
 unfolding edgeNow turned edgeOf
-same-edges s t c j = rw (c .beside .at weight, c .beside .at first, c .beside .at second, c .beside .at stamp, c .diff) refl
+same-edges s t c j = rw (c .beside .at weight, c .beside .at first, c .beside .at second, c .beside .at bridged, c .beside .at stamp, c .diff) refl
 
 -- preparing turns an edge or leaves its ends
 pub prep-ends : (pl : Plan) (e : Edge) → ((prepare pl e .first ≡ e .first) × (prepare pl e .second ≡ e .second)) ⊎ ((prepare pl e .second ≡ e .first) × (prepare pl e .first ≡ e .second))
@@ -178,7 +178,7 @@ module _ (m n : ℕ) (gates : ℕ → ℕ) (past : ℕ) (s : Tables) (t : State)
     beside₂ = alike-store (is stamp) stamp s₁ (pl .base) (past + 1) refl
 
     pub sound₂ : Sound m n s₂
-    sound₂ = sound-store stamp m n s₁ sound₁ (pl .base) (past + 1) refl tt
+    sound₂ = sound-store stamp m n s₁ sound₁ (pl .base) (past + 1) refl refl tt
 
     newest₁ : (x : ℕ) → getD (s₁ .at stamp) x 0 < past + 1
     newest₁ x = subst (λ (y : List ℕ). getD y x 0 < past + 1) (sym (same₁ .0)) (omega (arith, R .stamps x))

@@ -141,10 +141,10 @@ module _ (m n : ℕ) (gates : ℕ → ℕ) (past : ℕ) (w : List ℕ) (d : List
         asks-second = rw (ends-words .0, ends-words .1)
             (R .sound, (record { b-in = ends-words .3; v-in = ends-words .2; apart = λ q. proper (sym q); g-in = omega arith }, (fit-of (R .E e .second) (R .E e .first) (ends-words .3) (ends-words .2) leads-second leads-first (λ q. proper (sym q)), lt)))
 
-        size-first : getD w (7 * m + 3 * n + p) 0 ≡ sizeOf rs (R .E e .first)
+        size-first : getD w (8 * m + 3 * n + p) 0 ≡ sizeOf rs (R .E e .first)
         size-first = rw (ends-words .0) (sym (read size m n w d (R .E e .first) (ends-words .2)) ∙ R .sizes (R .E e .first) (ends-words .2) leads-first)
 
-        size-second : getD w (7 * m + 3 * n + q) 0 ≡ sizeOf rs (R .E e .second)
+        size-second : getD w (8 * m + 3 * n + q) 0 ≡ sizeOf rs (R .E e .second)
         size-second = rw (ends-words .1) (sym (read size m n w d (R .E e .second) (ends-words .3)) ∙ R .sizes (R .E e .second) (ends-words .3) leads-second)
 
         -- what the merge comes to
@@ -168,7 +168,7 @@ module _ (m n : ℕ) (gates : ℕ → ℕ) (past : ℕ) (w : List ℕ) (d : List
               record { answer = sym (ap mergedBy out); leaves = λ h. absurd (true≢false (sym h ∙ out)) }
 
         -- the first end is the base
-        module _ (more : getD w (7 * m + 3 * n + q) 0 < getD w (7 * m + 3 * n + p) 0) where
+        module _ (more : getD w (8 * m + 3 * n + q) 0 < getD w (8 * m + 3 * n + p) 0) where
           plan-first : plan rs (R .E e) ≡ planFor true (R .E e)
           unfolding plan
           plan-first = ap (λ (x : Bool). planFor x (R .E e)) (lt-ltb (sizeOf rs (R .E e .second)) (sizeOf rs (R .E e .first)) (omega (arith, size-first, size-second)))
@@ -192,7 +192,7 @@ module _ (m n : ℕ) (gates : ℕ → ℕ) (past : ℕ) (w : List ℕ) (d : List
           first-no = merged-no p q g base₁ moved₁ gain₁ (N .most)
 
         -- the second end is
-        module _ (less : getD w (7 * m + 3 * n + p) 0 ≤ getD w (7 * m + 3 * n + q) 0) where
+        module _ (less : getD w (8 * m + 3 * n + p) 0 ≤ getD w (8 * m + 3 * n + q) 0) where
           plan-second : plan rs (R .E e) ≡ planFor false (R .E e)
           unfolding plan
           plan-second = ap (λ (x : Bool). planFor x (R .E e)) (le-ltb (sizeOf rs (R .E e .second)) (sizeOf rs (R .E e .first)) (omega (arith, size-first, size-second)))
@@ -293,18 +293,18 @@ module _ (m n : ℕ) (w : List ℕ) (d : List Float) (r : HoldsTables m n w d) (
   answer : (p : PoppedEdge) → Takes m n w d p → Answer p
   answer p k = (k, λ gates past t R. pop-is m n gates past w d t R p k)
 
-  pub pop-turned : getD w (7 * m + 2 * n + x) 0 < getD w (7 * m + 2 * n + y) 0
+  pub pop-turned : getD w (8 * m + 2 * n + x) 0 < getD w (8 * m + 2 * n + y) 0
       → Answer (record { node1 = y; node2 = x; diff = div binary64 (neg (getD d e nan)) (real (pos (getD w e 0))); «edge_number» = e })
   unfolding edgeNow turnIf edgeOf view
   pop-turned lt =
-      let yes : turned (view m n w d) e ≡ true = turned-words m n w d r e (B .within) h ∙ lt-ltb (getD w (7 * m + 2 * n + x) 0) (getD w (7 * m + 2 * n + y) 0) lt in
+      let yes : turned (view m n w d) e ≡ true = turned-words m n w d r e (B .within) h ∙ lt-ltb (getD w (8 * m + 2 * n + x) 0) (getD w (8 * m + 2 * n + y) 0) lt in
       answer _ (record { best = B; live = live; first = rw yes (sym (read second m n w d e (B .within))); second = rw yes (sym (read first m n w d e (B .within))); diff = rw yes refl })
 
-  pub pop-straight : getD w (7 * m + 2 * n + y) 0 ≤ getD w (7 * m + 2 * n + x) 0
+  pub pop-straight : getD w (8 * m + 2 * n + y) 0 ≤ getD w (8 * m + 2 * n + x) 0
       → Answer (record { node1 = x; node2 = y; diff = div binary64 (getD d e nan) (real (pos (getD w e 0))); «edge_number» = e })
   unfolding edgeNow turnIf edgeOf view
   pop-straight le =
-      let no : turned (view m n w d) e ≡ false = turned-words m n w d r e (B .within) h ∙ le-ltb (getD w (7 * m + 2 * n + x) 0) (getD w (7 * m + 2 * n + y) 0) le in
+      let no : turned (view m n w d) e ≡ false = turned-words m n w d r e (B .within) h ∙ le-ltb (getD w (8 * m + 2 * n + x) 0) (getD w (8 * m + 2 * n + y) 0) le in
       answer _ (record { best = B; live = live; first = rw no (sym (read first m n w d e (B .within))); second = rw no (sym (read second m n w d e (B .within))); diff = rw no refl })
 
 -- what is known of the answer of choosing, by its case

@@ -1,3 +1,4 @@
 pub mod Network
+pub mod Theorems
 pub mod Evaluating
 pub mod Inside

@@ -20,12 +20,13 @@ use Rattle.network.specs.declared.network.Popped.the-variants.{Edge as T
 
 -- ---- the network
 
--- An edge's weight and difference: what follows its node when it moves.
+-- An edge's weight, its difference and how many of its pairs are bridged: what follows its node when it moves.
 pub record Link : Type 0 where
   pub weight : ℕ
   pub diff : Float
+  pub bridged : ℕ
 
--- An edge: its number, whether it is live, the nodes at its ends, its weight and its difference.
+-- An edge: its number, whether it is live, the nodes at its ends, and its link.
 pub record Edge : Type 0 where
   pub num : ℕ
   pub live : Bool
@@ -144,7 +145,11 @@ adjust m k e = record {
   live = e .live;
   first = e .first;
   second = e .second;
-  link = record { weight = e .link .weight; diff = shifted (isZero k) (eqb m (e .first)) (eqb m (e .second)) k (e .link .weight) (e .link .diff) };
+  link = record {
+    weight = e .link .weight;
+    diff = shifted (isZero k) (eqb m (e .first)) (eqb m (e .second)) k (e .link .weight) (e .link .diff);
+    bridged = e .link .bridged;
+  };
 }
 
 -- An edge turned, if asked.
@@ -154,7 +159,7 @@ turnIf b e = record {
   live = e .live;
   first = cond b (e .second) (e .first);
   second = cond b (e .first) (e .second);
-  link = record { weight = e .link .weight; diff = cond b (neg (e .link .diff)) (e .link .diff) };
+  link = record { weight = e .link .weight; diff = cond b (neg (e .link .diff)) (e .link .diff); bridged = e .link .bridged };
 }
 
 -- An edge whose second end is node x is turned.
@@ -174,7 +179,7 @@ absorb (some g) e = record {
   live = e .live;
   first = e .first;
   second = e .second;
-  link = record { weight = e .link .weight + g .weight; diff = add binary32 (e .link .diff) (g .diff) };
+  link = record { weight = e .link .weight + g .weight; diff = add binary32 (e .link .diff) (g .diff); bridged = e .link .bridged + g .bridged };
 }
 
 -- Whether there is no such edge.
@@ -326,7 +331,7 @@ edgeOf twoNyquist k r = record {
   live = true;
   first = r .one;
   second = r .two;
-  link = record { weight = r .count; diff = difference twoNyquist r };
+  link = record { weight = r .count; diff = difference twoNyquist r; bridged = r .bridged };
 }
 
 -- The edges of records, numbered from k.

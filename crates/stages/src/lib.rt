@@ -1,4 +1,4 @@
-// The stages of a sweep call, exported one by one so that bench/ can time them and tests/peers can look at them. Each is a call of the functions
+// The stages of a sweep call, exported one by one so that bench/ can time them and tests can look at them. Each is a call of the functions
 // that the entry uses, and asks of its caller what they ask, and promises what they promise: callers get there by the stages before, on sweeps that
 // the entry accepts.
 ghost use mathlib.Core.Path.{_≡_};
@@ -157,7 +157,7 @@ pub extern "C" fn stage_looks(
         skip_along_ray: skip_along_ray,
         wrap: wrap,
     };
-    edges::edges::pair_all(work, n, f)
+    edges::pairs::pair_all(work, n, f)
 }
 
 // The sort of m pairs with labels below k.

@@ -12,7 +12,7 @@ use lib.Ieee.{Float, nan}
 use borrow.Author.Tests.{eqb-true, ne-eqb}
 use Rattle.lists.specs.Seq.{upto, each, keep}
 use Rattle.lists.proofs.SeqLaws.{keep-most}
-use Rattle.edges.specs.Edges.{sees, Pair, pairTo, pairsAt, pairs, gathered, firstIs, secondIs, recordsOf, records, greaterFirst, used}
+use Rattle.edges.specs.Edges.{sees, bridges, Pair, pairTo, pairsAt, pairs, gathered, firstIs, secondIs, recordsOf, records, greaterFirst, used}
 use Rattle.edges.specs.declared.edges.Shape.{Shape}
 use Rattle.edges.specs.declared.edges.Direction.{Direction}
 use Rattle.edges.specs.declared.edges.Direction.the-variants.{Left, Right, Top, Bottom}
@@ -121,10 +121,10 @@ used-most : (n : ℕ) (ps : List Pair) → length (used n ps) ≤ length ps
 unfolding used
 used-most n ps = omega (arith, keep-most greaterFirst (records n ps), records-most n ps)
 
-pair-most : (labels : List ℕ) (vel : List Float) (g : ℕ) (o : Option ℕ) → length (pairTo labels vel g o) ≤ 1
+pair-most : (labels : List ℕ) (vel : List Float) (g : ℕ) (b : Bool) (o : Option ℕ) → length (pairTo labels vel g b o) ≤ 1
 unfolding pairTo
-pair-most labels vel g none = omega arith
-pair-most labels vel g (some h) = go (eqb (getD labels g 0) (getD labels h 0)) (record { one = getD labels g 0; two = getD labels h 0; vel1 = getD vel g nan; vel2 = getD vel h nan })
+pair-most labels vel g b none = omega arith
+pair-most labels vel g b (some h) = go (eqb (getD labels g 0) (getD labels h 0)) (record { one = getD labels g 0; two = getD labels h 0; vel1 = getD vel g nan; vel2 = getD vel h nan; bridged = b })
   where
     go : (b : Bool) (x : Pair) → length (cond b [] (x ∷ [])) ≤ 1
     go true x = omega arith
@@ -133,9 +133,9 @@ pair-most labels vel g (some h) = go (eqb (getD labels g 0) (getD labels h 0)) (
 gate-most : (s : Shape) (labels : List ℕ) (vel : List Float) (g : ℕ) → length (pairsAt s labels vel g) ≤ 4
 unfolding pairsAt
 gate-most s labels vel g =
-    let looks : Direction → List Pair = λ d. pairTo labels vel g (sees s labels d g) in
+    let looks : Direction → List Pair = λ d. pairTo labels vel g (bridges s labels d g) (sees s labels d g) in
     let ds : List Direction = Left ∷ Right ∷ Top ∷ Bottom ∷ [] in
-    go (eqb (getD labels g 0) 0) (each looks ds) (each-most looks 1 ds (λ d. pair-most labels vel g (sees s labels d g)))
+    go (eqb (getD labels g 0) 0) (each looks ds) (each-most looks 1 ds (λ d. pair-most labels vel g (bridges s labels d g) (sees s labels d g)))
   where
     go : (b : Bool) (l : List Pair) → length l ≤ 4 * 1 → length (cond b [] l) ≤ 4
     go true l h = omega arith

@@ -1,15 +1,16 @@
 -- Sorted pairs read back, and runs of them gathered as c edges into the tables from t on, where Layout puts them.
-use Prim.Native.Nat.{ℕ, _+_, _-_, _*_, _≤_, _<_, _^_}
+use Prim.Native.Nat.{ℕ, _+_, _-_, _*_, _/_, _%_, _≤_, _<_, _^_}
 use mathlib.Core.Path.{_≡_}
 use mathlib.Core.Bool.{true, false}
 use mathlib.Core.List.{List, map}
+use lib.Dec.{eqb}
 use lib.ListN.{length, getD, set}
 use lib.Ieee.{Float}
 use Rattle.lists.specs.Seq.{upto}
 use Rattle.lists.specs.Inside.Seg.{seg, put}
 use Rattle.edges.specs.Edges.{Pair, begun, plus, difference}
-use Rattle.edges.specs.Inside.GatePairs.{both, pairOf}
-use Rattle.memory.specs.Inside.Layout.{gateAt, farAt, orderAt, firstAt, secondAt, enextAt}
+use Rattle.edges.specs.Inside.GatePairs.{GatePair, both, pairOf}
+use Rattle.memory.specs.Inside.Layout.{gateAt, farAt, orderAt, firstAt, secondAt, bridgedAt, enextAt}
 use Rattle.edges.specs.Inside.Order.{alike, runs}
 use Rattle.edges.specs.declared.edges.Raw.{Raw}
 use Rattle.edges.specs.declared.edges.Gathering.{Gathering}
@@ -17,11 +18,15 @@ use Rattle.edges.specs.declared.edges.Labels.{Labels}
 use Rattle.edges.specs.declared.edges.EdgeRecord.{EdgeRecord}
 
 abbrev pub pairIs : Raw → Pair
-pairIs p = record { one = p .one; two = p .two; vel1 = p .vel1; vel2 = p .vel2 }
+pairIs p = record { one = p .one; two = p .two; vel1 = p .vel1; vel2 = p .vel2; bridged = p .bridged }
+
+-- the pair of gates that two words stand for
+abbrev pub gatesBy : ℕ → ℕ → GatePair
+gatesBy x y = both (x / 2) (y / 2) (eqb (y % 2) 1)
 
 -- the i-th of the sorted pairs
 unfoldable pub pairAt : List ℕ → List Float → ℕ → ℕ → Pair
-pairAt w vel n i = pairOf (seg w 0 n) vel (both (getD w (gateAt n + getD w (orderAt n + i) 0) 0) (getD w (farAt n + getD w (orderAt n + i) 0) 0))
+pairAt w vel n i = pairOf (seg w 0 n) vel (gatesBy (getD w (gateAt n + getD w (orderAt n + i) 0) 0) (getD w (farAt n + getD w (orderAt n + i) 0) 0))
 
 -- those from i on
 unfoldable pub later : List ℕ → List Float → ℕ → ℕ → ℕ → List Pair
@@ -35,8 +40,8 @@ pub record ReadsPairs (w : List ℕ) (vel : List Float) (n m : ℕ) : Type 0 whe
   pub little : n < 2 ^ 32
   pub vels : length vel ≡ n
   pub index : (i : ℕ) → i < m → getD w (orderAt n + i) 0 < m
-  pub gate : (x : ℕ) → x < m → getD w (gateAt n + x) 0 < n
-  pub far : (x : ℕ) → x < m → getD w (farAt n + x) 0 < n
+  pub gate : (x : ℕ) → x < m → getD w (gateAt n + x) 0 / 2 < n
+  pub far : (x : ℕ) → x < m → getD w (farAt n + x) 0 / 2 < n
 
 -- the same of their labels, whatever the velocities are
 abbrev pub Legible : List ℕ → ℕ → ℕ → Type 0
@@ -48,11 +53,13 @@ LabelsAt w n i r = (vel : List Float) → (r .one ≡ pairAt w vel n i .one) × 
 
 -- edge e written
 unfoldable pub written : List ℕ → ℕ → ℕ → ℕ → EdgeRecord → List ℕ
-written w t c e r = set (set (set w (t + e) (r .count)) (t + firstAt c + e) (r .one)) (t + secondAt c + e) (r .two)
+written w t c e r = set (set (set (set w (t + e) (r .count)) (t + firstAt c + e) (r .one)) (t + secondAt c + e) (r .two)) (t + bridgedAt c + e) (r .bridged)
 
 -- edges 0, 1, .. written
 unfoldable pub tables : List ℕ → ℕ → ℕ → List EdgeRecord → List ℕ
-tables w t c rs = put (put (put w t (map (λ r. r .count) rs)) (t + firstAt c) (map (λ r. r .one) rs)) (t + secondAt c) (map (λ r. r .two) rs)
+tables w t c rs =
+    put (put (put (put w t (map (λ r. r .count) rs)) (t + firstAt c) (map (λ r. r .one) rs)) (t + secondAt c) (map (λ r. r .two) rs))
+    (t + bridgedAt c) (map (λ r. r .bridged) rs)
 
 -- room for edge e
 pub record Slot (w : List ℕ) (d : List Float) (n m t c e : ℕ) : Type 0 where

@@ -8,7 +8,7 @@ use Rattle.lists.specs.Inside.Seg.{seg}
 use Rattle.lists.specs.Seq.{sum}
 use Rattle.edges.specs.declared.edges.Shape.{Shape}
 use Rattle.edges.specs.Edges.{difference}
-use Rattle.memory.specs.Inside.Layout.{orderAt, tallyAt, firstAt, secondAt, enextAt}
+use Rattle.memory.specs.Inside.Layout.{orderAt, tallyAt, firstAt, secondAt, bridgedAt, enextAt}
 use Rattle.edges.specs.declared.edges.EdgeRecord.{EdgeRecord}
 
 -- labels 0 to k in the first n words; room for the tables from t on
@@ -27,8 +27,10 @@ pub record Edged (twoNyquist : Float) (n : ℕ) (u v : List ℕ) (b : List Float
   pub count : e ≡ length rs
   pub few : e ≤ 4 * n
   pub light : sum (map (λ r. r .count) rs) ≤ 4 * n
+  pub spans : sum (map (λ r. r .bridged) rs) ≤ 4 * n
   pub weight : seg v t e ≡ map (λ r. r .count) rs
   pub first : seg v (t + firstAt e) e ≡ map (λ r. r .one) rs
   pub second : seg v (t + secondAt e) e ≡ map (λ r. r .two) rs
+  pub bridged : seg v (t + bridgedAt e) e ≡ map (λ r. r .bridged) rs
   pub diff : seg b 0 e ≡ map (difference twoNyquist) rs
   pub labels : seg v 0 n ≡ seg u 0 n

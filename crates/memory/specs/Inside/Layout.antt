@@ -2,9 +2,9 @@
 --
 -- The words, from 0 on, stage by stage; a part of one stage is free for the next unless it stands there too:
 --   finding regions    labels n, work of region finding 2n + 64
---   pairing            labels n, gates of the pairs 4n, gates that these see 4n
+--   pairing            labels n, gates of the pairs 4n, gates that these see 4n, whether the look was bridged in the lowest bit of either
 --   sorting            the same, then from 9n: order m, spare m, first labels m, second labels m, tallies v
---   gathering          the same pairs and order, then from 13n: the edges' weights and ends, in their tables
+--   gathering          the same pairs and order, then from 13n: the edges' weights, ends and bridged pairs, in their tables
 --   merging            labels n, sizes v, counts v, then from 13n the tables of edges and nodes
 -- The floats: the edges' differences, from 0 on.
 use Prim.Native.Nat.{ℕ, _+_, _*_, _≤_}
@@ -66,32 +66,36 @@ firstAt e = 3 * e
 abbrev pub secondAt : ℕ → ℕ
 secondAt e = 4 * e
 
+-- how many of their pairs are bridged
+abbrev pub bridgedAt : ℕ → ℕ
+bridgedAt e = 5 * e
+
 -- the slots of the edges' ends and the nodes' headers, each with the next of its chain
 abbrev pub enextAt : ℕ → ℕ
-enextAt e = 5 * e
+enextAt e = 6 * e
 
 -- of each node: the next region of its chain, its stamp, its size, the lengths of its two chains, its count
 abbrev pub rnextAt : ℕ → ℕ → ℕ
-rnextAt e v = 7 * e + v
+rnextAt e v = 8 * e + v
 
 abbrev pub stampAt : ℕ → ℕ → ℕ
-stampAt e v = 7 * e + 2 * v
+stampAt e v = 8 * e + 2 * v
 
 abbrev pub nodeSizeAt : ℕ → ℕ → ℕ
-nodeSizeAt e v = 7 * e + 3 * v
+nodeSizeAt e v = 8 * e + 3 * v
 
 abbrev pub elenAt : ℕ → ℕ → ℕ
-elenAt e v = 7 * e + 4 * v
+elenAt e v = 8 * e + 4 * v
 
 abbrev pub rlenAt : ℕ → ℕ → ℕ
-rlenAt e v = 7 * e + 5 * v
+rlenAt e v = 8 * e + 5 * v
 
 abbrev pub nodeCountAt : ℕ → ℕ → ℕ
-nodeCountAt e v = 7 * e + 6 * v
+nodeCountAt e v = 8 * e + 6 * v
 
 -- all of them
 abbrev pub tableWords : ℕ → ℕ → ℕ
-tableWords e v = 7 * e + 7 * v
+tableWords e v = 8 * e + 7 * v
 
 -- ---- the parts of each stage, in order of place
 
@@ -118,20 +122,20 @@ sortParts n k m =
 abbrev pub gatherParts : ℕ → ℕ → ℕ → List Part
 gatherParts n m e =
     part 0 n ∷ part (gateAt n) (4 * n) ∷ part (farAt n) (4 * n) ∷ part (orderAt n) m
-    ∷ part (tablesAt n + weightAt) e ∷ part (tablesAt n + firstAt e) e ∷ part (tablesAt n + secondAt e) e ∷ []
+    ∷ part (tablesAt n + weightAt) e ∷ part (tablesAt n + firstAt e) e ∷ part (tablesAt n + secondAt e) e ∷ part (tablesAt n + bridgedAt e) e ∷ []
 
 abbrev pub mergeParts : ℕ → ℕ → ℕ → List Part
 mergeParts n k e =
     part 0 n ∷ part (sizesAt n) (k + 1) ∷ part (countsAt n k) (k + 1)
     ∷ part (tablesAt n + weightAt) e ∷ part (tablesAt n + treeAt e) (2 * e) ∷ part (tablesAt n + firstAt e) e ∷ part (tablesAt n + secondAt e) e
-    ∷ part (tablesAt n + enextAt e) (2 * e + (k + 1)) ∷ part (tablesAt n + rnextAt e (k + 1)) (k + 1) ∷ part (tablesAt n + stampAt e (k + 1)) (k + 1)
+    ∷ part (tablesAt n + bridgedAt e) e ∷ part (tablesAt n + enextAt e) (2 * e + (k + 1)) ∷ part (tablesAt n + rnextAt e (k + 1)) (k + 1) ∷ part (tablesAt n + stampAt e (k + 1)) (k + 1)
     ∷ part (tablesAt n + nodeSizeAt e (k + 1)) (k + 1) ∷ part (tablesAt n + elenAt e (k + 1)) (k + 1) ∷ part (tablesAt n + rlenAt e (k + 1)) (k + 1)
     ∷ part (tablesAt n + nodeCountAt e (k + 1)) (k + 1) ∷ []
 
--- the parts of every stage lie apart, and fit into half of the words that question 4 asks for and a quarter of the floats
+-- the parts of every stage lie apart, and fit into 52n + 32 of the 96n + 64 words that question 4 asks for, and a quarter of the floats
 pub record Laid (n k m e : ℕ) : Type 0 where
-  pub regions : InTurn 0 (regionParts n) (48 * n + 32)
-  pub sort : InTurn 0 (sortParts n k m) (48 * n + 32)
-  pub gather : InTurn 0 (gatherParts n m e) (48 * n + 32)
-  pub merge : InTurn 0 (mergeParts n k e) (48 * n + 32)
+  pub regions : InTurn 0 (regionParts n) (52 * n + 32)
+  pub sort : InTurn 0 (sortParts n k m) (52 * n + 32)
+  pub gather : InTurn 0 (gatherParts n m e) (52 * n + 32)
+  pub merge : InTurn 0 (mergeParts n k e) (52 * n + 32)
   pub differences : InTurn 0 (part 0 e ∷ []) (4 * n)

@@ -7,7 +7,7 @@ use lib.IntN.{ℤ, pos, negsuc, _+ℤ_}
 use lib.ListN.{getD}
 use lib.Ieee.{nan, Float, neg, binary32, add}
 use Rattle.merge.specs.Inside.Tables.{Tables, store, diff-set}
-use Rattle.merge.specs.Inside.Table.{weight, first, second, enext, rnext, stamp, size, elen, rlen, count}
+use Rattle.merge.specs.Inside.Table.{Table, weight, first, second, bridged, enext, rnext, stamp, size, elen, rlen, count}
 use Rattle.arithmetic.specs.Rounding.{scale}
 
 -- numbers from -1000 to 1000 are kept as words from 0 to 2000
@@ -78,9 +78,13 @@ seekAll m b c s h = seek (getD (s .at elen) h 0 - 1) m b c s (getD (s .at enext)
 unfoldable pub mate : ℕ → ℕ → Tables → ℕ → ℕ
 mate m b s c = cond (ltb (getD (s .at elen) b 0) (getD (s .at elen) c 0)) (seekAll m b c s b) (seekAll m b c s c)
 
+-- what edge f has in a table goes to edge q
+unfoldable pub handOver : Table → Tables → ℕ → ℕ → Tables
+handOver t s q f = store t (store t s q (getD (s .at t) q 0 + getD (s .at t) f 0)) f 0
+
 -- edge q takes up edge f, whose difference is x
 unfoldable pub absorbAt : Tables → ℕ → ℕ → Float → Tables
-absorbAt s q f x = store weight (store weight (diff-set s q (add binary32 (getD (s .diff) q nan) x)) q (getD (s .at weight) q 0 + getD (s .at weight) f 0)) f 0
+absorbAt s q f x = handOver weight (handOver bridged (diff-set s q (add binary32 (getD (s .diff) q nan) x)) q f) q f
 
 -- edge f becomes the base's edge to c
 unfoldable pub attachAt : ℕ → Tables → ℕ → ℕ → Float → Tables

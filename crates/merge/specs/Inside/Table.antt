@@ -6,7 +6,7 @@ use mathlib.Core.List.{List, [], _∷_}
 use Prim.Native.Nat.{ℕ, _+_, _*_}
 use lib.Dec.{eqb}
 use lib.ListN.{getD}
-use Rattle.memory.specs.Inside.Layout.{Part, part, weightAt, firstAt, secondAt, enextAt, rnextAt, stampAt, nodeSizeAt, elenAt, rlenAt, nodeCountAt}
+use Rattle.memory.specs.Inside.Layout.{Part, part, weightAt, firstAt, secondAt, bridgedAt, enextAt, rnextAt, stampAt, nodeSizeAt, elenAt, rlenAt, nodeCountAt}
 
 -- a table is its number in the list of them
 pub data Table : Type 0 where
@@ -21,6 +21,7 @@ tables m n =
     part weightAt m
     ∷ part (firstAt m) m
     ∷ part (secondAt m) m
+    ∷ part (bridgedAt m) m
     ∷ part (enextAt m) (2 * m + n)
     ∷ part (rnextAt m n) n
     ∷ part (stampAt m n) n
@@ -30,7 +31,7 @@ tables m n =
     ∷ part (nodeCountAt m n) n
     ∷ []
 
--- of each edge: its weight, 0 where it is dead, and its two ends
+-- of each edge: its weight, 0 where it is dead, its two ends, and how many of its pairs are bridged
 abbrev pub weight : Table
 weight = table 0
 
@@ -40,32 +41,35 @@ first = table 1
 abbrev pub second : Table
 second = table 2
 
+abbrev pub bridged : Table
+bridged = table 3
+
 -- of each slot: the next of its chain
 abbrev pub enext : Table
-enext = table 3
+enext = table 4
 
 -- of each node: the next region of its chain
 abbrev pub rnext : Table
-rnext = table 4
+rnext = table 5
 
 -- the number of the merge in which it was the base last, 0 if in none
 abbrev pub stamp : Table
-stamp = table 5
+stamp = table 6
 
 -- its gates
 abbrev pub size : Table
-size = table 6
+size = table 7
 
 -- the lengths of its two chains
 abbrev pub elen : Table
-elen = table 7
+elen = table 8
 
 abbrev pub rlen : Table
-rlen = table 8
+rlen = table 9
 
 -- its count, with 1,000 added
 abbrev pub count : Table
-count = table 9
+count = table 10
 
 -- where a table begins, and how many words it has
 abbrev pub from : Table → ℕ → ℕ → ℕ

@@ -11,7 +11,7 @@ use Rattle.lists.specs.Inside.Seg.{seg}
 use Rattle.lists.specs.Seq.{sum}
 use Rattle.memory.specs.Inside.Tree.{Tree}
 use Rattle.memory.specs.Inside.Layout.{tableWords}
-use Rattle.merge.specs.Inside.Table.{Table, weight, first, second, enext, rnext, count, from, long, is}
+use Rattle.merge.specs.Inside.Table.{Table, weight, first, second, bridged, enext, rnext, count, from, long, is}
 
 -- the tables of words by name, and the edges' differences
 pub record Tables : Type 0 where
@@ -37,13 +37,14 @@ abbrev pub Below : Option ℕ → ℕ → Type 0
 Below none x = Unit {0}
 Below (some k) x = x < k
 
--- every index is in its range, and no sum of weights wraps
+-- every index is in its range, and no sum of weights or of bridged pairs wraps
 pub record Sound (m n : ℕ) (s : Tables) : Type 0 where
   pub lengths : (t : Table) → length (s .at t) ≡ long t m n
   pub l-diff : m ≤ length (s .diff)
   pub within : (t : Table) (j : ℕ) → j < long t m n → Below (limit t m n) (getD (s .at t) j 0)
   pub single : (j : ℕ) → j < m → T (fits binary32 (getD (s .diff) j nan))
   pub light : sum (s .at weight) < 2 ^ 32
+  pub spanned : sum (s .at bridged) < 2 ^ 32
 
 -- table t with x at j
 unfoldable pub store : Table → Tables → ℕ → ℕ → Tables

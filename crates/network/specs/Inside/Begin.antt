@@ -10,7 +10,7 @@ use lib.ListN.{length, getD}
 use Rattle.network.specs.Network.{Region, State, gatesOf}
 use Rattle.lists.specs.Seq.{upto, sum}
 use Rattle.merge.specs.Inside.Tables.{Tables, view, HoldsTables, store}
-use Rattle.merge.specs.Inside.Table.{is, weight, first, second, enext, rnext, stamp, size, elen, rlen, count}
+use Rattle.merge.specs.Inside.Table.{is, weight, first, second, bridged, enext, rnext, stamp, size, elen, rlen, count}
 use Rattle.memory.specs.Inside.Layout.{tableWords}
 use Rattle.network.specs.Inside.Net.{edgeOf}
 use Rattle.network.specs.Inside.Rep.{Rep}
@@ -59,6 +59,7 @@ pub record Raw (m n : ℕ) (s : Tables) : Type 0 where
   pub second-in : (j : ℕ) → j < m → getD (s .at second) j 0 < n
   pub single : (j : ℕ) → j < m → T (fits binary32 (getD (s .diff) j nan))
   pub light : sum (s .at weight) < 2 ^ 32
+  pub spanned : sum (s .at bridged) < 2 ^ 32
   pub gates : gatesOf (map (rawRegion s) (upto n 0)) < 2 ^ 32
   pub simple : Simple (map (edgeOf s) (upto m 0))
 

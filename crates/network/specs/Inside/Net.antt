@@ -9,7 +9,7 @@ use lib.ListN.{getD}
 use Rattle.lists.specs.Seq.{upto}
 use Rattle.network.specs.Network.{Edge, Region, State, turnIf}
 use Rattle.merge.specs.Inside.Tables.{Tables}
-use Rattle.merge.specs.Inside.Table.{weight, first, second, count}
+use Rattle.merge.specs.Inside.Table.{weight, first, second, bridged, count}
 use Rattle.merge.specs.Inside.Steps.{unbias, turned}
 
 -- edge j as it is stored: live where its weight is not 0
@@ -19,7 +19,7 @@ edgeOf s j = record {
   live = not (eqb (getD (s .at weight) j 0) 0);
   first = getD (s .at first) j 0;
   second = getD (s .at second) j 0;
-  link = record { weight = getD (s .at weight) j 0; diff = getD (s .diff) j nan };
+  link = record { weight = getD (s .at weight) j 0; diff = getD (s .diff) j nan; bridged = getD (s .at bridged) j 0 };
 }
 
 -- edge j as it stands: turned where its second end was a base later than its first

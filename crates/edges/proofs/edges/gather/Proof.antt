@@ -37,7 +37,7 @@ gather-one-requires c κs =
       going-ready (a .two-nyquist) (a .w .now) (a .d .now) (a .vel .now) (a .n) (a .m) (a .t) (a .c) (p) (l .w) (l .d) (l .s) (l .i) (l .inv .1),
       (
         going-slot (a .two-nyquist) (a .w .now) (a .d .now) (a .vel .now) (a .n) (a .m) (a .t) (a .c) (p) (l .w) (l .d) (l .s) (l .i) (l .inv .1),
-        (c .before .before .loop-test .taken, omega (arith, l .inv .1 .few, c .before .before .loop-test .taken, p .ready .small)),
+        (c .before .before .loop-test .taken, omega (arith, l .inv .1 .few, c .before .before .loop-test .taken, p .ready .small), l .inv .1 .spans),
       ),
     )
 

@@ -57,11 +57,11 @@ mul-t10 c = omega (arith, at (c .before .before .before))
 shared-slice-read-t12 : tie.Need-shared-slice-read-t12
 shared-slice-read-t12 c = omega (arith, at (c .before .before .before .before))
 
-mul-t9 : tie.Need-mul-t9
-mul-t9 c = omega (arith, at (c .before .before .before .before))
+mul-t8 : tie.Need-mul-t8
+mul-t8 c = omega (arith, at (c .before .before .before .before))
 
-shared-slice-read-t17 : tie.Need-shared-slice-read-t17
-shared-slice-read-t17 c = omega (arith, at (c .before .before .before .before .before))
+shared-slice-read-t14 : tie.Need-shared-slice-read-t14
+shared-slice-read-t14 c = omega (arith, at (c .before .before .before .before .before))
 
 returns : tie.Need-returns
 returns c =
@@ -88,6 +88,6 @@ labels-at-spec =
     cast-h
     mul-t10
     shared-slice-read-t12
-    mul-t9
-    shared-slice-read-t17
+    mul-t8
+    shared-slice-read-t14
     returns)

@@ -1,10 +1,10 @@
 -- `edges::edges::pair_at` meets its contract. Assumes nothing.
 use native.Mathlib.Omega.{arith}
 use mathlib.Core.Path.{refl}
-use Prim.Native.Nat.{_+_, _-_, _*_}
-use lib.ListN.{getD}
+use Prim.Native.Nat.{_-_, _%_}
+use lib.Dec.{eqb}
 use borrow.Author.Needs.{needs}
-use Rattle.edges.proofs.GatherLaws.{Found, found, is-pair}
+use Rattle.edges.proofs.GatherLaws.{Found, found, farAtOrder, is-pair}
 use Rattle.edges.proofs.edges.pair_at.Statement.{statement}
 use Rattle.edges.proofs.edges.pair_at.Tie as tie
 
@@ -38,32 +38,32 @@ shared-slice-read-g c = omega (arith, at (c .before .before .before .before))
 cast-g : tie.Need-cast-g
 cast-g c = omega (arith, at (c .before .before .before .before))
 
-mul-h : tie.Need-mul-h
-mul-h c = search needs
+mul-y : tie.Need-mul-y
+mul-y c = search needs
 
-add-h : tie.Need-add-h
-add-h c = omega (arith, at (c .before .before .before .before))
+add-y : tie.Need-add-y
+add-y c = omega (arith, at (c .before .before .before .before))
 
-mul-h-2 : tie.Need-mul-h-2
-mul-h-2 c = omega (arith, at (c .before .before .before .before))
+mul-y-2 : tie.Need-mul-y-2
+mul-y-2 c = omega (arith, at (c .before .before .before .before))
 
-shared-slice-read-h : tie.Need-shared-slice-read-h
-shared-slice-read-h c = omega (arith, at (c .before .before .before .before .before))
+shared-slice-read-y : tie.Need-shared-slice-read-y
+shared-slice-read-y c = omega (arith, at (c .before .before .before .before .before))
 
 cast-h : tie.Need-cast-h
 cast-h c = omega (arith, at (c .before .before .before .before .before))
 
+mul-t12 : tie.Need-mul-t12
+mul-t12 c = omega (arith, at (c .before .before .before .before .before))
+
+shared-slice-read-t16 : tie.Need-shared-slice-read-t16
+shared-slice-read-t16 c = omega (arith, at (c .before .before .before .before .before .before))
+
 mul-t11 : tie.Need-mul-t11
-mul-t11 c = omega (arith, at (c .before .before .before .before .before))
+mul-t11 c = omega (arith, at (c .before .before .before .before .before .before))
 
-shared-slice-read-t13 : tie.Need-shared-slice-read-t13
-shared-slice-read-t13 c = omega (arith, at (c .before .before .before .before .before .before))
-
-mul-t10 : tie.Need-mul-t10
-mul-t10 c = omega (arith, at (c .before .before .before .before .before .before))
-
-shared-slice-read-t18 : tie.Need-shared-slice-read-t18
-shared-slice-read-t18 c = omega (arith, at (c .before .before .before .before .before .before .before))
+shared-slice-read-t14 : tie.Need-shared-slice-read-t14
+shared-slice-read-t14 c = omega (arith, at (c .before .before .before .before .before .before .before))
 
 mul-f32-to-f64-with-nan : tie.Need-mul-f32-to-f64-with-nan
 mul-f32-to-f64-with-nan c = omega (arith, at (c .before .before .before .before .before .before .before))
@@ -88,9 +88,8 @@ returns c =
     let p = c .before .before .before .before .before .before .before .before .before .before .before .pre in
     let f = c .before .before .f32-to-f64-with-nan in
     let a = c .before .before .before .before .before .before .before .before .before .before .before .args in
-    is-pair (a .w .now) (a .vel .now) (a .n) (a .m) (a .i) (p .0) (p .1) (getD (a .w .now) (getD (a .w .now) (a .n + getD (a .w .now) (9 * a .n + a .i) 0) 0) 0)
-    (getD (a .w .now) (getD (a .w .now) (5 * a .n + getD (a .w .now) (9 * a .n + a .i) 0) 0) 0) (f .result) (c .f32-to-f64-with-nan2 .result) refl refl (f .ensures)
-    (c .f32-to-f64-with-nan2 .ensures)
+    is-pair (a .w .now) (a .vel .now) (a .n) (a .m) (a .i) (p .0) (p .1) (f .result) (c .f32-to-f64-with-nan2 .result) (eqb (farAtOrder (a .w .now) (a .n) (a .i) % 2) 1)
+    (f .ensures) (c .f32-to-f64-with-nan2 .ensures) refl
 
 pub pair-at-spec : {M : Type 1} → statement M
 pair-at-spec =
@@ -105,15 +104,15 @@ pair-at-spec =
     mul-g
     shared-slice-read-g
     cast-g
-    mul-h
-    add-h
-    mul-h-2
-    shared-slice-read-h
+    mul-y
+    add-y
+    mul-y-2
+    shared-slice-read-y
     cast-h
+    mul-t12
+    shared-slice-read-t16
     mul-t11
-    shared-slice-read-t13
-    mul-t10
-    shared-slice-read-t18
+    shared-slice-read-t14
     mul-f32-to-f64-with-nan
     shared-slice-read-f32-to-f64-with-nan
     f32-to-f64-with-nan-requires

@@ -47,6 +47,21 @@ mul-w-5 c = search needs
 slice-write-w-3 : tie.Need-slice-write-w-3
 slice-write-w-3 c = simp length-set (omega arith)
 
+mul-w-6 : tie.Need-mul-w-6
+mul-w-6 c = search needs
+
+add-w-6 : tie.Need-add-w-6
+add-w-6 c = search needs
+
+add-w-7 : tie.Need-add-w-7
+add-w-7 c = search needs
+
+mul-w-7 : tie.Need-mul-w-7
+mul-w-7 c = search needs
+
+slice-write-w-4 : tie.Need-slice-write-w-4
+slice-write-w-4 c = simp length-set (omega arith)
+
 difference-requires : tie.Need-difference-requires
 difference-requires c κs = search needs
 
@@ -83,6 +98,11 @@ put-edge-spec =
     add-w-5
     mul-w-5
     slice-write-w-3
+    mul-w-6
+    add-w-6
+    add-w-7
+    mul-w-7
+    slice-write-w-4
     difference-requires
     mul-d
     slice-write-d

@@ -1,20 +1,17 @@
 -- `merge::merge::absorb` meets its contract. Assumes nothing.
-use mathlib.Core.Path.{subst}
-use Rattle.merge.specs.Inside.Leaves.{LeavesTables}
-use Rattle.merge.specs.Inside.Steps.{absorbAt}
-use Rattle.merge.proofs.View.{weight-at}
 use Rattle.merge.specs.Inside.Tables.{view}
 use Rattle.merge.specs.Inside.Table.{weight}
+use Rattle.merge.proofs.View.{weight-at}
 use Rattle.merge.proofs.Leaf.{absorb-does, sum-two}
+use Rattle.merge.proofs.JoinDoes.{hand-ready, hand-room}
 use native.Mathlib.Omega.{arith}
-use mathlib.Core.Path.{sym}
+use mathlib.Core.Path.{_∙_}
 use mathlib.Core.List.{List}
 use Prim.Native.Nat.{ℕ}
-use lib.ListN.{set}
+use lib.ListN.{set, length-set}
 use borrow.Author.Needs.{needs}
 use Rattle.merge.proofs.merge.absorb.Statement.{statement}
 use Rattle.merge.proofs.merge.absorb.Tie as tie
-use lib.Ieee.{Float}
 
 mul-y : tie.Need-mul-y
 mul-y c = search needs
@@ -32,6 +29,14 @@ mul-d c = search needs
 slice-write-d : tie.Need-slice-write-d
 slice-write-d c = search needs
 
+hand-bridged-requires : tie.Need-hand-bridged-requires
+hand-bridged-requires c κs =
+    let s = c .before .before .before .before .before .before in
+    let a = s .args in
+    let y = c .before .before .plus in
+    let u = hand-ready (a .m) (a .n) (a .w .now) (a .d .now) (a .q) (a .x) (y .result) (s .pre .0) (s .pre .1 .0) (y .ensures) in
+    (u .0, (u .1, s .pre .1 .1 .0))
+
 mul-t : tie.Need-mul-t
 mul-t c = search needs
 
@@ -46,12 +51,14 @@ slice-read-t-2 c = search needs
 
 add-t : tie.Need-add-t
 add-t c =
-    let s = c .before .before .before .before .before .before in
+    let s = c .before .before .before .before .before .before .before .before .before .before .before .before .before in
     let a = s .args in
-    let p = s .pre .1 .1 .0 in
-    let h = s .pre .1 .0 in
-    let l : List ℕ = view (a .m) (a .n) (a .w .now) (a .d .now) .at weight in
-    omega (arith, sum-two l (a .q) (a .f) (omega (arith, h .lengths weight, p .q-in)) (omega (arith, h .lengths weight, p .f-in)) (p .apart), weight-at (a .m) (a .n) (a .w .now) (a .d .now) (a .q) (p .q-in), weight-at (a .m) (a .n) (a .w .now) (a .d .now) (a .f) (p .f-in), h .light)
+    let o = s .pre .1 .1 .0 in
+    let y = c .before .before .before .before .before .before .before .before .before .plus in
+    let h = c .before .before .before .before .before .before .hand-bridged in
+    let u = hand-room (a .m) (a .n) (a .w .now) (set (a .d .now) (a .q) (y .result)) (a .q) (a .f) (h .last .0) (h .last .1 .0) (hand-ready (a .m) (a .n) (a .w .now) (a .d .now) (a .q) (a .x) (y .result) (s .pre .0) (s .pre .1 .0) (y .ensures)) o (h .kept .0) (h .kept .1 .0) (h .ensures) in
+    let l : List ℕ = view (a .m) (a .n) (h .last .0) (h .last .1 .0) .at weight in
+    omega (arith, sum-two l (a .q) (a .f) (omega (arith, u .1 .lengths weight, o .q-in)) (omega (arith, u .1 .lengths weight, o .f-in)) (o .apart), weight-at (a .m) (a .n) (h .last .0) (h .last .1 .0) (a .q) (o .q-in), weight-at (a .m) (a .n) (h .last .0) (h .last .1 .0) (a .f) (o .f-in), u .1 .light)
 
 weigh-requires : tie.Need-weigh-requires
 weigh-requires c κs = search needs
@@ -63,15 +70,19 @@ same-length : tie.Need-same-length
 same-length c = search needs
 
 same-length-2 : tie.Need-same-length-2
-same-length-2 c = search needs
+same-length-2 c =
+    let a = c .before .before .before .before .before .before .before .before .before .before .before .before .before .before .before .before .before .before .before .before .before .args in
+    c .before .before .before .before .before .before .before .before .before .before .before .before .before .before .hand-bridged .kept .1 .0 ∙ length-set (a .d .now) (a .q) (c .before .before .before .before .before .before .before .before .before .before .before .before .before .before .before .before .before .plus .result)
 
 returns : tie.Need-returns
 returns c =
-    let s = c .before .before .before .before .before .before .before .before .before .before .before .before .before .before in
+    let s = c .before .before .before .before .before .before .before .before .before .before .before .before .before .before .before .before .before .before .before .before .before in
     let a = s .args in
-    let p = s .pre .1 .1 .0 in
-    subst (λ (z : Float). LeavesTables (a .m) (a .n) (c .before .before .weigh2 .last .0) (set (a .d .now) (a .q) z) (absorbAt (view (a .m) (a .n) (a .w .now) (a .d .now)) (a .q) (a .f) (a .x))) (sym (c .before .before .before .before .before .before .before .before .before .before .plus .ensures))
-    (absorb-does (a .m) (a .n) (a .w .now) (c .before .before .before .before .before .before .weigh .last .0) (c .before .before .weigh2 .last .0) (a .d .now) (a .q) (a .f) (a .x) (s .pre .0) (p .q-in) (p .f-in) (c .before .before .before .before .before .before .weigh .ensures) (c .before .before .weigh2 .ensures))
+    let o = s .pre .1 .1 .0 in
+    let y = c .before .before .before .before .before .before .before .before .before .before .before .before .before .before .before .before .before .plus in
+    let h = c .before .before .before .before .before .before .before .before .before .before .before .before .before .before .hand-bridged in
+    let u = hand-room (a .m) (a .n) (a .w .now) (set (a .d .now) (a .q) (y .result)) (a .q) (a .f) (h .last .0) (h .last .1 .0) (hand-ready (a .m) (a .n) (a .w .now) (a .d .now) (a .q) (a .x) (y .result) (s .pre .0) (s .pre .1 .0) (y .ensures)) o (h .kept .0) (h .kept .1 .0) (h .ensures) in
+    absorb-does (a .m) (a .n) (a .w .now) (h .last .0) (c .before .before .before .before .before .before .weigh .last .0) (c .before .before .weigh2 .last .0) (a .d .now) (h .last .1 .0) (a .q) (a .f) (a .x) (y .result) (u .0) (o .q-in) (o .f-in) (y .ensures) (h .ensures) (c .before .before .before .before .before .before .weigh .ensures) (c .before .before .weigh2 .ensures)
 
 pub absorb-spec : {M : Type 1} → statement M
 absorb-spec =
@@ -82,6 +93,7 @@ absorb-spec =
     plus-requires
     mul-d
     slice-write-d
+    hand-bridged-requires
     mul-t
     slice-read-t
     mul-t-2

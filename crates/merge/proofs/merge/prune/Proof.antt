@@ -32,7 +32,7 @@ slice-read-l : tie.Need-slice-read-l Inv-loop μ-loop
 slice-read-l c = omega (arith, c .before .before .before .pre .0 .words, c .before .before .before .pre .0 .small, c .before .before .before .pre .1 .1)
 
 cast-l : tie.Need-cast-l Inv-loop μ-loop
-cast-l c = omega (arith, c .slice-known3 .given (7 * (c .before .before .before .args .m) + 4 * (c .before .before .before .args .n) + c .before .before .before .args .b))
+cast-l c = omega (arith, c .slice-known3 .given (8 * (c .before .before .before .args .m) + 4 * (c .before .before .before .args .n) + c .before .before .before .args .b))
 
 mul-p : tie.Need-mul-p Inv-loop μ-loop
 mul-p c = omega (arith, c .before .before .before .pre .0 .words, c .before .before .before .pre .0 .small, c .before .before .before .pre .1 .1)
@@ -89,7 +89,7 @@ pass-slot-requires c κs = let a = c .before .before .before .before .before .be
 add-i : tie.Need-add-i Inv-loop μ-loop
 add-i c =
     let a = c .before .before .before .before .before .before .before .before .before .before .before .before .before .before .args in
-    omega (arith, c .before .before .before .before .before .before .before .before .loop-test .taken, c .before .before .before .before .before .before .before .before .before .before .before .slice-known3 .given (7 * (a .m) + 4 * (a .n) + a .b))
+    omega (arith, c .before .before .before .before .before .before .before .before .loop-test .taken, c .before .before .before .before .before .before .before .before .before .before .before .slice-known3 .given (8 * (a .m) + 4 * (a .n) + a .b))
 
 loop-less : tie.Need-loop-less Inv-loop μ-loop
 loop-less c = omega (arith, c .before .before .before .before .before .before .before .before .loop-test)

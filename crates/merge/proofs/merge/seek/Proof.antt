@@ -81,7 +81,7 @@ shared-slice-read-x-2 c = omega (arith, c .before .before .before .before .loop 
 add-i : tie.Need-add-i Inv-loop μ-loop
 add-i c =
     let a = c .before .before .before .before .before .before .before .before .before .args in
-    omega (arith, c .before .before .before .loop-test .taken, c .before .before .before .before .before .before .shared-slice-known3 .given (7 * (a .m) + 4 * (a .n) + a .h))
+    omega (arith, c .before .before .before .loop-test .taken, c .before .before .before .before .before .before .shared-slice-known3 .given (8 * (a .m) + 4 * (a .n) + a .h))
 
 loop-less : tie.Need-loop-less Inv-loop μ-loop
 loop-less c = omega (arith, c .before .before .before .loop-test .taken)

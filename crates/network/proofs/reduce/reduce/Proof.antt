@@ -73,10 +73,10 @@ merge-all-requires c κs =
     let g = c .before .before .before .before .before .before .before .before .before .before .before .before .before .before .find-edges in
     let z = c .before .before .before .before .before .before .before .before .count-sizes in let y = c .before .before .before .before .copy in (
       space (a .f) (a .w .now) (a .d .now) (a .vel .now) (a .n) (a .k) (a .two-nyquist) (p) (g .last .0) (g .last .1 .0) (g .result) (g .kept .0) (g .kept .1 .0) (g .ensures) (z .last .0)
-          (z .ensures) (y .last .0) (y .ensures) ((13 * a .n + 7 * g .result + 7 * (a .k + 1)) - 13 * a .n) (omega arith),
+          (z .ensures) (y .last .0) (y .ensures) ((13 * a .n + 8 * g .result + 7 * (a .k + 1)) - 13 * a .n) (omega arith),
       raw-ask (a .f) (a .w .now) (a .d .now) (a .vel .now) (a .n) (a .k)
           (a .two-nyquist) (p) (g .last .0) (g .last .1 .0) (g .result) (g .kept .0) (g .kept .1 .0) (g .ensures) (z .last .0) (z .ensures) (y .last .0) (y .ensures)
-          ((13 * a .n + 7 * g .result + 7 * (a .k + 1)) - 13 * a .n) (omega arith),
+          ((13 * a .n + 8 * g .result + 7 * (a .k + 1)) - 13 * a .n) (omega arith),
     )
 
 mul-copy-3 : tie.Need-mul-copy-3
@@ -120,8 +120,8 @@ same-length c =
     length-set (x .last .0) (a .n + (a .k + 1)) 1000 ∙ l5 (a .f) (a .w .now) (a .d .now) (a .vel .now) (a .n) (a .k) (a .two-nyquist)
     (c .before .before .before .before .before .before .before .before .before .before .before .before .before .before .before .before .before .before .before .before .before .before .before .before .before .before .before .before .before .pre)
     (g .last .0) (g .last .1 .0) (g .result) (g .kept .0) (g .kept .1 .0) (g .ensures) (z .last .0) (z .ensures) (y .last .0) (y .ensures)
-    ((13 * a .n + 7 * g .result + 7 * (a .k + 1)) - 13 * a .n) (omega arith) (m .last .0) (m .last .1 .0) (m .result) (m .kept .0) (m .ensures)
-    (putMid (13 * a .n) ((13 * a .n + 7 * g .result + 7 * (a .k + 1)) - 13 * a .n) (y .last .0) (m .last .0)) refl (x .last .0) (set (x .last .0) (a .n + (a .k + 1)) 1000) (x .ensures)
+    ((13 * a .n + 8 * g .result + 7 * (a .k + 1)) - 13 * a .n) (omega arith) (m .last .0) (m .last .1 .0) (m .result) (m .kept .0) (m .ensures)
+    (putMid (13 * a .n) ((13 * a .n + 8 * g .result + 7 * (a .k + 1)) - 13 * a .n) (y .last .0) (m .last .0)) refl (x .last .0) (set (x .last .0) (a .n + (a .k + 1)) 1000) (x .ensures)
     refl
 
 same-length-2 : tie.Need-same-length-2
@@ -141,8 +141,8 @@ returns c =
     reduced (a .f) (a .w .now) (a .d .now) (a .vel .now) (a .n) (a .k) (a .two-nyquist)
     (c .before .before .before .before .before .before .before .before .before .before .before .before .before .before .before .before .before .before .before .before .before .before .before .before .before .before .before .before .before .pre)
     (g .last .0) (g .last .1 .0) (g .result) (g .kept .0) (g .kept .1 .0) (g .ensures) (z .last .0) (z .ensures) (y .last .0) (y .ensures)
-    ((13 * a .n + 7 * g .result + 7 * (a .k + 1)) - 13 * a .n) (omega arith) (m .last .0) (m .last .1 .0) (m .result) (m .kept .0) (m .ensures)
-    (putMid (13 * a .n) ((13 * a .n + 7 * g .result + 7 * (a .k + 1)) - 13 * a .n) (y .last .0) (m .last .0)) refl (x .last .0) (set (x .last .0) (a .n + (a .k + 1)) 1000) (x .ensures)
+    ((13 * a .n + 8 * g .result + 7 * (a .k + 1)) - 13 * a .n) (omega arith) (m .last .0) (m .last .1 .0) (m .result) (m .kept .0) (m .ensures)
+    (putMid (13 * a .n) ((13 * a .n + 8 * g .result + 7 * (a .k + 1)) - 13 * a .n) (y .last .0) (m .last .0)) refl (x .last .0) (set (x .last .0) (a .n + (a .k + 1)) 1000) (x .ensures)
     refl
 
 pub reduce-spec : {M : Type 1} → statement M

@@ -1,4 +1,4 @@
--- `edges::edges::pair_all` meets its contract. Assumes nothing.
+-- `edges::pairs::pair_all` meets its contract. Assumes nothing.
 use borrow.Author.Needs.{needs}
 use native.Mathlib.Omega.{arith}
 use Prim.Native.Nat.{_-_, _*_, _≤_}
@@ -7,8 +7,8 @@ use Rattle.edges.proofs.PairTurn.{scan-begin, scan-place, scan-on, scan
 use Rattle.edges.specs.Inside.GatePairs.{AddsPairs, gatePairsAt}
 use Rattle.lists.specs.Inside.Seg.{seg}
 use Rattle.lists.specs.Seq.{upto, each}
-use Rattle.edges.proofs.edges.pair_all.Statement.{statement}
-use Rattle.edges.proofs.edges.pair_all.Tie as tie
+use Rattle.edges.proofs.pairs.pair_all.Statement.{statement}
+use Rattle.edges.proofs.pairs.pair_all.Tie as tie
 
 abbrev Inv-loop : tie.InvT-loop
 Inv-loop w₀ n f c₀ g₀ w c g = (g ≤ n) × (c ≤ 4 * g) × AddsPairs n w₀ w 0 c (each (gatePairsAt f (seg w₀ 0 n)) (upto g 0))
