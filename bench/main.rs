@@ -19,6 +19,7 @@ use stages::*;
 /// What a call is lent.
 struct Lent {
     folds: Vec<i32>,
+    doubtful: Vec<u8>,
     pair: [u32; 2],
     work: Vec<u32>,
     floats: Vec<f64>,
@@ -31,7 +32,7 @@ fn call(s: &Sweep, l: &mut Lent) {
         jivakkol_dealias_sweep(
             s.rays as u32, s.gates as u32, s.nyquist, s.splits, s.skip_between_rays, s.skip_along_ray, s.centred, s.wrap,
             s.velocities.as_ptr(), s.velocities.len(), s.mask.as_ptr(), s.mask.len(), l.folds.as_mut_ptr(), l.folds.len(),
-            l.pair.as_mut_ptr(), 2, l.work.as_mut_ptr(), l.work.len(), l.floats.as_mut_ptr(), l.floats.len(),
+            l.doubtful.as_mut_ptr(), l.doubtful.len(), l.pair.as_mut_ptr(), 2, l.work.as_mut_ptr(), l.work.len(), l.floats.as_mut_ptr(), l.floats.len(),
         )
     };
     assert_eq!(number, 0);
@@ -67,11 +68,13 @@ fn staged(s: &Sweep, limits: &[f64], l: &mut Lent) -> [f64; 7] {
         let e = stage_edges(w, words, d, floats, vel, n, n, m, t, c, 2.0 * s.nyquist as f64);
         stage_sizes(w, words, n, n, nodes);
         stage_copy(w, words, n, t + 8 * e + 3 * nodes, nodes);
-        assert_eq!(stage_merges(w.add(t), 8 * e + 7 * nodes, d, floats, e, nodes), 1);
+        assert_eq!(stage_merges(w.add(t), 8 * e + 8 * nodes, d, floats, e, nodes), 1);
         stage_copy(w, words, t + 8 * e + 6 * nodes, n + nodes, nodes);
+        stage_copy(w, words, t + 8 * e + 7 * nodes, n + 2 * nodes, nodes);
         *w.add(n + nodes) = 1000;
+        *w.add(n + 2 * nodes) = 0;
         lap(4);
-        stage_output(w, words, n, k, mask, n, s.centred, l.folds.as_mut_ptr(), n);
+        stage_output(w, words, n, k, mask, n, s.centred, l.folds.as_mut_ptr(), n, l.doubtful.as_mut_ptr(), n);
         lap(5);
         stage_clear(w, words, d, floats);
         lap(6);
@@ -100,7 +103,7 @@ fn limits(s: &Sweep) -> Vec<f64> {
 }
 
 fn lent(n: usize) -> Lent {
-    Lent { folds: vec![7; n], pair: [7; 2], work: vec![7; 96 * n + 64], floats: vec![7.0; 16 * n + 16] }
+    Lent { folds: vec![7; n], doubtful: vec![7; n], pair: [7; 2], work: vec![7; 96 * n + 64], floats: vec![7.0; 16 * n + 16] }
 }
 
 /// What was lent held other values before a call.
@@ -108,6 +111,7 @@ fn make_dirty(l: &mut Lent) {
     l.work.fill(7);
     l.floats.fill(7.0);
     l.folds.fill(7);
+    l.doubtful.fill(7);
 }
 
 /// The Rust's counts and its seconds. `dealias_region_based` refuses skips beyond the number of rays; there `dealias_sweep` itself is called,
@@ -141,14 +145,14 @@ fn measure(rays: usize, gates: usize, rough: f64) -> Vec<f64> {
     let limits = limits(&s);
     let mut l = lent(n);
     let (mut entry, mut fill, mut stages) = (f64::MAX, f64::MAX, [f64::MAX; 7]);
-    let mut ours: Vec<i32> = Vec::new();
+    let mut ours: (Vec<i32>, Vec<u8>) = (Vec::new(), Vec::new());
     for _ in 0..7 {
         make_dirty(&mut l);
         entry = entry.min(timed(|| call(&s, &mut l)));
-        ours = l.folds.clone();
+        ours = (l.folds.clone(), l.doubtful.clone());
         make_dirty(&mut l);
         keep_least(&mut stages, staged(&s, &limits, &mut l));
-        assert!(l.folds == ours, "{rays} x {gates} at roughness {rough}: the counts of the stages differ");
+        assert!((&l.folds, &l.doubtful) == (&ours.0, &ours.1), "{rays} x {gates} at roughness {rough}: counts or marks of the stages differ");
         make_dirty(&mut l);
         fill = fill.min(timed(|| {
             l.work.fill(0);
@@ -156,7 +160,7 @@ fn measure(rays: usize, gates: usize, rough: f64) -> Vec<f64> {
             black_box((&l.work, &l.floats));
         }));
     }
-    let mut row = vec![rays as f64, gates as f64, rough, l.pair[0] as f64, l.pair[1] as f64, beside_rust(&s, &ours), entry, fill];
+    let mut row = vec![rays as f64, gates as f64, rough, l.pair[0] as f64, l.pair[1] as f64, beside_rust(&s, &ours.0), entry, fill];
     row.extend(stages);
     row
 }

@@ -24,6 +24,10 @@ extern "C" {
     pub fn stage_sizes(work: *mut u32, work_len: usize, n: usize, at: usize, k: usize);
     pub fn stage_copy(work: *mut u32, work_len: usize, src: usize, dst: usize, len: usize);
     pub fn stage_merges(tables: *mut u32, tables_len: usize, floats: *mut f64, floats_len: usize, e: usize, v: usize) -> u32;
-    pub fn stage_output(work: *const u32, work_len: usize, n: usize, k: usize, valid: *const u8, valid_len: usize, centred: u32, folds: *mut i32, folds_len: usize);
+    pub fn stage_doubtful(q: f64) -> u32;
+    pub fn stage_output(
+        work: *const u32, work_len: usize, n: usize, k: usize, valid: *const u8, valid_len: usize, centred: u32,
+        folds: *mut i32, folds_len: usize, doubtful: *mut u8, doubtful_len: usize,
+    );
     pub fn stage_clear(work: *mut u32, work_len: usize, floats: *mut f64, floats_len: usize);
 }

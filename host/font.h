@@ -5,7 +5,7 @@
 enum { sign_wide = 5, sign_high = 7, sign_step = 6, signs_a_line = 16 };
 
 /* Every sign stands in the drawing below at its place in this list; one that is not listed is left blank. */
-static const char font_signs[] = "0123456789-./acdefghilmnorstuwy";
+static const char font_signs[] = "0123456789-./acdefghilmnorstuwyb";
 
 /* g and y hang below the line by two points. */
 static const char font_hanging[] = "gy";
@@ -21,13 +21,13 @@ static const char *const font_rows[2][7] = {
         " ###   ###  #####  ###     #   ###   ###    #    ###   ##          ##   #      ####  ###   ####",
     },
     {
-        "        ##   #### #       #    ##                                  #                #   #",
-        "       #    #   # #             #                                  #                #   #",
-        " ###   #    #   # # ##   ##     #   ## #  # ##   ###  # ##   #### ###   #   # #   # #   #",
-        "#   # ###   #   # ##  #   #     #   # # # ##  # #   # ##  # #      #    #   # #   # #   #",
-        "#####  #     #### #   #   #     #   # # # #   # #   # #      ###   #    #   # # # #  ####",
-        "#      #        # #   #   #     #   # # # #   # #   # #         #  #    #  ## # # #     #",
-        " ###   #     ###  #   #  ###   ###  # # # #   #  ###  #     ####    ##   ## #  # #   ### ",
+        "        ##   #### #       #    ##                                  #                #   # #    ",
+        "       #    #   # #             #                                  #                #   # #    ",
+        " ###   #    #   # # ##   ##     #   ## #  # ##   ###  # ##   #### ###   #   # #   # #   # #### ",
+        "#   # ###   #   # ##  #   #     #   # # # ##  # #   # ##  # #      #    #   # #   # #   # #   #",
+        "#####  #     #### #   #   #     #   # # # #   # #   # #      ###   #    #   # # # #  #### #   #",
+        "#      #        # #   #   #     #   # # # #   # #   # #         #  #    #  ## # # #     # #   #",
+        " ###   #     ###  #   #  ###   ###  # # # #   #  ###  #     ####    ##   ## #  # #   ###  #### ",
     },
 };
 

@@ -1,4 +1,5 @@
-/* Unfolds a sweep from a file, finds its regions, and draws the wind before and after and the regions as a PPM picture.
+/* Unfolds a sweep from a file, finds its regions, and draws the wind before and after, what of it is doubtful, and the regions as a PPM
+ * picture.
  *
  * usage: host SWEEP PICTURE. The form of a sweep file stands at jivakkol_read_sweep in jivakkol.h. Speeds are printed in m/s. */
 #include "jivakkol.h"
@@ -79,15 +80,15 @@ typedef struct {
     size_t words_len, floats_len;
 } work_memory;
 
-/* Unfolds the wind; `regions` gets the number of regions. Answers 0 where the library refused. */
-static int unfold(const sweep *s, work_memory work, double *unfolded, uint32_t *regions)
+/* Unfolds the wind; `doubtful` gets the gates' marks and `regions` the number of regions. Answers 0 where the library refused. */
+static int unfold(const sweep *s, work_memory work, double *unfolded, uint8_t *doubtful, uint32_t *regions)
 {
     size_t n = (size_t)s->rays * s->gates;
     int32_t *folds = lent(n, sizeof *folds);
     uint32_t pair[2] = {0, 0};
     uint32_t answer = jivakkol_dealias_sweep(s->rays, s->gates, s->nyquist, s->splits, s->skip_rays, s->skip_gates, s->centered, s->wrap,
-                                             s->velocity, n, s->valid, n, folds, n, pair, 2, work.words, work.words_len,
-                                             work.floats, work.floats_len);
+                                             s->velocity, n, s->valid, n, folds, n, doubtful, n, pair, 2, work.words,
+                                             work.words_len, work.floats, work.floats_len);
     if (answer != 0) {
         free(folds);
         return refused("the sweep", answer);
@@ -117,6 +118,17 @@ static int map_regions(const sweep *s, work_memory work, uint32_t expected, uint
     return 1;
 }
 
+/* Prints how many gates are doubtful. */
+static void print_doubtful(const sweep *s, const uint8_t *doubtful)
+{
+    size_t valid = 0, marked = 0;
+    for (size_t g = 0; g < (size_t)s->rays * s->gates; g++) {
+        valid += s->valid[g];
+        marked += doubtful[g];
+    }
+    printf("doubtful gates: %zu of %zu valid\n", marked, valid);
+}
+
 static double fastest(const sweep *s, const double *speed)
 {
     double most = 0.0;
@@ -126,16 +138,17 @@ static double fastest(const sweep *s, const double *speed)
     return most;
 }
 
-/* Prints the fastest winds and draws the picture. Answers 0 where it cannot be written. */
-static int draw(const sweep *s, const double *unfolded, const uint32_t *labels, uint32_t regions, const char *path)
+/* Prints the doubtful gates and the fastest winds and draws the picture. Answers 0 where it cannot be written. */
+static int draw(const sweep *s, const double *unfolded, const uint8_t *doubtful, const uint32_t *labels, uint32_t regions, const char *path)
 {
     size_t n = (size_t)s->rays * s->gates;
     double *measured = lent(n, sizeof *measured);
     for (size_t g = 0; g < n; g++)
         measured[g] = s->velocity[g];
+    print_doubtful(s, doubtful);
     double before = fastest(s, measured), after = fastest(s, unfolded);
     printf("fastest wind towards or from the radar: measured %.2f m/s, unfolded %.2f m/s\n", before, after);
-    sweep_view view = {s->rays, s->gates, regions, s->valid, measured, unfolded, labels, fmax(before, after)};
+    sweep_view view = {s->rays, s->gates, regions, s->valid, measured, unfolded, doubtful, labels, fmax(before, after)};
     int written = write_picture(path, &view);
     if (!written)
         fprintf(stderr, "host: %s cannot be written\n", path);
@@ -167,12 +180,14 @@ int main(int count, char **word)
     work_memory work = {lent(JIVAKKOL_WORK_WORDS(n), sizeof(uint32_t)), lent(JIVAKKOL_WORK_FLOATS(n), sizeof(double)),
                         JIVAKKOL_WORK_WORDS(n), JIVAKKOL_WORK_FLOATS(n)};
     double *unfolded = lent(n, sizeof *unfolded);
+    uint8_t *doubtful = lent(n, 1);
     uint32_t regions = 0, *labels = lent(n, sizeof *labels);
-    int done = unfold(&s, work, unfolded, &regions) && map_regions(&s, work, regions, labels)
-               && draw(&s, unfolded, labels, regions, word[2]);
+    int done = unfold(&s, work, unfolded, doubtful, &regions) && map_regions(&s, work, regions, labels)
+               && draw(&s, unfolded, doubtful, labels, regions, word[2]);
     free(work.words);
     free(work.floats);
     free(unfolded);
+    free(doubtful);
     free(labels);
     free(s.velocity);
     free(s.valid);

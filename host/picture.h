@@ -1,4 +1,4 @@
-/* Draws a sweep as three discs: the wind as measured, the wind unfolded, and the regions. */
+/* Draws a sweep as three discs: the wind as measured, the wind unfolded, hatched where its fold is doubtful, and the regions. */
 #ifndef HOST_PICTURE_H
 #define HOST_PICTURE_H
 
@@ -10,6 +10,7 @@ typedef struct {
     uint32_t rays, gates, regions;
     const uint8_t *valid;              /* 0 where a gate is masked */
     const double *measured, *unfolded; /* m/s, above 0 away from the radar */
+    const uint8_t *doubtful;           /* 1 where the fold of the gate's region hung on a near tie, else 0 */
     const uint32_t *labels;            /* the gate's region, 1 to regions, or 0 where it has none */
     double most;                       /* the m/s that get full colour */
 } sweep_view;

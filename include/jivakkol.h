@@ -1,4 +1,4 @@
-/* The exported entries of Jivakkol: fold counts of a radar sweep, its region map, its unfolded velocities, and sweep files.
+/* The exported entries of Jivakkol: fold counts and marks of a radar sweep, its region map, its unfolded velocities, and sweep files.
  *
  * Every slice is a pointer and a length. What a host must see to: no slice that a call writes overlaps another that it is given; memory is
  * initialised, and no other thread uses it while the call lasts (calls on different memory may run at once); the thread has about 80 KB of stack
@@ -27,11 +27,13 @@ extern "C" {
 /* The length of a sweep file. */
 #define JIVAKKOL_FILE_BYTES(rays, gates) (18 + (size_t)(rays) * (3 + 5 * (size_t)(gates)))
 
-/* The fold count of each gate; pair gets the number of regions and the number of merges.
+/* The fold count of each gate, and whether it is doubtful; pair gets the number of regions and the number of merges.
  *
- * velocity, valid (1 where a gate has a velocity, 0 where it is masked) and folds have rays * gates elements, ray by ray; pair has 2.
+ * velocity, valid (1 where a gate has a velocity, 0 where it is masked), folds and doubtful have rays * gates elements, ray by ray; pair has 2.
+ * doubtful gets 1 where the fold of the gate's region hung on a near tie, so that one fold more or less was almost as likely: the region was in
+ * the moved node of a merge whose difference, in folds, was within one sixteenth of a whole number plus a half. All other gates get 0.
  * interval_splits is 1 to 9,999; both skips are 0 to 1,000; centered and rays_wrap_around are 0 or 1.
- * Answers 0, or the number of the first question that got a no, with folds and pair unchanged:
+ * Answers 0, or the number of the first question that got a no, with folds, doubtful and pair unchanged:
  *   1 rays above 720 or gates above 1,200      2 a slice of another length      3 a mask byte other than 0 and 1
  *   4 too little work memory                   5 Nyquist not 0.125 to 1,024     6 an option out of its range
  *   7 a valid velocity not -16,384 to 16,384   8 more than 10,000 limits        9 a merge whose rounded difference, or a count, is beyond 1,000
@@ -41,7 +43,7 @@ uint32_t jivakkol_dealias_sweep(
     uint32_t interval_splits, uint32_t skip_between_rays, uint32_t skip_along_ray,
     uint32_t centered, uint32_t rays_wrap_around,
     const float *velocity, size_t velocity_len, const uint8_t *valid, size_t valid_len,
-    int32_t *folds, size_t folds_len, uint32_t *pair, size_t pair_len,
+    int32_t *folds, size_t folds_len, uint8_t *doubtful, size_t doubtful_len, uint32_t *pair, size_t pair_len,
     uint32_t *work, size_t work_len, double *work_f64, size_t work_f64_len);
 
 /* The region map: the label of each gate, 0 where it has none; regions gets the number of regions.

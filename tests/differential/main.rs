@@ -1,6 +1,6 @@
 //! Feeds the same made sweeps to the proved entries (the static library) and to the Rust, in one process, and compares every result: answer
-//! number, counts, pair, labels, number of regions, and every word of lent memory that must or must not change. Sweep files: files.rs.
-//! Edge records, from the stages of a call: records.rs.
+//! number, counts, marks, pair, labels, number of regions, and every word of lent memory that must or must not change. Sweep files: files.rs.
+//! Edge records, from the stages of a call: records.rs. Merges at and beside a near tie: marks.rs.
 extern crate radish_oracle;
 use radish_oracle::make::{sized, small, weather, Rng};
 use radish_oracle::Sweep;
@@ -10,12 +10,14 @@ use std::collections::BTreeMap;
 mod jivakkol;
 use jivakkol::{jivakkol_dealias_sweep, jivakkol_region_map, jivakkol_unfold_velocity};
 mod files;
+mod marks;
 mod records;
 
 /// What a call is lent; filled with values that a call must not leave where it clears, and must leave where it does not.
 #[derive(Clone)]
 struct Lent {
     folds: Vec<i32>,
+    doubtful: Vec<u8>,
     pair: Vec<u32>,
     labels: Vec<u32>,
     regions: Vec<u32>,
@@ -26,6 +28,7 @@ struct Lent {
 fn lent(r: &mut Rng, n: usize) -> Lent {
     Lent {
         folds: (0..n).map(|_| r.next() as i32).collect(),
+        doubtful: (0..n).map(|_| r.next() as u8).collect(),
         pair: vec![r.next() as u32, r.next() as u32],
         labels: (0..n).map(|_| r.next() as u32).collect(),
         regions: vec![r.next() as u32],
@@ -34,14 +37,14 @@ fn lent(r: &mut Rng, n: usize) -> Lent {
     }
 }
 
-/// The call of an entry that takes a sweep, its options, two slices of `Lent` to write, and the work memory.
+/// The call of an entry that takes a sweep, its options, slices of `Lent` to write, and the work memory.
 macro_rules! on_sweep {
-    ($entry:ident, $s:ident, $l:ident, $one:ident, $two:ident) => {
+    ($entry:ident, $s:ident, $l:ident, $($slice:ident),+) => {
         unsafe {
             $entry(
                 $s.rays as u32, $s.gates as u32, $s.nyquist, $s.splits, $s.skip_between_rays, $s.skip_along_ray, $s.centred, $s.wrap,
-                $s.velocities.as_ptr(), $s.velocities.len(), $s.mask.as_ptr(), $s.mask.len(), $l.$one.as_mut_ptr(), $l.$one.len(),
-                $l.$two.as_mut_ptr(), $l.$two.len(), $l.words.as_mut_ptr(), $l.words.len(), $l.floats.as_mut_ptr(), $l.floats.len(),
+                $s.velocities.as_ptr(), $s.velocities.len(), $s.mask.as_ptr(), $s.mask.len(), $($l.$slice.as_mut_ptr(), $l.$slice.len(),)+
+                $l.words.as_mut_ptr(), $l.words.len(), $l.floats.as_mut_ptr(), $l.floats.len(),
             )
         }
     };
@@ -66,7 +69,7 @@ fn work_left(n: usize, clears: bool, before: &Lent, after: &Lent) -> Result<(), 
 /// The number that must come, and whether all that is lent is as it must be afterwards.
 fn compare(s: &Sweep, l: &mut Lent, expected: u32) -> Result<u32, String> {
     let before = l.clone();
-    let number = on_sweep!(jivakkol_dealias_sweep, s, l, folds, pair);
+    let number = on_sweep!(jivakkol_dealias_sweep, s, l, folds, doubtful, pair);
     if number != expected {
         return Err(format!("answer {number}, expected {expected}"));
     }
@@ -75,8 +78,11 @@ fn compare(s: &Sweep, l: &mut Lent, expected: u32) -> Result<u32, String> {
         if l.folds != a.counts || l.pair != [a.regions, a.merges] {
             return Err("counts or pair".into());
         }
-    } else if l.folds != before.folds || l.pair != before.pair {
-        return Err("a refusal changed counts or pair".into());
+        if let Some(g) = (0..a.doubtful.len()).find(|&g| l.doubtful[g] != a.doubtful[g]) {
+            return Err(format!("mark {} at gate {g}, expected {}", l.doubtful[g], a.doubtful[g]));
+        }
+    } else if l.folds != before.folds || l.doubtful != before.doubtful || l.pair != before.pair {
+        return Err("a refusal changed counts, marks or pair".into());
     }
     work_left(s.rays * s.gates, number == 0 || number == 9, &before, l)?;
     Ok(number)
@@ -133,19 +139,23 @@ fn answers_by_size(r: &mut Rng, count: u64, size: impl Fn(usize) -> (usize, usiz
     Ok(answers)
 }
 
-/// A sweep whose size or lengths are off, or whose work memory is short: the number of the first question missed.
-fn off(r: &mut Rng, s: &mut Sweep, l: &mut Lent) -> u32 {
+/// A sweep whose size or lengths are off, or whose work memory is short: the number of the first question missed, by the sweep entry and by the
+/// region map, which is lent no marks.
+fn off(r: &mut Rng, s: &mut Sweep, l: &mut Lent) -> [u32; 2] {
     let first = s.refused_before_merging();
     let early = |q: u32| if first != 0 && first < q { first } else { q };
-    match r.below(8) {
-        0 => { s.velocities.push(1.0); early(2) }
-        1 => { s.mask.push(1); early(2) }
-        2 => { l.folds.push(0); l.labels.push(0); early(2) }
-        3 => { l.pair.push(0); l.regions.push(0); early(2) }
-        4 => { l.words.truncate(96 * s.rays * s.gates + 63); early(4) }
-        5 => { l.floats.truncate(16 * s.rays * s.gates + 15); early(4) }
-        6 => { s.rays += 721; 1 }
-        _ => { s.gates += 1201; 1 }
+    let both = |q: u32| [early(q); 2];
+    match r.below(10) {
+        0 => { s.velocities.push(1.0); both(2) }
+        1 => { s.mask.push(1); both(2) }
+        2 => { l.folds.push(0); l.labels.push(0); both(2) }
+        3 => { l.pair.push(0); l.regions.push(0); both(2) }
+        4 => { l.words.truncate(96 * s.rays * s.gates + 63); both(4) }
+        5 => { l.floats.truncate(16 * s.rays * s.gates + 15); both(4) }
+        6 => { s.rays += 721; both(1) }
+        7 => { s.gates += 1201; both(1) }
+        8 if !l.doubtful.is_empty() => { l.doubtful.pop(); [early(2), first] }
+        _ => { l.doubtful.push(0); [early(2), first] }
     }
 }
 
@@ -359,17 +369,18 @@ fn main() {
     for gates in GATES {
         report(format!("0 to 3 rays of {gates} gates"), answers_by_size(&mut r, each, |few| (few, gates)));
     }
-    let mut offs = [0u64; 11];
+    let mut offs = [[0u64; 11]; 2];
     for seed in 1..=count / 10 {
         let mut s = small(seed, 12);
         let mut l = lent(&mut r, s.rays * s.gates);
         let expected = off(&mut r, &mut s, &mut l);
-        match compare(&s, &mut l, expected).and_then(|k| compare_map(&s, &mut l, expected).map(|_| k)) {
-            Ok(k) => offs[k as usize] += 1,
-            Err(e) => fail("sizes or lengths off", s.line(), e),
+        if let Err(e) = compare(&s, &mut l, expected[0]).and_then(|_| compare_map(&s, &mut l, expected[1])) {
+            fail("sizes or lengths off", s.line(), e);
         }
+        offs.iter_mut().zip(expected).for_each(|(seen, k)| seen[k as usize] += 1);
     }
-    println!("sizes or lengths off: {}, by answer of both entries {offs:?}", count / 10);
+    println!("sizes or lengths off: {}, by answer {:?}, of the region map {:?}", count / 10, offs[0], offs[1]);
+    marks::run(15 * count);
     files::run(count);
     records::run(count / 2);
     for (name, make) in [("velocities of many exponents", inexact as fn(&mut Rng) -> Sweep), ("tipping sums", tipping)] {
@@ -408,7 +419,8 @@ fn main() {
         if let Err(e) = compare_both(&s, &mut l, 0) {
             fail("weather", format!("{rays} x {gates} roughness {rough}"), e);
         }
-        println!("weather {rays} x {gates}, roughness {rough}: {} regions, {} merges, equal", l.pair[0], l.pair[1]);
+        let marked = l.doubtful.iter().filter(|d| **d == 1).count();
+        println!("weather {rays} x {gates}, roughness {rough}: {} regions, {} merges, {marked} gates marked, equal", l.pair[0], l.pair[1]);
     }
     for (rays, gates, rough) in BROKEN {
         let s = weather(7, rays, gates, rough);

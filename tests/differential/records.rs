@@ -6,7 +6,7 @@ use radish_oracle::{Record, Sweep};
 
 #[path = "../../bench/stages.rs"]
 #[allow(dead_code)]
-mod stages;
+pub mod stages;
 use stages::{stage_count, stage_edges, stage_labels, stage_limits, stage_looks, stage_sort};
 
 /// A record that becomes an edge, its first label being the greater: labels, count, how many of its pairs are bridged, bits of its difference.

@@ -1,5 +1,6 @@
 //! The radish dealias text, unchanged, behind an answer in the scope document's terms.
-//! `build` copies the module's files in and appends `access.rs` to mod.rs, so that its private parts can be called.
+//! `build` copies the module's files in and appends `access.rs` to mod.rs and `access_network.rs` to network.rs, so that their private parts
+//! can be called.
 
 extern crate ndarray;
 
@@ -15,8 +16,8 @@ pub mod file;
 pub mod make;
 
 use dealias::access::{
-    combine_regions, dealias_sweep, edge_sum_and_count, find_regions, find_sweep_interval_splits, AggregatedEdge,
-    EdgeTracker, RegionTracker,
+    combine_regions, dealias_sweep, edge_sum_and_count, find_regions, find_sweep_interval_splits, next_edge, regions_in,
+    AggregatedEdge, EdgeTracker, RegionTracker,
 };
 use dealias::DealiasOptions;
 use ndarray::Array2;
@@ -36,20 +37,22 @@ pub struct Sweep {
     pub mask: Vec<u8>,
 }
 
-/// What the scope document asks of a sweep call: the answer number and, where it is 0, counts and the pair.
+/// What the scope document asks of a sweep call: the answer number and, where it is 0, counts, marks and the pair.
 #[derive(Debug, Clone, PartialEq)]
 pub struct Answer {
     pub number: u32,
     pub counts: Vec<i32>,
+    pub doubtful: Vec<u8>,
     pub regions: u32,
     pub merges: u32,
     pub offset: i32,
 }
 
-/// How long the counts, the pair and the two work memories lent to a sweep call are.
+/// How long the counts, the marks, the pair and the two work memories lent to a sweep call are.
 #[derive(Debug, Clone, Copy, PartialEq)]
 pub struct Lent {
     pub counts: usize,
+    pub doubtful: usize,
     pub pair: usize,
     pub words: usize,
     pub floats: usize,
@@ -69,13 +72,29 @@ fn shown(records: &[AggregatedEdge]) -> Vec<Record> {
     records.iter().map(|e| Record(e.index1, e.index2, e.count, e.vel1, e.vel2)).collect()
 }
 
-/// The inner values, for looking into a difference.
+/// Whether a number d lies within one sixteenth of a whole number plus a half, the distance included: there is a whole k with
+/// |16 d - (16 k + 8)| <= 1. Where d is m / 2^s this is put in whole numbers: |16 m - (16 k + 8) 2^s| <= 2^s.
+pub fn is_doubtful(d: f64) -> bool {
+    let bits = d.to_bits();
+    let (exponent, fraction) = ((bits >> 52 & 0x7FF) as i32, (bits & ((1 << 52) - 1)) as i128);
+    let s = 1075 - exponent;
+    // At or below 0: a whole number, an infinity or no number. Above 60: less than 2^-7 from 0.
+    if s <= 0 || s > 60 {
+        return false;
+    }
+    let (m, one) = ((1 << 52 | fraction) * if d < 0.0 { -1 } else { 1 }, 1i128 << s);
+    (16 * m - 7 * one).rem_euclid(16 * one) <= 2 * one
+}
+
+/// The inner values, for looking into a difference. `quotients` has for each merge its edge's difference over its weight, and that weight.
 pub struct Trace {
     pub limits: Vec<f64>,
     pub labels: Vec<i32>,
     pub regions: usize,
     pub records: Vec<Record>,
     pub uncentred: Vec<i32>,
+    pub doubtful: Vec<u8>,
+    pub quotients: Vec<(f64, i32)>,
     pub merges: u32,
     pub within: bool,
 }
@@ -127,7 +146,7 @@ impl Sweep {
         if !self.yes_1() {
             return 1;
         }
-        if !self.yes_2(lent.map_or(true, |l| l.counts == n && l.pair == 2)) {
+        if !self.yes_2(lent.map_or(true, |l| l.counts == n && l.doubtful == n && l.pair == 2)) {
             return 2;
         }
         if !self.yes_3() {
@@ -198,7 +217,8 @@ impl Sweep {
         (0, gates.map(|((&v, &m), &c)| unfolded(v, m, c)).collect())
     }
 
-    /// The merges one by one, with question 9 put to each. Stops at the first merge that fails it.
+    /// The merges one by one, with question 9 put to each. Stops at the first merge that fails it. The difference of a merge, after the division,
+    /// and the regions that it moves are the Rust's own: its trackers are looked at before and after each merge.
     pub fn trace(&self) -> Trace {
         let (velocity, valid) = (self.velocity(), self.valid());
         let limits = find_sweep_interval_splits(self.nyquist, self.splits as usize, &self.valid_velocities()).unwrap();
@@ -215,6 +235,8 @@ impl Sweep {
             regions,
             records: Vec::new(),
             uncentred: vec![0; labels.iter().len()],
+            doubtful: vec![0; labels.iter().len()],
+            quotients: Vec::new(),
             merges: 0,
             within: true,
         };
@@ -229,12 +251,18 @@ impl Sweep {
         }
         let mut rt = RegionTracker::new(&sizes[1..]);
         let mut et = EdgeTracker::new(&records, self.nyquist as f64 * 2.0, regions + 1);
-        loop {
+        let mut marked = vec![0; regions + 1];
+        while let Some((nodes, weight, quotient)) = next_edge(&et) {
             let before = rt.unwrap_number.clone();
-            if combine_regions(&mut rt, &mut et) {
-                break;
-            }
+            let members = nodes.map(|node| regions_in(&rt, node).to_vec());
+            assert!(!combine_regions(&mut rt, &mut et), "an edge is live, but there is no merge");
             out.merges += 1;
+            out.quotients.push((quotient, weight));
+            // The node that a merge leaves without regions is the moved one.
+            let moved = nodes.iter().position(|&node| regions_in(&rt, node).is_empty()).expect("a moved node");
+            if is_doubtful(quotient) {
+                members[moved].iter().for_each(|&region| marked[region] = 1);
+            }
             // A region whose count changed was moved, by the rounded difference or its negation.
             for (a, b) in before.iter().zip(&rt.unwrap_number) {
                 if a != b && ((*b as i64 - *a as i64).abs() > 1000 || (*b as i64).abs() > 1000) {
@@ -243,8 +271,9 @@ impl Sweep {
                 }
             }
         }
-        for (u, &l) in out.uncentred.iter_mut().zip(labels.iter()) {
-            *u = if l == 0 { 0 } else { rt.unwrap_number[l as usize] };
+        for (g, &l) in labels.iter().enumerate().filter(|(_, l)| **l != 0) {
+            out.uncentred[g] = rt.unwrap_number[l as usize];
+            out.doubtful[g] = marked[l as usize];
         }
         out
     }
@@ -253,7 +282,7 @@ impl Sweep {
         self.answer_lent(None)
     }
     pub fn answer_lent(&self, lent: Option<Lent>) -> Answer {
-        let none = |number| Answer { number, counts: Vec::new(), regions: 0, merges: 0, offset: 0 };
+        let none = |number| Answer { number, counts: Vec::new(), doubtful: Vec::new(), regions: 0, merges: 0, offset: 0 };
         let number = self.refused(lent);
         if number != 0 {
             return none(number);
@@ -264,7 +293,7 @@ impl Sweep {
         }
         let counts: Vec<i32> = self.counts();
         let offset = (0..counts.len()).find(|&i| self.mask[i] == 1).map_or(0, |i| t.uncentred[i] - counts[i]);
-        Answer { number: 0, counts, regions: t.regions as u32, merges: t.merges, offset }
+        Answer { number: 0, counts, doubtful: t.doubtful, regions: t.regions as u32, merges: t.merges, offset }
     }
 
     /// `dealias_sweep` itself, with no question put first; none where it gives an error (more than 10,000 limits).
@@ -276,9 +305,15 @@ impl Sweep {
         self.counts_or_none().expect("at most 10,000 limits")
     }
 
-    /// One line for the region map: the number; where it is 0 also the regions and the labels.
+    /// One line for the marks: the number; where it is 0 also the mark of each gate.
+    pub fn marks_line(&self) -> String {
+        let a = self.answer();
+        std::iter::once(a.number).chain(a.doubtful.iter().map(|&d| d as u32)).map(|x| x.to_string()).collect::<Vec<_>>().join(" ")
+    }
+
+    /// One line for the region map: the number; where it is 0 also the regions and the labels. It is lent no marks.
     pub fn map_line(&self, lent: Option<Lent>) -> String {
-        let number = self.refused(lent);
+        let number = self.refused(lent.map(|l| Lent { doubtful: l.counts, ..l }));
         if number != 0 {
             return number.to_string();
         }
@@ -346,18 +381,19 @@ impl Answer {
 }
 
 impl Call {
-    /// One line: the lengths of counts, pair, words and floats, the number added, then a sweep's line.
+    /// One line: the lengths of counts, marks, pair, words and floats, the number added, then a sweep's line.
     pub fn parse(line: &str) -> Option<Call> {
-        let mut w = line.splitn(6, ' ');
+        let mut w = line.splitn(7, ' ');
         let mut number = || w.next()?.parse::<usize>().ok();
-        let lent = Lent { counts: number()?, pair: number()?, words: number()?, floats: number()? };
+        let lent = Lent { counts: number()?, doubtful: number()?, pair: number()?, words: number()?, floats: number()? };
         let more = w.next()?.parse().ok()?;
         Some(Call { lent, more, sweep: Sweep::parse(w.next()?)? })
     }
 
-    /// The line of the sweep entry: the number, where it is 0 regions, merges and counts, and whether the work memory asked for is cleared. The line
-    /// of the region map, which is lent labels as the sweep entry counts: likewise, with regions and labels. Where the first number is 0, the
-    /// line of the second entry: the number, and where that is 0 the bits of each unfolded velocity.
+    /// The line of the sweep entry: the number, where it is 0 regions, merges, counts and, if there are gates, their marks in one word; and
+    /// whether the work memory asked for is cleared. The line of the region map, which is lent labels as the sweep entry counts: likewise, with
+    /// regions and labels. Where the first number is 0, the line of the second entry: the number, and where that is 0 the bits of each unfolded
+    /// velocity.
     pub fn lines(&self) -> Vec<String> {
         let a = self.sweep.answer_lent(Some(self.lent));
         let left = |cleared: bool| if cleared { "cleared" } else { "kept" };
@@ -365,6 +401,9 @@ impl Call {
         if a.number == 0 {
             first.extend([a.regions.to_string(), a.merges.to_string()]);
             first.extend(a.counts.iter().map(|c| c.to_string()));
+        }
+        if !a.doubtful.is_empty() {
+            first.push(a.doubtful.iter().map(|d| d.to_string()).collect());
         }
         first.push(left(a.number == 0 || a.number == 9).into());
         let map = self.sweep.map_line(Some(self.lent));

@@ -1,15 +1,17 @@
 //! oracle make SEED COUNT MOST   print COUNT small sweeps of at most MOST gates, one a line
+//! oracle doubtful SEED COUNT    print COUNT sweeps of 2 to 24 gates, many with merges at or beside 7/16, 1/2 and 9/16 of a fold, one a line
 //! oracle answer                 read sweeps, one a line; print the Rust's answer to each, one a line
 //! oracle counts                 the same with no question put: the counts that `dealias_sweep` gives, or `error`
+//! oracle marks                  read sweeps, one a line; print the number of the answer and, where it is 0, the mark of each gate
 //! oracle map                    read sweeps, one a line; print the number of the first of questions 1 to 8 that gets a no, or 0, regions and the Rust's labels
 //! oracle records                read sweeps, one a line; print the Rust's records that become edges: labels, count, count less that with both skips 0
 //! oracle calls                  read recorded calls, one a line; print the lines of the entries
 //! oracle unfold                 read a recorded list of sweep files; print for each a line with `=` and its number, and what the program over files prints
 //! oracle numbers                read the same; print for each the number of the first refusal, the reader's or the sweep's, or 0
-//! oracle trace                  read one sweep; print limits, labels, records, merges and uncentred counts
+//! oracle trace                  read one sweep; print limits, labels, records, merges, uncentred counts and marks
 //! oracle time RAYS GATES ROUGHNESS REPS   time `dealias_region_based` on a made weather sweep
 
-use radish_oracle::{file, make, Call, Sweep};
+use radish_oracle::{file, is_doubtful, make, Call, Sweep};
 use std::io::{BufRead, Read, Write};
 
 fn main() {
@@ -18,16 +20,18 @@ fn main() {
     let out = std::io::stdout();
     let mut out = std::io::BufWriter::new(out.lock());
     match args.first().map(|s| s.as_str()) {
-        Some("make") => {
-            for k in 0..number(2) {
-                writeln!(out, "{}", make::small(number(1) * 1_000_003 + k, number(3)).line()).unwrap();
+        Some(what @ ("make" | "doubtful")) => {
+            for seed in (0..number(2)).map(|k| number(1) * 1_000_003 + k) {
+                let s = if what == "make" { make::small(seed, number(3)) } else { make::doubtful(seed) };
+                writeln!(out, "{}", s.line()).unwrap();
             }
         }
-        Some(what @ ("answer" | "counts" | "map" | "records")) => {
+        Some(what @ ("answer" | "counts" | "marks" | "map" | "records")) => {
             for line in std::io::stdin().lock().lines() {
                 let line = line.unwrap();
                 let text = match Sweep::parse(&line) {
                     Some(s) if what == "answer" => s.answer().line(),
+                    Some(s) if what == "marks" => s.marks_line(),
                     Some(s) if what == "map" => s.map_line(None),
                     Some(s) if what == "records" => s.records_line(),
                     Some(s) => match s.counts_or_none() {
@@ -75,7 +79,10 @@ fn main() {
             for e in &t.records {
                 writeln!(out, "record {} {} count {} sums {:?} {:?}", e.0, e.1, e.2, e.3, e.4).unwrap();
             }
-            writeln!(out, "merges {} within {} uncentred {:?}", t.merges, t.within, t.uncentred).unwrap();
+            for (quotient, weight) in &t.quotients {
+                writeln!(out, "merge of weight {weight}, difference over it {quotient:?}, doubtful {}", is_doubtful(*quotient)).unwrap();
+            }
+            writeln!(out, "merges {} within {} uncentred {:?} marks {:?}", t.merges, t.within, t.uncentred, t.doubtful).unwrap();
             writeln!(out, "counts {:?}", if t.within { s.counts() } else { Vec::new() }).unwrap();
         }
         Some("time") => {
@@ -93,7 +100,7 @@ fn main() {
             writeln!(out, "rays {} gates {} regions {} merges {} seconds {:.4}", s.rays, s.gates, t.regions, t.merges, best).unwrap();
         }
         _ => {
-            eprintln!("usage: oracle make SEED COUNT MOST | answer | calls | counts | map | unfold | numbers | trace");
+            eprintln!("usage: oracle make SEED COUNT MOST | doubtful SEED COUNT | answer | calls | counts | marks | map | records | unfold | numbers | trace");
             eprintln!("       oracle time RAYS GATES ROUGHNESS REPS");
             std::process::exit(2);
         }

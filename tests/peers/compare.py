@@ -1,4 +1,4 @@
-"""Makes sweeps of up to 40 x 40 gates and compares the library's answer number, counts, regions, merges and unfolded velocities with those
+"""Makes sweeps of up to 40 x 40 gates and compares the library's answer number, counts, marks, regions, merges and unfolded velocities with those
 of method.py, its limits bit by bit with numpy.linspace's, and its region map interval by interval with scipy.ndimage.label's areas. Prints
 versions and how many sweeps did what; exits 1 if any sweep differs. usage: compare.py LIBRARY.so STAGES.so COUNT (see run)"""
 import platform
@@ -47,6 +47,7 @@ def tipping(chance):
 FAMILIES = {
     "few levels": lambda chance, shape, nyquist: chance.choice(chance.uniform(-1, 1, chance.integers(2, 6)) * nyquist, shape),
     "quarters of Nyquist": lambda chance, shape, nyquist: nyquist * chance.integers(-4, 5, shape) / 4,
+    "sixteenths of a fold": lambda chance, shape, nyquist: nyquist * chance.integers(-8, 9, shape) / 8,
     "near both ends": lambda chance, shape, nyquist: nyquist * chance.choice([0.9, -0.9, 1.0, -1.0, 0.5, -0.5, -0.0], shape),
     "uniform": lambda chance, shape, nyquist: nyquist * chance.uniform(-1, 1, shape),
     "beyond Nyquist": lambda chance, shape, nyquist: nyquist * chance.choice([1.2, 3.0, 40.0]) * chance.uniform(-1, 1, shape),
@@ -85,7 +86,7 @@ def line(sweep):
 
 def difference(library, sweep, expected):
     """What differs between the library's answer and the expected one, or nothing."""
-    number, counts, regions, merges = library.dealias(sweep)
+    number, counts, doubtful, regions, merges = library.dealias(sweep)
     if number != expected.number:
         return f"answer {number}, expected {expected.number}"
     if number != 0:
@@ -94,6 +95,8 @@ def difference(library, sweep, expected):
         return f"regions and merges {regions}, {merges}, expected {expected.regions}, {expected.merges}"
     if not np.array_equal(counts, expected.counts):
         return f"{np.count_nonzero(counts != expected.counts)} counts"
+    if not np.array_equal(doubtful, expected.doubtful):
+        return f"{np.count_nonzero(doubtful != expected.doubtful)} marks"
     number, unfolded = library.unfold(sweep, counts)
     if number != 0 or unfolded.tobytes() != unfold(sweep, counts).tobytes():
         return "unfolded velocities"
@@ -130,7 +133,8 @@ def main(path, stages, count):
     library, stages, differ, tipped = Library(path), Stages(stages), 0, 0
     mapped = dict.fromkeys(["maps", "limits", "intervals with gates", "labelled gates"], 0)
     families, regions, merges = dict.fromkeys([*FAMILIES, "tipping sums"], 0), 0, 0
-    seen = dict.fromkeys(["accepted", "refused by 8", "refused by 9", "two regions or more", "a count other than 0", "an offset other than 0"], 0)
+    did = ["two regions or more", "a count other than 0", "an offset other than 0", "a mark"]
+    seen, marked = dict.fromkeys(["accepted", "refused by 8", "refused by 9", *did], 0), 0
     for seed in range(count):
         name, sweep = make(seed)
         with np.errstate(invalid="ignore"):  # masked gates hold NaN and infinities
@@ -146,12 +150,14 @@ def main(path, stages, count):
             seen["two regions or more"] += expected.regions > 1
             seen["a count other than 0"] += bool(expected.counts.any())
             seen["an offset other than 0"] += expected.offset != 0
+            seen["a mark"] += bool(expected.doubtful.any())
+            marked += int(np.count_nonzero(expected.doubtful))
         if name == "tipping sums":
             tipped += not np.array_equal(expected.counts, dealias(sweep, Way(summed=np.add.reduceat)).counts)
     print("made:", ", ".join(f"{name} {number}" for name, number in families.items()))
     print("of them:", ", ".join(f"{name} {number}" for name, number in seen.items()))
     print("limits and region maps compared:", ", ".join(f"{name} {number}" for name, number in mapped.items()))
-    print(f"regions {regions}, merges {merges}; tipping sums that get other counts by add.reduceat {tipped}")
+    print(f"regions {regions}, merges {merges}, gates marked {marked}; tipping sums that get other counts by add.reduceat {tipped}")
     print(f"{count} sweeps, {differ} differ")
     return 1 if differ else 0
 

@@ -8,7 +8,7 @@ NUMBER, REAL, POINTER, LENGTH = ctypes.c_uint32, ctypes.c_float, ctypes.c_void_p
 
 
 def slices(*arrays):
-    """Each array as the pointer and the length that an entry takes for a slice."""
+    """Each array as the pointer and the length that an entry takes for a slice; the caller keeps the arrays until the entry has answered."""
     return [x for array in arrays for x in (array.ctypes.data, array.size)]
 
 
@@ -17,7 +17,8 @@ class Library:
         shared = ctypes.CDLL(path)
         self.dealias_sweep, self.region_map = shared.jivakkol_dealias_sweep, shared.jivakkol_region_map
         self.unfold_velocity = shared.jivakkol_unfold_velocity
-        self.dealias_sweep.argtypes = self.region_map.argtypes = [NUMBER] * 2 + [REAL] + [NUMBER] * 5 + [POINTER, LENGTH] * 6
+        sweep = [NUMBER] * 2 + [REAL] + [NUMBER] * 5
+        self.dealias_sweep.argtypes, self.region_map.argtypes = sweep + [POINTER, LENGTH] * 7, sweep + [POINTER, LENGTH] * 6
         self.unfold_velocity.argtypes = [NUMBER] * 2 + [REAL] + [POINTER, LENGTH] * 4
         self.dealias_sweep.restype = self.region_map.restype = self.unfold_velocity.restype = NUMBER
 
@@ -29,10 +30,11 @@ class Library:
                      *slices(velocity, valid, *written, words, floats))
 
     def dealias(self, sweep):
-        """The answer's number, the counts as rays x gates, the regions and the merges."""
-        counts, pair = np.zeros(sweep.velocity.shape, np.int32), np.zeros(2, np.uint32)
-        number = self.on_sweep(self.dealias_sweep, sweep, counts, pair)
-        return number, counts, int(pair[0]), int(pair[1])
+        """The answer's number, the counts and the marks as rays x gates, the regions and the merges."""
+        shape = sweep.velocity.shape
+        counts, doubtful, pair = np.zeros(shape, np.int32), np.full(shape, 7, np.uint8), np.zeros(2, np.uint32)
+        number = self.on_sweep(self.dealias_sweep, sweep, counts, doubtful, pair)
+        return number, counts, doubtful, int(pair[0]), int(pair[1])
 
     def map(self, sweep):
         """The answer's number, the labels as rays x gates, and the number of regions."""
@@ -56,8 +58,9 @@ class Stages:
         self.stage_limits.restype = LENGTH
 
     def limits(self, sweep):
+        velocity, valid = flat(sweep)
         out = np.zeros(10_000)
-        return out[:self.stage_limits(sweep.nyquist, sweep.splits, *slices(*flat(sweep), out))]
+        return out[:self.stage_limits(sweep.nyquist, sweep.splits, *slices(velocity, valid, out))]
 
 
 def flat(sweep):

@@ -4,6 +4,7 @@ by numpy.argmax, rounding by numpy.round. Written from the scope document and fr
 
 A `Way` says in which types and order the arithmetic is done. The default is the scope document's; departures.py has those of Py-ART.
 """
+from fractions import Fraction
 from typing import Callable, NamedTuple
 
 import numpy as np
@@ -28,6 +29,7 @@ class Answer(NamedTuple):
     """`number` is 0, or 8 or 9, the question that got a no; then the rest says nothing."""
     number: int
     counts: np.ndarray = None
+    doubtful: np.ndarray = None
     regions: int = 0
     merges: int = 0
     offset: int = 0
@@ -111,17 +113,24 @@ def edges_of(sweep, labels, way):
     return first[used], second[used], weight[used], difference[used].astype(np.float32)
 
 
+def near_tie(number):
+    """Whether a number lies within one sixteenth of a whole number plus a half, the distance included; by fractions, without rounding."""
+    return abs(Fraction(float(number)) % 1 - Fraction(1, 2)) <= Fraction(1, 16)
+
+
 def merge_all(edges, sizes, way):
-    """The regions' counts and the number of merges, or none where question 9 gets a no. A weight of 0 is a dead edge's."""
+    """The regions' counts, their marks and the number of merges, or none where question 9 gets a no. A weight of 0 is a dead edge's."""
     first, second, weight, difference = edges
     node, size, counts, merges = np.arange(sizes.size), sizes.copy(), np.zeros(sizes.size, np.int64), 0
+    doubtful = np.zeros(sizes.size, np.uint8)
     while weight.any():
         edge = np.argmax(weight)
-        number = int(np.round(way.divided(difference[edge]) / way.divided(weight[edge])))
-        base, moved = first[edge], second[edge]
+        quotient = way.divided(difference[edge]) / way.divided(weight[edge])
+        number, base, moved = int(np.round(quotient)), first[edge], second[edge]
         if size[base] <= size[moved]:
             base, moved, number = moved, base, -number
         counts[node == moved] += number
+        doubtful[node == moved] |= near_tie(quotient)
         if abs(number) > MOST_FOLDS or np.abs(counts[node == moved]).max() > MOST_FOLDS:
             return None
         node[node == moved] = base
@@ -142,7 +151,7 @@ def merge_all(edges, sizes, way):
         weight[stays] += weight[goes]
         difference[stays] += difference[goes]
         weight[goes] = 0
-    return counts, merges
+    return counts, doubtful, merges
 
 
 def add(difference, where, product, way):
@@ -158,15 +167,15 @@ def dealias(sweep, way=Way()):
     labels, regions = label(sweep, limits, way)
     edges = edges_of(sweep, labels, way) if regions > 1 else None
     if edges is None:
-        return Answer(0, np.zeros(labels.shape, np.int64), regions)
+        return Answer(0, np.zeros(labels.shape, np.int64), np.zeros(labels.shape, np.uint8), regions)
     sizes = np.bincount(labels.ravel(), minlength=regions + 1)
     sizes[0] = 0
     merged = merge_all(edges, sizes, way)
     if merged is None:
         return Answer(9)
-    counts, merges = merged
+    counts, doubtful, merges = merged
     offset = round(int(sizes @ counts) / int(sizes.sum())) if sweep.centred else 0
-    return Answer(0, np.where(sweep.valid, counts[labels] - offset, 0), regions, merges, offset)
+    return Answer(0, np.where(sweep.valid, counts[labels] - offset, 0), doubtful[labels], regions, merges, offset)
 
 
 def unfold(sweep, counts):

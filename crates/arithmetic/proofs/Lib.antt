@@ -12,3 +12,5 @@ pub mod Itself
 pub mod Steps
 pub mod Ends
 pub mod Rising
+pub mod PartLaws
+pub mod NearHalf

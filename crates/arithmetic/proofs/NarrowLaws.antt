@@ -18,7 +18,7 @@ use lib.Ieee.Order.{drop, round-mono}
 use lib.Ieee.Positive.{num, den, positive, above, own-value, den-pos, first-pos}
 use Rattle.arithmetic.specs.Rounding.{narrowed}
 use Rattle.arithmetic.proofs.RoundLaws.{drop-is, drop-none, drop-covers, round-unit, closest-le, magnet-add, sub-values, value-unique, rescale}
-use Rattle.arithmetic.proofs.RangeLaws.{le-leb, zeroF, Zero, zero-of, below-or-zero}
+use Rattle.arithmetic.proofs.RangeLaws.{le-leb, iff, T-of, zeroF, Zero, zero-of, below-or-zero}
 
 abbrev pub unit : Float → ℕ
 unit x = drop 24 (num x * 2 ^ 149) (den x)
@@ -149,15 +149,6 @@ le-value (fin false n g) b d D v =
     ∙ iff (leb (2 ^ 128 * u) a) (leb (2 ^ 128 * d) b)
     (λ (t : T (leb (2 ^ 128 * u) a)). le→leb (2 ^ 128 * d) b (le-of-mul-le-mul-right (le-trans (le-of-eq (mul-right-comm (2 ^ 128) d u)) (le-trans (mul-le-mul-right d (leb→le (2 ^ 128 * u) a t)) (le-of-eq (v .1)))) (down-pos g)))
     (λ (t : T (leb (2 ^ 128 * d) b)). le→leb (2 ^ 128 * u) a (le-of-mul-le-mul-right (le-trans (le-of-eq (mul-right-comm (2 ^ 128) u d)) (le-trans (mul-le-mul-right u (leb→le (2 ^ 128 * d) b t)) (le-of-eq (sym (v .1))))) D))
-  where
-    iff : (a b : Bool) → (T a → T b) → (T b → T a) → a ≡ b
-    iff true true f g = refl
-    iff true false f g = absurd (f tt)
-    iff false true f g = absurd (g tt)
-    iff false false f g = refl
-
-T-of : {b : Bool} → b ≡ true → T b
-T-of e = subst T (sym e) tt
 
 -- below 2 ^ 128
 pub finite-below : (x : Float) → T (above x) → le top32 x ≡ false → T (positive x) × (num x < 2 ^ 128 * den x)

@@ -122,9 +122,6 @@ module _ (z : ℤ) (f : SFits w64 z) where
           some n = lt-ltb 0 (suc n) (omega arith)
       go (negsuc n) t = refl
 
-pub T-of : {b : Bool} → b ≡ true → T b
-T-of e = subst T (sym e) tt
-
 -- ---- the ceilings' arguments are in range
 pub start-within : (nyq hi : Float) (S : ℕ) → T (fits binary64 nyq) → T (fits binary64 hi) → Asked nyq S → T (velocityInRange hi) → T (within (div binary64 (overStart nyq hi) (width nyq S)))
 start-within nyq hi S f g a h =

@@ -53,16 +53,17 @@ le-leb a b = go (leb a b) (leb→le a b) (nleb→lt a b)
         or-false (ltb a b) (eqb a b) (is-false (ltb a b) (not-T (ltb a b) (λ (t : T (ltb a b)). not-le-of-lt (k tt) (le-of-lt (ltb→lt a b t)))))
         (is-false (eqb a b) (not-T (eqb a b) (λ (t : T (eqb a b)). not-le-of-lt (k tt) (le-of-eq (eqb→eq a b t)))))
 
-pub eqb-sym : (a b : ℕ) → eqb a b ≡ eqb b a
-eqb-sym a b = go (eqb a b) (eqb b a) (λ (t : T (eqb a b)). subst (λ (x : ℕ). T (eqb x a)) (eqb→eq a b t) (eqb-refl a)) (λ (t : T (eqb b a)). subst (λ (x : ℕ). T (eqb x b)) (eqb→eq b a t) (eqb-refl b))
-  where
-    go : (x y : Bool) → (T x → T y) → (T y → T x) → x ≡ y
-    go true true f g = refl
-    go true false f g = absurd (f tt)
-    go false true f g = absurd (g tt)
-    go false false f g = refl
+-- two tests that imply each other
+pub iff : (a b : Bool) → (T a → T b) → (T b → T a) → a ≡ b
+iff true true f g = refl
+iff true false f g = absurd (f tt)
+iff false true f g = absurd (g tt)
+iff false false f g = refl
 
-T-of : {b : Bool} → b ≡ true → T b
+pub eqb-sym : (a b : ℕ) → eqb a b ≡ eqb b a
+eqb-sym a b = iff (eqb a b) (eqb b a) (λ (t : T (eqb a b)). subst (λ (x : ℕ). T (eqb x a)) (eqb→eq a b t) (eqb-refl a)) (λ (t : T (eqb b a)). subst (λ (x : ℕ). T (eqb x b)) (eqb→eq b a t) (eqb-refl b))
+
+pub T-of : {b : Bool} → b ≡ true → T b
 T-of e = subst T (sym e) tt
 
 -- ---- the range test, at each sign

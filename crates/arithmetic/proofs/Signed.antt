@@ -80,7 +80,7 @@ from-leq false true A B h =
     omega arith
 from-leq true false A B h = omega arith
 
-le-values : (x y : Float) (s t : Bool) (a b c : ℕ) → 0 < c → HasValue x s a c → HasValue y t b c → plus s a + minus t b ≤ plus t b + minus s a → T (le x y)
+pub le-values : (x y : Float) (s t : Bool) (a b c : ℕ) → 0 < c → HasValue x s a c → HasValue y t b c → plus s a + minus t b ≤ plus t b + minus s a → T (le x y)
 unfolding le
 le-values nan y s t a b c C v w h = absurd v
 le-values (inf u) y s t a b c C v w h = absurd v

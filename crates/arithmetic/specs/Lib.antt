@@ -1,4 +1,5 @@
 pub mod Rounding
 pub mod Intervals
+pub mod Doubtful
 pub mod Evaluating
 pub mod Inside

@@ -16,7 +16,7 @@ use lib.Ieee.Bits.{toBits-ofBits}
 use borrow.Author.Tests.{lt-ltb, le-ltb, le-leb, lt-leb, eq-eqb, ne-eqb, leb-true, leb-false, eqb-true, eqb-false}
 use Rattle.arithmetic.specs.Intervals.{nyquistInRange, velocityInRange}
 use Rattle.lists.proofs.SegLaws.{eq-or-ne}
-use Rattle.arithmetic.proofs.Plans.{T-of}
+use Rattle.arithmetic.proofs.RangeLaws.{T-of}
 
 -- ---- comparing with a power of two by the value
 

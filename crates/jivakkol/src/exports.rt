@@ -7,7 +7,7 @@ ghost use Rattle.sweep.specs.Velocity.{callVelocity, counted, velocityAnswerBy}
 ghost use Rattle.files.specs.Format.{optionsOf};
 ghost use Rattle.files.specs.Calls.{callRead, readAnswerBy, callWrite, writtenBy, callSize, sizeAnswerBy};
 
-// A sweep's fold counts, with the numbers of regions and of merges.
+// A sweep's fold counts and the marks of its doubtful merges, with the numbers of regions and of merges.
 #[no_mangle]
 pub extern "C" fn jivakkol_dealias_sweep(
     rays: u32,
@@ -21,14 +21,15 @@ pub extern "C" fn jivakkol_dealias_sweep(
     velocity: &[f32],
     valid: &[u8],
     folds: &mut [i32],
+    doubtful: &mut [u8],
     pair: &mut [u32],
     work: &mut [u32],
     work_f64: &mut [f64],
 ) -> u32
     ensures { λ r. ⌜ (
         let s = sweepOf rays gates nyquist «interval_splits» «skip_between_rays» «skip_along_ray» centered «rays_wrap_around» (now (velocity .entry)) (now (valid .entry)) in
-        let m = memoryOf (now (folds .entry)) (now (pair .entry)) (now (work .entry)) (now («work_f64» .entry)) in
-        answerBy r (now (folds .exit)) (now (pair .exit)) (now (work .exit)) (now («work_f64» .exit)) ≡ call s m
+        let m = memoryOf (now (folds .entry)) (now (doubtful .entry)) (now (pair .entry)) (now (work .entry)) (now («work_f64» .entry)) in
+        answerBy r (now (folds .exit)) (now (doubtful .exit)) (now (pair .exit)) (now (work .exit)) (now («work_f64» .exit)) ≡ call s m
         ) ⌝ }
 {
     let o = network::options::Options {
@@ -41,7 +42,7 @@ pub extern "C" fn jivakkol_dealias_sweep(
         centred: centered,
         wrap: rays_wrap_around,
     };
-    sweep::entry::dealias_sweep(o, velocity, valid, folds, pair, work, work_f64)
+    sweep::entry::dealias_sweep(o, velocity, valid, folds, doubtful, pair, work, work_f64)
 }
 
 // A sweep's region map: the label of each gate, with the number of regions.

@@ -6,15 +6,16 @@ use mathlib.Core.List.{List}
 use mathlib.Core.Option.{Option, none, some}
 use lib.ListN.{length, getD}
 use lib.IntN.{ℤ, pos, _+ℤ_, +ℤ-idr}
-use Rattle.network.specs.Network.{replay}
+use Rattle.network.specs.Network.{replay, trace}
 use Rattle.sweep.specs.Sweep.{Sweep, Unfolded, unfolded}
 use Rattle.sweep.specs.Questions.{accepted, gatesIn, asked, firstMissed, answered, outcome, ownLimits}
 use Rattle.sweep.specs.Call.{Memory, Answer, lengths, clearedFor, workedOn, ending, call}
 use Rattle.sweep.specs.Entry.{answerOf}
 use Rattle.sweep.proofs.PassedLaws.{missed-none}
-use Rattle.locality.specs.Demand3.{Accepted, Does, first, countAt, uncentred, offset}
-use Rattle.locality.specs.Theorems.{Called, AnswerIs, RefusalKeeps, CountsAre, WorkCleared, EchoCounts, EchoLists}
+use Rattle.locality.specs.Demand3.{Accepted, Does, labelAt, first, countAt, markAt, uncentred, offset}
+use Rattle.locality.specs.Theorems.{Called, AnswerIs, RefusalKeeps, CountsAre, MarksMean, WorkCleared, EchoCounts, EchoLists}
 use Rattle.locality.proofs.GateCounts.{valid-counts, no-offset, same-region}
+use Rattle.locality.proofs.GateMarks.{mark-byte, gate-marks, mark-some, some-mark, mark-labelled, mark-valid}
 use Rattle.locality.proofs.Demand3Laws.{merge-lists, two-sweeps}
 
 -- ---- the end of a call by the first question that gets a no
@@ -55,10 +56,10 @@ module _ (s : Sweep) (m : Memory) where
   unfolding workedOn
   worked-by e = ap worked e
 
-  worked-keeps : (o : Option ℕ) → (worked o .counts ≡ m .counts) × (worked o .pair ≡ m .pair)
+  worked-keeps : (o : Option ℕ) → (worked o .counts ≡ m .counts) × (worked o .doubtful ≡ m .doubtful) × (worked o .pair ≡ m .pair)
   unfolding clearedFor
-  worked-keeps none = (refl, refl)
-  worked-keeps (some k) = (refl, refl)
+  worked-keeps none = (refl, refl, refl)
+  worked-keeps (some k) = (refl, refl, refl)
 
 -- ---- the theorems
 
@@ -70,7 +71,7 @@ refusal-keeps s m a c h =
     let e : a .memory ≡ workedOn s m = ap (λ (x : Answer). x .memory) (c ∙ call-ends s m) ∙ keeps-ends s m (firstMissed s (lengths m)) (workedOn s m) (rw (← answer-is s m a c) h) in
     let f : a .memory ≡ worked s m (asked s (lengths m)) = e ∙ worked-by s m refl in
     let k = worked-keeps s m (asked s (lengths m)) in
-    record { counts = ap (λ (x : Memory). x .counts) f ∙ k .0; pair = ap (λ (x : Memory). x .pair) f ∙ k .1; all = λ j w. e ∙ worked-by s m w }
+    record { counts = ap (λ (x : Memory). x .counts) f ∙ k .0; doubtful = ap (λ (x : Memory). x .doubtful) f ∙ k .1; pair = ap (λ (x : Memory). x .pair) f ∙ k .2; all = λ j w. e ∙ worked-by s m w }
 
 -- a call that answers 0 ends as one with no question missed
 accepts : (s : Sweep) (m : Memory) (a : Answer) → Called s m a → a .number ≡ 0 → (firstMissed s (lengths m) ≡ none) × (a ≡ end s m none (workedOn s m))
@@ -82,7 +83,19 @@ pub counts-are : CountsAre
 unfolding ending answered
 counts-are s m a c h =
     let e = accepts s m a c h .1 in
-    record { counts = ap (λ (x : Answer). x .memory .counts) e; pair = ap (λ (x : Answer). x .memory .pair) e }
+    record { counts = ap (λ (x : Answer). x .memory .counts) e; doubtful = ap (λ (x : Answer). x .memory .doubtful) e; pair = ap (λ (x : Answer). x .memory .pair) e }
+
+pub marks-mean : MarksMean
+marks-mean s m a c h g =
+    let limits = ownLimits s in
+    let e : getD (a .memory .doubtful) g 0 ≡ markAt s limits (trace (first s limits) (unfolded s limits .merges)) g = ap (λ (x : List ℕ). getD x g 0) (counts-are s m a c h .doubtful) ∙ gate-marks s limits g in
+    record {
+      byte = rw e (unfold markAt in mark-byte (trace (first s limits) (unfolded s limits .merges)) (labelAt s limits g));
+      doubted = λ w. mark-some s limits g (sym e ∙ w);
+      one = λ d. e ∙ some-mark s limits g d;
+      valid = λ w. mark-valid s limits g (sym e ∙ w);
+      labelled = λ w. mark-labelled s limits g (sym e ∙ w);
+    }
 
 pub work-cleared : WorkCleared
 work-cleared s m a c h =
@@ -94,8 +107,8 @@ work-cleared s m a c h =
       floats = ap (λ (x : Answer). x .memory .floats) e ∙ k .1 ∙ ap (λ (x : Memory). x .floats) w;
     }
 
--- a call that answers 0 has an accepted sweep, and the counts it leaves are the sweep's
-call-accepts : (s : Sweep) (m : Memory) (a : Answer) → Called s m a → a .number ≡ 0 → Accepted s (a .memory .counts)
+-- a call that answers 0 has an accepted sweep, and the counts and marks it leaves are the sweep's
+call-accepts : (s : Sweep) (m : Memory) (a : Answer) → Called s m a → a .number ≡ 0 → Accepted s (a .memory .counts) (a .memory .doubtful)
 unfolding outcome answered
 call-accepts s m a c h = record {
   lent = lengths m;
@@ -103,17 +116,17 @@ call-accepts s m a c h = record {
   merges = length (own s m .merges);
   yes =
       ap (λ (o : Option ℕ). answered o (own s m)) (accepts s m a c h .0)
-      ∙ ap (λ (x : List ℤ). accepted x (own s m .regions) (length (own s m .merges))) (sym (counts-are s m a c h .counts));
+      ∙ (λ i. accepted (sym (counts-are s m a c h .counts) i) (sym (counts-are s m a c h .doubtful) i) (own s m .regions) (length (own s m .merges)));
 }
 
 pub echo-counts : EchoCounts
-echo-counts E s t m n a b c d y z alike p q = two-sweeps E s t (a .memory .counts) (b .memory .counts) (call-accepts s m a c y) (call-accepts t n b d z) alike p q
+echo-counts E s t m n a b c d y z alike p q = two-sweeps E s t (a .memory .counts) (b .memory .counts) (a .memory .doubtful) (b .memory .doubtful) (call-accepts s m a c y) (call-accepts t n b d z) alike p q
 
 pub echo-lists : EchoLists
-echo-lists E s m a c y p l is = record { does = d; counts = at-gate }
+echo-lists E s m a c y p l is = record { does = d; counts = at-gate; marks = λ g. ap (λ (x : List ℕ). getD x g 0) (counts-are s m a c y .doubtful) ∙ sym (d .marks g) }
   where
     d : Does s (ownLimits s) l
-    d = merge-lists E s (a .memory .counts) (call-accepts s m a c y) p l is
+    d = merge-lists E s (a .memory .counts) (a .memory .doubtful) (call-accepts s m a c y) p l is
 
     at-gate : (g : ℕ) → getD (s .mask) g 0 ≡ 1 → getD (a .memory .counts) g (pos 0) +ℤ offset s ≡ countAt s (ownLimits s) (replay (first s (ownLimits s)) l) g
     at-gate g h =

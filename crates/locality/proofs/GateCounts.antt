@@ -70,10 +70,10 @@ module _ (s : Sweep) (limits : List Float) where
 -- ---- a gate's count with centring off
 
 -- a region's label is not 0
-abbrev Numbered : Region → Type 0
+abbrev pub Numbered : Region → Type 0
 Numbered r = eqb 0 (r .label) ≡ false
 
-step-numbered : (n : State) (i : ℕ) → All Numbered (n .regions) → All Numbered (step n i .regions)
+pub step-numbered : (n : State) (i : ℕ) → All Numbered (n .regions) → All Numbered (step n i .regions)
 unfolding step stepTo merge move
 step-numbered n i t = go (Network.at (n .edges) i)
   where
@@ -86,7 +86,7 @@ unfolding replay
 replay-numbered [] n t = t
 replay-numbered (i ∷ l) n t = replay-numbered l (step n i) (step-numbered n i t)
 
-alone-numbered : (k : ℕ) (ns : List ℕ) → All Numbered (alone (suc k) ns)
+pub alone-numbered : (k : ℕ) (ns : List ℕ) → All Numbered (alone (suc k) ns)
 unfolding alone
 alone-numbered k [] = tt
 alone-numbered k (m ∷ ns) = (ne-eqb 0 (suc k) (λ w. omega arith), alone-numbered (suc k) ns)

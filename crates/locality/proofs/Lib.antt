@@ -8,6 +8,8 @@ pub mod StartEcho
 pub mod AcceptEcho
 pub mod Echo
 pub mod GateCounts
+pub mod MarksEcho
+pub mod GateMarks
 pub mod TwoSweeps
 pub mod MergeLists
 pub mod Question9

@@ -6,7 +6,7 @@ use mathlib.Core.Bool.{Bool, true, false, cond, not, _&&_, _||_}
 use mathlib.Core.Logic.{inl, inr}
 use mathlib.Core.List.{List, [], _∷_, map}
 use mathlib.Core.Option.{none, some, Option·none-ne-some, Option}
-use lib.ListN.{length}
+use lib.ListN.{length, getD}
 use lib.Ieee.{Float}
 use lib.Dec.{eqb, leb}
 use borrow.Author.Tests.{eqb-true, ne-eqb}
@@ -19,7 +19,7 @@ use Rattle.locality.proofs.RootsEcho.{at, at-less}
 use Rattle.lists.proofs.AllLaws.{all-both, all-weaker, all-true, all-false}
 use Rattle.edges.specs.declared.edges.EdgeRecord.{EdgeRecord}
 use Rattle.edges.specs.Edges.{used, pairs}
-use Rattle.network.specs.Network.{State, Event, merges, replay, trace, choose, Edge, step, better, event, networkBy}
+use Rattle.network.specs.Network.{State, Event, merges, markOf, replay, trace, choose, Edge, step, better, event, networkBy}
 use Rattle.network.proofs.Ends.{FoundLive}
 use Rattle.network.proofs.Restrict.{eventIn, event-edge}
 use Rattle.locality.proofs.Locality.{other, SameSides, Agrees}
@@ -27,10 +27,12 @@ use Rattle.locality.proofs.EdgesEcho.{used-all, recordIn}
 use Rattle.locality.proofs.PairsEcho.{flag-side, pairs-sides}
 use Rattle.locality.proofs.StartEcho.{edgeSide, every-merge-list}
 use Rattle.locality.proofs.Once.{Distinct, merges-once}
-use Rattle.sweep.specs.Sweep.{Sweep, regionsOf, pairsOf, sizes, networkOf, final}
-use Rattle.locality.specs.Demand3.{liesIn, bothIn, echoes, MergeList, turnAt, countAt, Does}
+use Rattle.sweep.specs.Sweep.{Sweep, regionsOf, pairsOf, sizes, networkOf, final, unfolded}
+use Rattle.locality.specs.Demand3.{liesIn, bothIn, echoes, MergeList, turnAt, countAt, markAt, Does}
 use Rattle.locality.proofs.Echo.{ApartBy, only, flags, labels-follow}
 use Rattle.locality.proofs.GateCounts.{call-merges, off-counts}
+use Rattle.locality.proofs.MarksEcho.{sides-mark}
+use Rattle.locality.proofs.GateMarks.{gate-marks}
 
 -- a gate's region lies on the gate's side, where gates of one label do
 lies : (E p : ℕ → Bool) (labels : List ℕ) → ((g : ℕ) → 0 < at labels g → p (at labels g) ≡ E g) → (g : ℕ) → 0 < at labels g → liesIn E labels (at labels g) ≡ E g
@@ -147,6 +149,12 @@ module _ (E : ℕ → Bool) (s : Sweep) (limits : List Float) (A : ApartBy E s l
   alike l a = turns own l (networkOf s f)
       (all-weaker (λ v. Member v own) (λ v. turnAt own (v .edge) ≡ some v) (λ v w. mem-turn (merges (networkOf s f)) (networkOf s f) v (merges-once (networkOf s f)) w) (trace (networkOf s f) l) (among l a))
 
+  marks-same : (l : List ℕ) → Agrees p q (networkOf s f) l → (g : ℕ) → markAt s limits (trace (networkOf s f) l) g ≡ getD (unfolded s limits .doubtful) g 0
+  unfolding markAt eventIn other
+  marks-same l a g =
+      sides-mark (eventIn p q) (trace (networkOf s f) l) own (a .this-events) (a .other-events) (at (f .labels) g)
+      ∙ sym (gate-marks s limits g ∙ ap (λ (k : List ℕ). markOf (trace (networkOf s f) k) (at (f .labels) g)) (call-merges s limits))
+
   sides : (l : List ℕ) → MergeList E s limits l → SameSides p q l (merges (networkOf s f))
   unfolding echoes bothIn edgeSide recordIn other
   sides l m = record { this-side = m .echo ∙ ap (keep q) (call-merges s limits); other-side = m .rest ∙ ap (keep (other q)) (call-merges s limits) }
@@ -160,4 +168,5 @@ module _ (E : ℕ → Bool) (s : Sweep) (limits : List Float) (A : ApartBy E s l
         alike = rw (call-merges s limits) (alike l a);
         ended = none-live (replay (networkOf s f) l .edges) (a .none-live);
         counts = λ g. ap (λ (n : State). countAt s limits n g) (a .same-state) ∙ (unfold final in off-counts s limits g);
+        marks = marks-same l a;
       }

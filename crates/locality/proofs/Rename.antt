@@ -26,7 +26,7 @@ module _ (ρ σ : ℕ → ℕ) where
   renP pl = record { edge = σ (pl .edge); base = ρ (pl .base); moved = ρ (pl .moved); gain = pl .gain }
 
   unfoldable pub renV : Event → Event
-  renV v = record { edge = σ (v .edge); live = v .live; number = v .number; gain = v .gain; base = map ρ (v .base); moved = map ρ (v .moved); counts = v .counts }
+  renV v = record { edge = σ (v .edge); live = v .live; number = v .number; doubtful = v .doubtful; gain = v .gain; base = map ρ (v .base); moved = map ρ (v .moved); counts = v .counts }
 
   choose-ren : (es : List Edge) → choose (map renE es) ≡ Option·map renE (choose es)
   unfolding choose better renE

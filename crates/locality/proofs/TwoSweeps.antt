@@ -1,4 +1,5 @@
--- Two sweeps alike on an echo that is apart from the rest in both have the same counts there, but for the offset. Assumes nothing.
+-- Two sweeps alike on an echo that is apart from the rest in both have the same counts there, but for the offset, and the same marks. Assumes
+-- nothing.
 use Prim.Native.Nat.{ℕ}
 use mathlib.Core.Path.{_≡_, refl, sym, ap, _∙_}
 use mathlib.Core.Bool.{Bool, true, false, cond, _&&_}
@@ -10,10 +11,13 @@ use lib.Ieee.{Float, nan}
 use borrow.Author.Tests.{eqb-true}
 use Rattle.lists.specs.Seq.{tabulate}
 use Rattle.lists.proofs.SeqLaws.{tab-same}
+use Rattle.network.specs.Network.{trace}
 use Rattle.sweep.specs.Sweep.{Sweep, gateCount, unfolded}
-use Rattle.locality.specs.Demand3.{Alike}
+use Rattle.locality.specs.Demand3.{Alike, first, markAt}
 use Rattle.locality.proofs.Echo.{onlyMask, onlyVel, only, ApartBy, regionCount, key}
-use Rattle.locality.proofs.GateCounts.{gate-counts, valid-counts, no-offset}
+use Rattle.locality.proofs.GateCounts.{gate-counts, valid-counts, no-offset, call-merges}
+use Rattle.locality.proofs.MarksEcho.{ownMark, own-marks}
+use Rattle.locality.proofs.GateMarks.{gate-marks}
 
 module _ (E : ℕ → Bool) (s t : Sweep) (a : Alike E s t) (long : length (s .mask) ≡ length (t .mask)) where
   -- the echo alone is one sweep
@@ -66,3 +70,10 @@ module _ (E : ℕ → Bool) (s t : Sweep) (a : Alike E s t) (long : length (s .m
     pub same-but-offset : (g : ℕ) → E g ≡ true → getD (s .mask) g 0 ≡ 1
         → getD (unfolded s limits .counts) g (pos 0) +ℤ unfolded s limits .offset ≡ getD (unfolded t limits .counts) g (pos 0) +ℤ unfolded t limits .offset
     same-but-offset g e m = valid-counts s limits g m ∙ same-uncentred limits p q g e ∙ sym (valid-counts t limits g (sym (a .mask g e) ∙ m))
+
+    -- the marks are the same at every gate of the echo
+    pub same-marks : (g : ℕ) → E g ≡ true → getD (unfolded s limits .doubtful) g 0 ≡ getD (unfolded t limits .doubtful) g 0
+    same-marks g e = by-run s ∙ own-marks E s limits p g e ∙ ap (λ (u : Sweep). ownMark u limits g) only-same ∙ sym (own-marks E t limits q g e) ∙ sym (by-run t)
+      where
+        by-run : (u : Sweep) → getD (unfolded u limits .doubtful) g 0 ≡ ownMark u limits g
+        by-run u = gate-marks u limits g ∙ ap (λ (l : List ℕ). markAt u limits (trace (first u limits) l) g) (call-merges u limits)

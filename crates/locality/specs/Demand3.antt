@@ -13,17 +13,17 @@ use Rattle.lists.specs.Seq.{upto, keep, all}
 use Rattle.edges.specs.declared.edges.EdgeRecord.{EdgeRecord}
 use Rattle.edges.specs.Edges.{sees, used}
 use Rattle.edges.specs.declared.edges.Direction.{Direction}
-use Rattle.network.specs.Network.{State, Event, replay, trace, countOf}
+use Rattle.network.specs.Network.{State, Event, replay, trace, countOf, markOf}
 use Rattle.sweep.specs.Sweep.{Sweep, regionsOf, pairsOf, networkOf, unfolded}
 use Rattle.sweep.specs.Questions.{Lent, accepted, ownLimits, outcome}
 
--- "A sweep is accepted if questions 1 to 9 .. all get a yes": c are then its counts. By `call-accepts` every call that answers 0 has such a sweep,
--- and c are the counts that it leaves.
-pub record Accepted (s : Sweep) (c : List ℤ) : Type 0 where
+-- "A sweep is accepted if questions 1 to 9 .. all get a yes": c are then its counts and ds its marks. By `call-accepts` every call that answers 0
+-- has such a sweep, and c and ds are the counts and marks that it leaves.
+pub record Accepted (s : Sweep) (c : List ℤ) (ds : List ℕ) : Type 0 where
   pub lent : Lent
   pub regions : ℕ
   pub merges : ℕ
-  pub yes : outcome s lent ≡ accepted c regions merges
+  pub yes : outcome s lent ≡ accepted c ds regions merges
 
 -- ---- apart
 
@@ -74,6 +74,10 @@ turnAt (v ∷ vs) i = cond (eqb i (v .edge)) (some v) (turnAt vs i)
 unfoldable pub countAt : Sweep → List Float → State → ℕ → ℤ
 countAt s limits n g = cond (eqb (labelAt s limits g) 0) (pos 0) (countOf (n .regions) (labelAt s limits g))
 
+-- the mark of gate g by what a run found and did
+unfoldable pub markAt : Sweep → List Float → List Event → ℕ → ℕ
+markAt s limits vs g = markOf vs (labelAt s limits g)
+
 -- the sweep with centring off
 unfoldable pub uncentred : Sweep → Sweep
 uncentred s = record { shape = s .shape; splits = s .splits; centred = 0; nyquist = s .nyquist; vel = s .vel; mask = s .mask }
@@ -88,11 +92,13 @@ pub record Does (s : Sweep) (limits : List Float) (l : List ℕ) : Type 0 where
   pub ended : keep (λ e. e .live) (replay (first s limits) l .edges) ≡ []
   -- and "gives every gate its uncentred count"
   pub counts : (g : ℕ) → countAt s limits (replay (first s limits) l) g ≡ getD (unfolded (uncentred s) limits .counts) g (pos 0)
+  -- and it marks the gates that the sweep's own run marks (U7)
+  pub marks : (g : ℕ) → markAt s limits (trace (first s limits) l) g ≡ getD (unfolded s limits .doubtful) g 0
 
 -- Of an accepted sweep and an echo apart from the rest: one claim over all merge lists.
 abbrev pub MergeListsHold : Type 0
 MergeListsHold =
-    (E : ℕ → Bool) (s : Sweep) (c : List ℤ) → Accepted s c → Apart E s (ownLimits s) → (l : List ℕ) → MergeList E s (ownLimits s) l → Does s (ownLimits s) l
+    (E : ℕ → Bool) (s : Sweep) (c : List ℤ) (ds : List ℕ) → Accepted s c ds → Apart E s (ownLimits s) → (l : List ℕ) → MergeList E s (ownLimits s) l → Does s (ownLimits s) l
 
 -- ---- two sweeps
 
@@ -111,13 +117,15 @@ abbrev pub offset : Sweep → ℤ
 offset s = unfolded s (ownLimits s) .offset
 
 -- The counts c of s and d of t agree on the echo: centring off, they are the same; on, they are but for each sweep's own offset, at each
--- valid gate; so one whole number parts them.
-pub record Agree (E : ℕ → Bool) (s t : Sweep) (c d : List ℤ) : Type 0 where
+-- valid gate; so one whole number parts them. The marks x of s and y of t are the same there (U7).
+pub record Agree (E : ℕ → Bool) (s t : Sweep) (c d : List ℤ) (x y : List ℕ) : Type 0 where
   pub off : s .centred ≡ 0 → (g : ℕ) → E g ≡ true → getD c g (pos 0) ≡ getD d g (pos 0)
   pub on : (g : ℕ) → E g ≡ true → getD (s .mask) g 0 ≡ 1 → getD c g (pos 0) +ℤ offset s ≡ getD d g (pos 0) +ℤ offset t
   pub one : (k : ℤ) × ((g : ℕ) → E g ≡ true → getD (s .mask) g 0 ≡ 1 → getD c g (pos 0) ≡ getD d g (pos 0) +ℤ k)
+  pub marks : (g : ℕ) → E g ≡ true → getD x g 0 ≡ getD y g 0
 
 -- Of two accepted sweeps alike on an echo that is apart from the rest in both.
 abbrev pub TwoSweepsHold : Type 0
 TwoSweepsHold =
-    (E : ℕ → Bool) (s t : Sweep) (c d : List ℤ) → Accepted s c → Accepted t d → Alike E s t → Apart E s (ownLimits s) → Apart E t (ownLimits t) → Agree E s t c d
+    (E : ℕ → Bool) (s t : Sweep) (c d : List ℤ) (x y : List ℕ) → Accepted s c x → Accepted t d y
+    → Alike E s t → Apart E s (ownLimits s) → Apart E t (ownLimits t) → Agree E s t c d x y

@@ -4,20 +4,21 @@
 use Prim.Native.Nat.{ℕ, _<_}
 use mathlib.Core.Path.{_≡_}
 use mathlib.Core.Logic.{_⊎_}
-use mathlib.Core.Bool.{Bool}
+use mathlib.Core.Bool.{Bool, true}
 use mathlib.Core.List.{List, [], _∷_}
 use mathlib.Core.Option.{none, some}
 use lib.ListN.{length, getD}
 use lib.IntN.{pos, _+ℤ_}
 use lib.Ieee.{Float}
 use Rattle.memory.specs.Size.{largest}
-use Rattle.network.specs.Network.{replay}
+use Rattle.lists.specs.Seq.{Member}
+use Rattle.network.specs.Network.{Event, replay, trace}
 use Rattle.sweep.specs.Sweep.{Sweep, unfolded}
 use Rattle.sweep.specs.Questions.{gatesIn, asked, firstMissed, ownLimits}
 use Rattle.sweep.specs.Call.{Memory, Answer, lengths, clearedFor, call}
 use Rattle.sweep.specs.Entry.{answerOf}
 use Rattle.sweep.specs.Velocity.{Counted, VelocityAnswer, velocities, askedVelocity, callVelocity}
-use Rattle.locality.specs.Demand3.{Apart, MergeList, Does, first, countAt, Alike, offset, Agree}
+use Rattle.locality.specs.Demand3.{Apart, MergeList, Does, labelAt, first, countAt, markAt, Alike, offset, Agree}
 
 -- the contract of the entry
 abbrev pub Called : Sweep → Memory → Answer → Type 0
@@ -40,22 +41,47 @@ pub record OneIsSize (rays gates number : ℕ) : Type 0 where
 abbrev pub SweepSize : Type 0
 SweepSize = (s : Sweep) (m : Memory) (a : Answer) → Called s m a → OneIsSize (s .shape .rays) (s .shape .gates) (a .number)
 
--- `refusal-keeps`: a refusal leaves counts and pair as they were, and one by questions 1 to 8 leaves all memory so
+-- `refusal-keeps`: a refusal leaves counts, marks and pair as they were, and one by questions 1 to 8 leaves all memory so
 pub record Kept (s : Sweep) (m : Memory) (a : Answer) : Type 0 where
   pub counts : a .memory .counts ≡ m .counts
+  pub doubtful : a .memory .doubtful ≡ m .doubtful
   pub pair : a .memory .pair ≡ m .pair
   pub all : (k : ℕ) → asked s (lengths m) ≡ some k → a .memory ≡ m
 
 abbrev pub RefusalKeeps : Type 0
 RefusalKeeps = (s : Sweep) (m : Memory) (a : Answer) → Called s m a → 0 < a .number → Kept s m a
 
--- `counts-are`: a call that answers 0 leaves the definition's counts, and in the pair its regions and merges
+-- `counts-are`: a call that answers 0 leaves the definition's counts and marks, and in the pair its regions and merges
 pub record Written (s : Sweep) (a : Answer) : Type 0 where
   pub counts : a .memory .counts ≡ unfolded s (ownLimits s) .counts
+  pub doubtful : a .memory .doubtful ≡ unfolded s (ownLimits s) .doubtful
   pub pair : a .memory .pair ≡ unfolded s (ownLimits s) .regions ∷ length (unfolded s (ownLimits s) .merges) ∷ []
 
 abbrev pub CountsAre : Type 0
 CountsAre = (s : Sweep) (m : Memory) (a : Answer) → Called s m a → a .number ≡ 0 → Written s a
+
+-- a merge among those that found and did vs: it is doubtful, and region l is in its moved node
+pub record Doubted (vs : List Event) (l : ℕ) : Type 0 where
+  pub event : Event
+  pub done : Member event vs
+  pub doubtful : event .doubtful ≡ true
+  pub moved : Member l (event .moved)
+
+-- the same of the sweep's own run and the region of gate g
+abbrev pub GateDoubted : Sweep → ℕ → Type 0
+GateDoubted s g = Doubted (trace (first s (ownLimits s)) (unfolded s (ownLimits s) .merges)) (labelAt s (ownLimits s) g)
+
+-- `marks-mean`: of a call that answers 0, a gate's mark is 1 exactly if there is such a merge, and otherwise 0; no gate that is masked or has no
+-- region is marked
+pub record MarkMeans (s : Sweep) (a : Answer) (g : ℕ) : Type 0 where
+  pub byte : (getD (a .memory .doubtful) g 0 ≡ 0) ⊎ (getD (a .memory .doubtful) g 0 ≡ 1)
+  pub doubted : getD (a .memory .doubtful) g 0 ≡ 1 → GateDoubted s g
+  pub one : GateDoubted s g → getD (a .memory .doubtful) g 0 ≡ 1
+  pub valid : getD (a .memory .doubtful) g 0 ≡ 1 → getD (s .mask) g 0 ≡ 1
+  pub labelled : getD (a .memory .doubtful) g 0 ≡ 1 → 0 < labelAt s (ownLimits s) g
+
+abbrev pub MarksMean : Type 0
+MarksMean = (s : Sweep) (m : Memory) (a : Answer) → Called s m a → a .number ≡ 0 → (g : ℕ) → MarkMeans s a g
 
 -- `work-cleared`: a call that got past question 8 leaves the asked work memory zero and any further words as they were
 pub record Cleared (s : Sweep) (m : Memory) (a : Answer) : Type 0 where
@@ -65,16 +91,17 @@ pub record Cleared (s : Sweep) (m : Memory) (a : Answer) : Type 0 where
 abbrev pub WorkCleared : Type 0
 WorkCleared = (s : Sweep) (m : Memory) (a : Answer) → Called s m a → asked s (lengths m) ≡ none → Cleared s m a
 
--- `echo-counts`: demand 3 for the counts that two calls leave
+-- `echo-counts`: demand 3 for the counts and marks that two calls leave
 abbrev pub EchoCounts : Type 0
 EchoCounts =
     (E : ℕ → Bool) (s t : Sweep) (m n : Memory) (a b : Answer) → Called s m a → Called t n b → a .number ≡ 0 → b .number ≡ 0
-    → Alike E s t → Apart E s (ownLimits s) → Apart E t (ownLimits t) → Agree E s t (a .memory .counts) (b .memory .counts)
+    → Alike E s t → Apart E s (ownLimits s) → Apart E t (ownLimits t) → Agree E s t (a .memory .counts) (b .memory .counts) (a .memory .doubtful) (b .memory .doubtful)
 
--- `echo-lists`: demand 3 for the counts that a call leaves: at each valid gate every merge list gives the count plus the sweep's offset
+-- `echo-lists`: demand 3 for what a call leaves: at each valid gate every merge list gives the count plus the sweep's offset, and at every gate the mark
 pub record ListGives (s : Sweep) (a : Answer) (l : List ℕ) : Type 0 where
   pub does : Does s (ownLimits s) l
   pub counts : (g : ℕ) → getD (s .mask) g 0 ≡ 1 → getD (a .memory .counts) g (pos 0) +ℤ offset s ≡ countAt s (ownLimits s) (replay (first s (ownLimits s)) l) g
+  pub marks : (g : ℕ) → getD (a .memory .doubtful) g 0 ≡ markAt s (ownLimits s) (trace (first s (ownLimits s)) l) g
 
 abbrev pub EchoLists : Type 0
 EchoLists =

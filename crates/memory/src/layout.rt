@@ -28,7 +28,8 @@ pub const SLOTS: usize = 6;
 
 pub const NODES: usize = 8;
 
-// In nodes, from there on: where the stamps begin, the sizes, the lengths of the chains of slots and of regions, and the counts.
+// In nodes, from there on: where the stamps begin, the sizes, the lengths of the chains of slots and of regions, the counts
+// and the marks.
 // The headers of the slots lie before them, and the chains of regions one table further on.
 pub const STAMPS: usize = 2;
 
@@ -40,7 +41,9 @@ pub const REGION_LENGTHS: usize = 5;
 
 pub const COUNTS: usize = 6;
 
-pub const NODE_TABLES: usize = 7;
+pub const MARKS: usize = 7;
+
+pub const NODE_TABLES: usize = 8;
 
 // Counts, and the numbers that nodes are moved by, are kept as words with 1,000 added: the word of 0, of 1,000, and of a number that
 // question 9 refuses.

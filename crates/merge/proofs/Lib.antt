@@ -13,3 +13,4 @@ pub mod Passing
 pub mod JoinDoes
 pub mod Counts
 pub mod MergeDoes
+pub mod Marks

@@ -1,2 +1,3 @@
 // One merge of the network, over its tables in the lent words.
+pub mod mark;
 pub mod merge;

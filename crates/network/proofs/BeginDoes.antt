@@ -14,7 +14,7 @@ use Rattle.lists.proofs.SegLaws.{length-put, getD-put-below, seg-put-same, seg-
 use Rattle.memory.proofs.TreeLaws.{played-like, tree-set}
 use Rattle.memory.specs.Inside.Layout.{tableWords}
 use Rattle.merge.specs.Inside.Tables.{Tables, view, HoldsTables, store}
-use Rattle.merge.specs.Inside.Table.{Table, from, long, is, first, second, enext, rnext, stamp, elen, rlen, count}
+use Rattle.merge.specs.Inside.Table.{Table, from, long, is, first, second, enext, rnext, stamp, elen, rlen, count, mark}
 use Rattle.merge.specs.Inside.Leaves.{LeavesTables}
 use Rattle.network.specs.Inside.Begin.{slots, regionsFrom, linkAt, linkEdge, linkFrom, Linkable}
 use Rattle.merge.proofs.TableLaws.{same-table, apart}
@@ -51,7 +51,7 @@ slots-does m n w v d r e =
     go u false q l = seg-put-out w (6 * m) (upto (2 * m + n) 0) (from u m n) (long u m n) (λ j a b c f. apart m n enext u q j c (omega arith) a b)
 
 abbrev stored : ℕ → ℕ → List ℕ → ℕ → List ℕ
-stored m n w x = set (set (set (set (set w (8 * m + n + x) x) (8 * m + 5 * n + x) 1) (8 * m + 4 * n + x) 1) (8 * m + 6 * n + x) 1000) (8 * m + 2 * n + x) 0
+stored m n w x = set (set (set (set (set (set w (8 * m + n + x) x) (8 * m + 5 * n + x) 1) (8 * m + 4 * n + x) 1) (8 * m + 6 * n + x) 1000) (8 * m + 2 * n + x) 0) (8 * m + 7 * n + x) 0
 
 pub regions-turn : (m n : ℕ) (w₀ w : List ℕ) (d : List Float) (x : ℕ) (goal : Tables) → Going m n regionsFrom w₀ w d n x goal → x < n → Going m n regionsFrom w₀ (stored m n w x) d n (x + 1) goal
 unfolding regionsFrom
@@ -62,24 +62,28 @@ regions-turn m n w₀ w d x goal k lt =
     let w₃ : List ℕ = set w₂ (8 * m + 4 * n + x) 1 in
     let w₄ : List ℕ = set w₃ (8 * m + 6 * n + x) 1000 in
     let w₅ : List ℕ = set w₄ (8 * m + 2 * n + x) 0 in
+    let w₆ : List ℕ = set w₅ (8 * m + 7 * n + x) 0 in
     let l₀ : tableWords m n ≤ length w = k .room .words in
     let l₁ : length w₁ ≡ length w = length-set w (8 * m + n + x) x in
     let l₂ : length w₂ ≡ length w₁ = length-set w₁ (8 * m + 5 * n + x) 1 in
     let l₃ : length w₃ ≡ length w₂ = length-set w₂ (8 * m + 4 * n + x) 1 in
     let l₄ : length w₄ ≡ length w₃ = length-set w₃ (8 * m + 6 * n + x) 1000 in
     let l₅ : length w₅ ≡ length w₄ = length-set w₄ (8 * m + 2 * n + x) 0 in
+    let l₆ : length w₆ ≡ length w₅ = length-set w₅ (8 * m + 7 * n + x) 0 in
     record {
-      room = room-of m n w w₅ d d (k .room) (l₅ ∙ l₄ ∙ l₃ ∙ l₂ ∙ l₁) refl
-          (tree-set m w₄ (8 * m + 2 * n + x) 0 (omega arith) (tree-set m w₃ (8 * m + 6 * n + x) 1000 (omega arith) (tree-set m w₂ (8 * m + 4 * n + x) 1 (omega arith) (tree-set m w₁ (8 * m + 5 * n + x) 1 (omega arith) (tree-set m w (8 * m + n + x) x (omega arith) (k .room .tree))))));
+      room = room-of m n w w₆ d d (k .room) (l₆ ∙ l₅ ∙ l₄ ∙ l₃ ∙ l₂ ∙ l₁) refl
+          (tree-set m w₅ (8 * m + 7 * n + x) 0 (omega arith)
+          (tree-set m w₄ (8 * m + 2 * n + x) 0 (omega arith) (tree-set m w₃ (8 * m + 6 * n + x) 1000 (omega arith) (tree-set m w₂ (8 * m + 4 * n + x) 1 (omega arith) (tree-set m w₁ (8 * m + 5 * n + x) 1 (omega arith) (tree-set m w (8 * m + n + x) x (omega arith) (k .room .tree)))))));
       most = omega arith;
       left = ap (λ (s : Tables). regionsFrom (n - (x + 1)) s (x + 1))
-          (write stamp m n w₄ d x 0 lt (omega arith)
+          (write mark m n w₅ d x 0 lt (omega arith)
+          ∙ ap (λ (s : Tables). store mark s x 0) (write stamp m n w₄ d x 0 lt (omega arith)
           ∙ ap (λ (s : Tables). store stamp s x 0) (write count m n w₃ d x 1000 lt (omega arith)
           ∙ ap (λ (s : Tables). store count s x 1000) (write elen m n w₂ d x 1 lt (omega arith)
           ∙ ap (λ (s : Tables). store elen s x 1) (write rlen m n w₁ d x 1 lt (omega arith)
-          ∙ ap (λ (s : Tables). store rlen s x 1) (write rnext m n w d x x lt l₀)))))
+          ∙ ap (λ (s : Tables). store rlen s x 1) (write rnext m n w d x x lt l₀))))))
           ∙ ap (λ (y : ℕ). regionsFrom y (view m n w d) x) (sym z) ∙ k .left;
-      same-w = l₅ ∙ l₄ ∙ l₃ ∙ l₂ ∙ l₁ ∙ k .same-w;
+      same-w = l₆ ∙ l₅ ∙ l₄ ∙ l₃ ∙ l₂ ∙ l₁ ∙ k .same-w;
     }
 
 pub regions-end : (m n : ℕ) (w₀ w : List ℕ) (d : List Float) (x : ℕ) (goal : Tables) → Going m n regionsFrom w₀ w d n x goal → n ≤ x → LeavesTables m n w d goal

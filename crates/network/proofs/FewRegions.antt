@@ -1,8 +1,8 @@
--- Below two regions, or without pairs, there is no edge: no merges, and every count 0. Assumes nothing.
+-- Below two regions, or without pairs, there is no edge: no merges, every count 0, and no mark. Assumes nothing.
 use Prim.Native.Nat.{ℕ, zero, suc, _<_}
 use native.Mathlib.Omega.{arith}
 use mathlib.Core.Path.{_≡_, refl, sym, ap, _∙_}
-use mathlib.Core.Bool.{Bool, true, false, cond}
+use mathlib.Core.Bool.{Bool, true, false, not, _&&_, cond}
 use mathlib.Core.List.{List, [], _∷_, _++_, map}
 use lib.Dec.{eqb}
 use lib.IntN.{pos}
@@ -12,7 +12,7 @@ use Rattle.lists.specs.Seq.{upto, keep, each, all, All}
 use Rattle.edges.specs.Edges.{Pair, pairs, gathered, firstIs, secondIs, recordsOf, records, greaterFirst, used}
 use Rattle.edges.specs.declared.edges.Shape.{Shape}
 use Rattle.edges.specs.declared.edges.EdgeRecord.{EdgeRecord}
-use Rattle.network.specs.Network.{start, numbered, alone, merges, run, replay, trace, countOf, sizeIn, networkBy, mergesInRange}
+use Rattle.network.specs.Network.{start, numbered, alone, merges, run, replay, trace, countOf, marked, markOf, sizeIn, networkBy, mergesInRange}
 use Rattle.edges.proofs.RecordLaws.{gathered-all, records-nil}
 
 -- one region's records join it to itself
@@ -74,6 +74,15 @@ count-alone k (n ∷ ns) a = go (eqb a k) (count-alone (suc k) ns a)
     go false ih = ih
 
 -- a network without edges
+-- where nothing merges no region is marked
+pub no-mark : (a : ℕ) → markOf [] a ≡ 0
+unfolding markOf marked
+no-mark a = go (not (eqb a 0))
+  where
+    go : (b : Bool) → _≡_ {A = ℕ} (cond (b && false) 1 0) 0
+    go true = refl
+    go false = refl
+
 module _ (twoNyquist : Float) (s : Shape) (k : ℕ) (L : List ℕ) (vel : List Float) (h : used k (pairs s L vel) ≡ []) where
   pub no-merges : merges (networkBy twoNyquist s k L vel) ≡ []
   unfolding networkBy merges start numbered
@@ -88,3 +97,6 @@ module _ (twoNyquist : Float) (s : Shape) (k : ℕ) (L : List ℕ) (vel : List F
     where
       still : (a : ℕ) → countOf (replay (networkBy twoNyquist s k L vel) [] .regions) a ≡ pos 0
       still a = unfold replay networkBy start in count-alone 1 (map (sizeIn L) (upto k 1)) a
+
+  pub no-marks : (a : ℕ) → markOf (trace (networkBy twoNyquist s k L vel) (merges (networkBy twoNyquist s k L vel))) a ≡ 0
+  no-marks a = rw no-merges (unfold trace in no-mark a)

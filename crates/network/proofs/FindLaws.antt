@@ -12,10 +12,10 @@ use Rattle.lists.specs.Inside.Seg.{seg, put}
 use Rattle.lists.specs.Seq.{tabulate}
 use Rattle.arithmetic.specs.declared.intervals.Plan.{Plan}
 use Rattle.lists.proofs.SeqLaws.{tab-length}
-use Rattle.lists.proofs.SegLaws.{getD-seg, getD-put-in, seg-put-below, seg-put-same, length-put}
+use Rattle.lists.proofs.SegLaws.{getD-seg, getD-put-in, getD-put-below, seg-put-below, seg-put-same, length-put}
 use Rattle.labels.specs.Label.{Found}
 use Rattle.labels.proofs.RegionLaws.{label-at-most, number-at-most}
-use Rattle.memory.specs.Inside.Layout.{sizesAt, countsAt}
+use Rattle.memory.specs.Inside.Layout.{sizesAt, countsAt, marksAt}
 use Rattle.merge.specs.Inside.Steps.{unbias}
 use Rattle.edges.specs.Edges.{pairs, used}
 use Rattle.edges.specs.declared.edges.Shape.{Shape}
@@ -27,7 +27,7 @@ use Rattle.network.specs.declared.options.Options.{Options}
 use Rattle.network.specs.declared.network.Ran.{Ran}
 use Rattle.network.specs.declared.find.Finding.{Finding}
 use Rattle.network.specs.declared.find.Finding.the-variants.{Regions}
-use Rattle.network.proofs.FewRegions.{used-few, no-merges, no-refusal, no-counts}
+use Rattle.network.proofs.FewRegions.{used-few, no-merges, no-refusal, no-counts, no-marks}
 
 -- the same value at each place of a part
 replicate-at : (k x i : ℕ) → i < k → getD (replicate k x) i 0 ≡ x
@@ -74,15 +74,25 @@ module _ (o : Options) (p : Plan) (vel : List Float) (mask w : List ℕ) (d : Li
   pub few-ask : k < 2 → Few v n k
   few-ask h = record { few = h; room = omega (arith, same, q .words); small = q .limited .small; label = label-few }
 
-  module _ (h : k < 2) (u : List ℕ) (e : u ≡ put (put v n (tabulate (k + 1) (sizeIn (seg v 0 n)))) (n + (k + 1)) (replicate (k + 1) 1000)) where
+  module _ (h : k < 2) (u : List ℕ)
+      (e : u ≡ put (put (put v n (tabulate (k + 1) (sizeIn (seg v 0 n)))) (n + (k + 1)) (replicate (k + 1) 1000)) (n + (k + 1) + (k + 1)) (replicate (k + 1) 0)) where
+    abbrev sized : List ℕ
+    sized = put v n (tabulate (k + 1) (sizeIn (seg v 0 n)))
+
+    abbrev counted : List ℕ
+    counted = put sized (n + (k + 1)) (replicate (k + 1) 1000)
+
     ls : length (tabulate (k + 1) (sizeIn (seg v 0 n))) ≡ k + 1
     ls = tab-length (sizeIn (seg v 0 n)) (k + 1)
 
-    lv : length (put v n (tabulate (k + 1) (sizeIn (seg v 0 n)))) ≡ length w
+    lv : length sized ≡ length w
     lv = length-put v n (tabulate (k + 1) (sizeIn (seg v 0 n))) ∙ same
 
-    lr : length {A = ℕ} (replicate (k + 1) 1000) ≡ k + 1
-    lr = length-replicate (k + 1) 1000
+    lc : length counted ≡ length w
+    lc = length-put sized (n + (k + 1)) (replicate (k + 1) 1000) ∙ lv
+
+    lr : (x : ℕ) → length {A = ℕ} (replicate (k + 1) x) ≡ k + 1
+    lr x = length-replicate (k + 1) x
 
     no-edges : used k (pairs (shapeOf o) (seg v 0 n) vel) ≡ []
     no-edges = used-few k (pairs (shapeOf o) (seg v 0 n) vel) h
@@ -91,22 +101,34 @@ module _ (o : Options) (p : Plan) (vel : List Float) (mask w : List ℕ) (d : Li
     unfolding countsAt
     count-at l g =
         ap (λ (x : List ℕ). getD x (n + (k + 1) + l) 0) e
-        ∙ getD-put-in (put v n (tabulate (k + 1) (sizeIn (seg v 0 n)))) (n + (k + 1)) (replicate (k + 1) 1000) l 0 (omega (arith, lr)) (omega (arith, lv, q .words))
+        ∙ getD-put-below counted (n + (k + 1) + (k + 1)) (replicate (k + 1) 0) (n + (k + 1) + l) 0 (omega arith)
+        ∙ getD-put-in sized (n + (k + 1)) (replicate (k + 1) 1000) l 0 (omega (arith, lr 1000)) (omega (arith, lv, q .words))
         ∙ replicate-at (k + 1) 1000 l (omega arith)
+
+    mark-at : (l : ℕ) → l ≤ k → getD u (marksAt n k + l) 0 ≡ 0
+    unfolding marksAt
+    mark-at l g =
+        ap (λ (x : List ℕ). getD x (n + (k + 1) + (k + 1) + l) 0) e
+        ∙ getD-put-in counted (n + (k + 1) + (k + 1)) (replicate (k + 1) 0) l 0 (omega (arith, lr 0)) (omega (arith, lc, q .words))
+        ∙ replicate-at (k + 1) 0 l (omega arith)
 
     no-turn : unbias 1000 ≡ pos 0
     unfolding unbias
     no-turn = refl
 
-    low : (a b : ℕ) → a + b ≤ n + (k + 1) → seg u a b ≡ seg (put v n (tabulate (k + 1) (sizeIn (seg v 0 n)))) a b
-    low a b g = ap (λ (x : List ℕ). seg x a b) e ∙ seg-put-below (put v n (tabulate (k + 1) (sizeIn (seg v 0 n)))) (n + (k + 1)) (replicate (k + 1) 1000) a b g
+    low : (a b : ℕ) → a + b ≤ n + (k + 1) → seg u a b ≡ seg sized a b
+    low a b g =
+        ap (λ (x : List ℕ). seg x a b) e
+        ∙ seg-put-below counted (n + (k + 1) + (k + 1)) (replicate (k + 1) 0) a b (omega arith)
+        ∙ seg-put-below sized (n + (k + 1)) (replicate (k + 1) 1000) a b g
 
     tables : TablesLeft (networkBy (twoNyquist (o .nyquist)) (shapeOf o) k (seg v 0 n) vel) n k (seg v 0 n) u
     tables = record {
       counts = λ g l a. ap unbias (count-at l a) ∙ no-turn ∙ sym (no-counts (twoNyquist (o .nyquist)) (shapeOf o) k (seg v 0 n) vel no-edges l);
       most = λ g l a. omega (arith, count-at l a);
+      marks = λ g l a. mark-at l a ∙ sym (no-marks (twoNyquist (o .nyquist)) (shapeOf o) k (seg v 0 n) vel no-edges l);
       sizes = unfold sizesAt in low n (k + 1) (omega arith)
-          ∙ ap (seg (put v n (tabulate (k + 1) (sizeIn (seg v 0 n)))) n) (sym ls)
+          ∙ ap (seg sized n) (sym ls)
           ∙ seg-put-same v n (tabulate (k + 1) (sizeIn (seg v 0 n))) (omega (arith, ls, same, q .words));
       labels = low 0 n (omega arith) ∙ seg-put-below v n (tabulate (k + 1) (sizeIn (seg v 0 n))) 0 n (omega arith);
     }

@@ -24,8 +24,10 @@ pub mod Sums
 pub mod StepEdges
 pub mod After
 pub mod StepRep
+pub mod Marks
 pub mod NumberIs
 pub mod Turns
+pub mod Runs
 pub mod Settles
 pub mod Joint
 pub mod Started

@@ -1,28 +1,28 @@
--- From labels to counts, call by call, over plain values. Assumes nothing.
-use Prim.Native.Nat.{ℕ, _+_, _*_, _-_, _≤_}
+-- From labels to counts and marks, call by call, over plain values. Assumes nothing.
+use Prim.Native.Nat.{ℕ, _+_, _*_, _≤_}
 use native.Mathlib.Omega.{arith}
 use mathlib.Core.Path.{_≡_, refl, sym, ap, _∙_}
 use mathlib.Core.Logic.{⊎-elim}
 use mathlib.Core.Bool.{true}
 use mathlib.Core.List.{List}
 use lib.IntN.{pos}
-use lib.ListN.{length, getD, set}
+use lib.ListN.{length, getD, set, length-set}
 use lib.Seq.{getD-set-same, getD-set-other}
 use lib.Ieee.{Float}
 use borrow.Rule.Slice.PartMut.{putMid}
 use Rattle.lists.specs.Seq.{tabulate}
 use Rattle.lists.proofs.SeqLaws.{tab-length}
 use Rattle.lists.specs.Inside.Seg.{seg, put, Disjoint}
-use Rattle.lists.proofs.SegLaws.{eq-or-ne, length-put, length-seg, getD-seg, getD-put-in, seg-put-below, seg-put-above, seg-put-same, seg-set-out, seg-part, put-mid, lent-seg}
+use Rattle.lists.proofs.SegLaws.{eq-or-ne, length-put, length-seg, getD-seg, getD-put-in, getD-put-below, seg-put-below, seg-put-above, seg-put-same, seg-set-out, seg-part, put-mid, lent-seg}
 use Rattle.edges.specs.Edges.{Pair, pairs, used}
-use Rattle.network.specs.Network.{sizeIn, merges, replay, countOf, networkBy, mergesInRange}
+use Rattle.network.specs.Network.{sizeIn, merges, replay, trace, countOf, markOf, networkBy, mergesInRange}
 use Rattle.edges.specs.Inside.Whole.{Edged}
 use Rattle.network.specs.Inside.Sizes.{Sizes}
 use Rattle.merge.specs.Inside.Tables.{view}
-use Rattle.merge.specs.Inside.Table.{count}
+use Rattle.merge.specs.Inside.Table.{count, mark}
 use Rattle.merge.specs.Inside.Steps.{unbias}
 use Rattle.network.specs.Inside.Begin.{Space, Raw, AllIs}
-use Rattle.memory.specs.Inside.Layout.{sizesAt, countsAt}
+use Rattle.memory.specs.Inside.Layout.{sizesAt, countsAt, marksAt}
 use Rattle.network.specs.Inside.Reduce.{Reduces, Reduced}
 use Rattle.edges.specs.declared.edges.Shape.{Shape}
 use Rattle.network.specs.declared.network.Ran.{Ran}
@@ -59,9 +59,6 @@ module _ (f : Shape) (u : List ℕ) (d vel : List Float) (n k : ℕ) (twoNyquist
       sizes-2 : seg v2 n (k + 1) ≡ tabulate (k + 1) (sizeIn (seg u 0 n))
       sizes-2 = ap (λ (x : List ℕ). seg x n (k + 1)) e2′ ∙ ap (seg (put v1 n (tabulate (k + 1) (sizeIn (seg u 0 n)))) n) (sym ls) ∙ seg-put-same v1 n (tabulate (k + 1) (sizeIn (seg u 0 n))) (omega (arith, ls, l1, q .words, q .few))
 
-      pub copy-ask : (n + (k + 1) ≤ length v2) × (13 * n + 8 * e + 3 * (k + 1) + (k + 1) ≤ length v2) × Disjoint n (k + 1) (13 * n + 8 * e + 3 * (k + 1)) (k + 1)
-      copy-ask = (omega (arith, l2, q .words, q .few), omega (arith, l2, q .words, q .few, E .few), λ j a b c g. omega (arith, q .few, q .some))
-
       module _ (v3 : List ℕ) (e3 : v3 ≡ put v2 (13 * n + 8 * e + 3 * (k + 1)) (seg v2 n (k + 1))) where
         e3′ : v3 ≡ put v2 (13 * n + 8 * e + 3 * (k + 1)) (tabulate (k + 1) (sizeIn (seg u 0 n)))
         e3′ = e3 ∙ ap (put v2 (13 * n + 8 * e + 3 * (k + 1))) sizes-2
@@ -75,7 +72,7 @@ module _ (f : Shape) (u : List ℕ) (d vel : List Float) (n k : ℕ) (twoNyquist
             ap (λ (x : List ℕ). seg x a b) e3′ ∙ seg-put-below v2 (13 * n + 8 * e + 3 * (k + 1)) (tabulate (k + 1) (sizeIn (seg u 0 n))) a b (omega arith)
             ∙ ap (λ (x : List ℕ). seg x a b) e2′ ∙ seg-put-above v1 n (tabulate (k + 1) (sizeIn (seg u 0 n))) a b (omega (arith, ls, q .few, q .some))
 
-        module _ (c : ℕ) (ec : c ≡ 8 * e + 7 * (k + 1)) where
+        module _ (c : ℕ) (ec : c ≡ 8 * e + 8 * (k + 1)) where
           abbrev part : List ℕ
           part = seg v3 (13 * n) c
 
@@ -120,86 +117,129 @@ module _ (f : Shape) (u : List ℕ) (d vel : List Float) (n k : ℕ) (twoNyquist
             l4 : length v4 ≡ length u
             l4 = ap length e4′ ∙ length-put v3 (13 * n) y ∙ l3
 
-            pub copy2-ask : (13 * n + 8 * e + 6 * (k + 1) + (k + 1) ≤ length v4) × (n + (k + 1) + (k + 1) ≤ length v4) × Disjoint (13 * n + 8 * e + 6 * (k + 1)) (k + 1) (n + (k + 1)) (k + 1)
-            copy2-ask = (omega (arith, l4, q .words, q .few, E .few), omega (arith, l4, q .words, q .few), λ j a b g h. omega (arith, q .few, q .some))
+            -- a table of the nodes, as merging left it
+            left-4 : (t : ℕ) → t ≤ 7 * (k + 1) → seg v4 (13 * n + 8 * e + t) (k + 1) ≡ seg y (8 * e + t) (k + 1)
+            left-4 t h =
+                ap (λ (a : ℕ). seg v4 a (k + 1)) {x = 13 * n + 8 * e + t} {y = 13 * n + (8 * e + t)} (omega arith)
+                ∙ sym (seg-part v4 (13 * n) c (8 * e + t) (k + 1) (omega arith) (omega (arith, l4, q .words, q .few, E .few)))
+                ∙ ap (λ (x : List ℕ). seg x (8 * e + t) (k + 1)) (ap (λ (x : List ℕ). seg x (13 * n) c) e4 ∙ lent-seg v3 (13 * n) c y lc room)
 
-            -- the counts that merging left
-            counts-4 : seg v4 (13 * n + 8 * e + 6 * (k + 1)) (k + 1) ≡ seg y (8 * e + 6 * (k + 1)) (k + 1)
-            counts-4 =
-                ap (λ (a : ℕ). seg v4 a (k + 1)) {x = 13 * n + 8 * e + 6 * (k + 1)} {y = 13 * n + (8 * e + 6 * (k + 1))} (omega arith)
-                ∙ sym (seg-part v4 (13 * n) c (8 * e + 6 * (k + 1)) (k + 1) (omega arith) (omega (arith, l4, q .words, q .few, E .few)))
-                ∙ ap (λ (x : List ℕ). seg x (8 * e + 6 * (k + 1)) (k + 1)) (ap (λ (x : List ℕ). seg x (13 * n) c) e4 ∙ lent-seg v3 (13 * n) c y lc room)
-
-            module _ (v5 v6 : List ℕ) (e5 : v5 ≡ put v4 (n + (k + 1)) (seg v4 (13 * n + 8 * e + 6 * (k + 1)) (k + 1))) (e6 : v6 ≡ set v5 (n + (k + 1)) 1000) where
-              C : List ℕ
-              C = seg v4 (13 * n + 8 * e + 6 * (k + 1)) (k + 1)
-
+            module _ (v5 : List ℕ) (e5 : v5 ≡ put v4 (n + (k + 1)) (seg v4 (13 * n + 8 * e + 6 * (k + 1)) (k + 1))) where
               lC : length (seg v4 (13 * n + 8 * e + 6 * (k + 1)) (k + 1)) ≡ k + 1
-              lC = length-seg v4 (13 * n + 8 * e + 6 * (k + 1)) (k + 1) (copy2-ask .0)
+              lC = length-seg v4 (13 * n + 8 * e + 6 * (k + 1)) (k + 1) (omega (arith, l4, q .words, q .few, E .few))
 
-              pub l5 : length v5 ≡ length u
+              l5 : length v5 ≡ length u
               l5 = ap length e5 ∙ length-put v4 (n + (k + 1)) (seg v4 (13 * n + 8 * e + 6 * (k + 1)) (k + 1)) ∙ l4
 
-              -- what lies below the counts is as it was
-              low : (a b : ℕ) → a + b ≤ n + (k + 1) → seg v6 a b ≡ seg v3 a b
-              low a b h =
-                  ap (λ (x : List ℕ). seg x a b) e6 ∙ seg-set-out v5 (n + (k + 1)) 1000 a b (λ p g. omega arith)
-                  ∙ ap (λ (x : List ℕ). seg x a b) e5 ∙ seg-put-below v4 (n + (k + 1)) (seg v4 (13 * n + 8 * e + 6 * (k + 1)) (k + 1)) a b h
-                  ∙ ap (λ (x : List ℕ). seg x a b) e4′ ∙ seg-put-below v3 (13 * n) y a b (omega (arith, q .few, q .some))
+              pub marks-ask : (13 * n + 8 * e + 7 * (k + 1) + (k + 1) ≤ length v5) × (n + (k + 1) + (k + 1) + (k + 1) ≤ length v5) × Disjoint (13 * n + 8 * e + 7 * (k + 1)) (k + 1) (n + (k + 1) + (k + 1)) (k + 1)
+              marks-ask = (omega (arith, l5, q .words, q .few, E .few), omega (arith, l5, q .words, q .few), λ j a b g h. omega (arith, q .few, q .some))
 
-              -- the count of label l
-              count-of : (l : ℕ) → 1 ≤ l → l ≤ k → getD v6 (n + (k + 1) + l) 0 ≡ getD (view e (k + 1) y d2 .at count) l 0
-              unfolding view
-              count-of l a b =
-                  ap (λ (x : List ℕ). getD x (n + (k + 1) + l) 0) e6 ∙ getD-set-other v5 (n + (k + 1)) (n + (k + 1) + l) 1000 0 (λ p. omega arith)
-                  ∙ ap (λ (x : List ℕ). getD x (n + (k + 1) + l) 0) e5
-                  ∙ getD-put-in v4 (n + (k + 1)) (seg v4 (13 * n + 8 * e + 6 * (k + 1)) (k + 1)) l 0 (omega (arith, lC)) (omega (arith, copy2-ask .1))
-                  ∙ ap (λ (x : List ℕ). getD x l 0) counts-4
+              module _ (v6 : List ℕ) (e6 : v6 ≡ put v5 (n + (k + 1) + (k + 1)) (seg v5 (13 * n + 8 * e + 7 * (k + 1)) (k + 1))) where
+                lM : length (seg v5 (13 * n + 8 * e + 7 * (k + 1)) (k + 1)) ≡ k + 1
+                lM = length-seg v5 (13 * n + 8 * e + 7 * (k + 1)) (k + 1) (marks-ask .0)
 
-              count-0 : getD v6 (n + (k + 1) + 0) 0 ≡ 1000
-              count-0 =
-                  ap (λ (i : ℕ). getD v6 i 0) {x = n + (k + 1) + 0} {y = n + (k + 1)} (omega arith)
-                  ∙ ap (λ (x : List ℕ). getD x (n + (k + 1)) 0) e6 ∙ getD-set-same v5 (n + (k + 1)) 1000 0 (omega (arith, l5, q .words, q .few))
+                pub l6 : length v6 ≡ length u
+                l6 = ap length e6 ∙ length-put v5 (n + (k + 1) + (k + 1)) (seg v5 (13 * n + 8 * e + 7 * (k + 1)) (k + 1)) ∙ l5
 
-              net : networkBy twoNyquist f k (seg u 0 n) vel ≡ network twoNyquist k e (seg u 0 n) ps (view e (k + 1) (seg v3 (13 * n) c) d1) filled
-              net = unfold networkBy network in refl
+                module _ (v7 v8 : List ℕ) (e7 : v7 ≡ set v6 (n + (k + 1)) 1000) (e8 : v8 ≡ set v7 (n + (k + 1) + (k + 1)) 0) where
+                  -- what lies below the counts is as it was
+                  low : (a b : ℕ) → a + b ≤ n + (k + 1) → seg v8 a b ≡ seg v3 a b
+                  low a b h =
+                      ap (λ (x : List ℕ). seg x a b) e8 ∙ seg-set-out v7 (n + (k + 1) + (k + 1)) 0 a b (λ p g. omega arith)
+                      ∙ ap (λ (x : List ℕ). seg x a b) e7 ∙ seg-set-out v6 (n + (k + 1)) 1000 a b (λ p g. omega arith)
+                      ∙ ap (λ (x : List ℕ). seg x a b) e6 ∙ seg-put-below v5 (n + (k + 1) + (k + 1)) (seg v5 (13 * n + 8 * e + 7 * (k + 1)) (k + 1)) a b (omega arith)
+                      ∙ ap (λ (x : List ℕ). seg x a b) e5 ∙ seg-put-below v4 (n + (k + 1)) (seg v4 (13 * n + 8 * e + 6 * (k + 1)) (k + 1)) a b h
+                      ∙ ap (λ (x : List ℕ). seg x a b) e4′ ∙ seg-put-below v3 (13 * n) y a b (omega (arith, q .few, q .some))
 
-              pub reduced : Reduced (networkBy twoNyquist f k (seg u 0 n) vel) n k u v6 r
-              reduced = rw net (record {
-                answer = answer twoNyquist k e (seg u 0 n) ps (view e (k + 1) (seg v3 (13 * n) c) d1) filled y d2 r A;
-                tables = record {
-                  counts = λ g l h. ⊎-elim
-                      (λ z. ap (λ (i : ℕ). unbias (getD v6 (countsAt n k + i) 0)) z ∙ ap unbias count-0′ ∙ zero-count ∙ ap (countOf _) (sym z))
-                      (λ z. ap unbias (count-of′ l (omega arith) h) ∙ leaves g .counts l (omega arith) h)
-                      (eq-or-ne l 0);
-                  most = λ g l h. ⊎-elim
-                      (λ z. omega (arith, ap (λ (i : ℕ). getD v6 (countsAt n k + i) 0) z, count-0′))
-                      (λ z. omega (arith, count-of′ l (omega arith) h, leaves g .most l h))
-                      (eq-or-ne l 0);
-                  sizes = unfold sizesAt in low n (k + 1) (omega arith) ∙ sizes-3;
-                  labels = low 0 n (omega arith) ∙ labels-3;
-                };
-              })
-                where
-                  leaves : mergesInRange (network twoNyquist k e (seg u 0 n) ps (view e (k + 1) (seg v3 (13 * n) c) d1) filled) ≡ true → Left twoNyquist k e (seg u 0 n) ps (view e (k + 1) (seg v3 (13 * n) c) d1) filled y d2
-                  leaves g = unfold mergesInRange in left twoNyquist k e (seg u 0 n) ps (view e (k + 1) (seg v3 (13 * n) c) d1) filled y d2 r A g
+                  -- the words that are not label 0's are as they were copied
+                  copied : (i : ℕ) → (i ≡ n + (k + 1) → ⊥) → (i ≡ n + (k + 1) + (k + 1) → ⊥) → getD v8 i 0 ≡ getD v6 i 0
+                  copied i a b =
+                      ap (λ (x : List ℕ). getD x i 0) e8 ∙ getD-set-other v7 (n + (k + 1) + (k + 1)) i 0 0 b
+                      ∙ ap (λ (x : List ℕ). getD x i 0) e7 ∙ getD-set-other v6 (n + (k + 1)) i 1000 0 a
 
-                  no-turn : unbias 1000 ≡ pos 0
-                  no-turn = unfold unbias in refl
+                  -- the count and the mark of label l
+                  count-of : (l : ℕ) → 1 ≤ l → l ≤ k → getD v8 (n + (k + 1) + l) 0 ≡ getD (view e (k + 1) y d2 .at count) l 0
+                  unfolding view
+                  count-of l a b =
+                      copied (n + (k + 1) + l) (λ p. omega arith) (λ p. omega arith)
+                      ∙ ap (λ (x : List ℕ). getD x (n + (k + 1) + l) 0) e6 ∙ getD-put-below v5 (n + (k + 1) + (k + 1)) (seg v5 (13 * n + 8 * e + 7 * (k + 1)) (k + 1)) (n + (k + 1) + l) 0 (omega arith)
+                      ∙ ap (λ (x : List ℕ). getD x (n + (k + 1) + l) 0) e5
+                      ∙ getD-put-in v4 (n + (k + 1)) (seg v4 (13 * n + 8 * e + 6 * (k + 1)) (k + 1)) l 0 (omega (arith, lC)) (omega (arith, l4, q .words, q .few))
+                      ∙ ap (λ (x : List ℕ). getD x l 0) (left-4 (6 * (k + 1)) (omega arith))
 
-                  zero-count : unbias 1000 ≡ countOf (replay (network twoNyquist k e (seg u 0 n) ps (view e (k + 1) (seg v3 (13 * n) c) d1) filled) (merges (network twoNyquist k e (seg u 0 n) ps (view e (k + 1) (seg v3 (13 * n) c) d1) filled)) .regions) 0
-                  zero-count = no-turn ∙ sym (no-region-0 twoNyquist k e (seg u 0 n) ps (view e (k + 1) (seg v3 (13 * n) c) d1) filled)
+                  mark-of : (l : ℕ) → 1 ≤ l → l ≤ k → getD v8 (n + (k + 1) + (k + 1) + l) 0 ≡ getD (view e (k + 1) y d2 .at mark) l 0
+                  unfolding view
+                  mark-of l a b =
+                      copied (n + (k + 1) + (k + 1) + l) (λ p. omega arith) (λ p. omega arith)
+                      ∙ ap (λ (x : List ℕ). getD x (n + (k + 1) + (k + 1) + l) 0) e6
+                      ∙ getD-put-in v5 (n + (k + 1) + (k + 1)) (seg v5 (13 * n + 8 * e + 7 * (k + 1)) (k + 1)) l 0 (omega (arith, lM)) (omega (arith, l5, q .words, q .few))
+                      ∙ ap (λ (x : List ℕ). getD x l 0) (ap (λ (x : List ℕ). seg x (13 * n + 8 * e + 7 * (k + 1)) (k + 1)) e5
+                      ∙ seg-put-above v4 (n + (k + 1)) (seg v4 (13 * n + 8 * e + 6 * (k + 1)) (k + 1)) (13 * n + 8 * e + 7 * (k + 1)) (k + 1) (omega (arith, lC, q .few, q .some)) ∙ left-4 (7 * (k + 1)) (omega arith))
 
-                  count-0′ : getD v6 (countsAt n k + 0) 0 ≡ 1000
-                  count-0′ = unfold countsAt in count-0
+                  count-0 : getD v8 (n + (k + 1) + 0) 0 ≡ 1000
+                  count-0 =
+                      ap (λ (i : ℕ). getD v8 i 0) {x = n + (k + 1) + 0} {y = n + (k + 1)} (omega arith)
+                      ∙ ap (λ (x : List ℕ). getD x (n + (k + 1)) 0) e8 ∙ getD-set-other v7 (n + (k + 1) + (k + 1)) (n + (k + 1)) 0 0 (λ p. omega arith)
+                      ∙ ap (λ (x : List ℕ). getD x (n + (k + 1)) 0) e7 ∙ getD-set-same v6 (n + (k + 1)) 1000 0 (omega (arith, l6, q .words, q .few))
 
-                  count-of′ : (l : ℕ) → 1 ≤ l → l ≤ k → getD v6 (countsAt n k + l) 0 ≡ getD (view e (k + 1) y d2 .at count) l 0
-                  count-of′ l a b = unfold countsAt in count-of l a b
+                  mark-0 : getD v8 (n + (k + 1) + (k + 1) + 0) 0 ≡ 0
+                  mark-0 =
+                      ap (λ (i : ℕ). getD v8 i 0) {x = n + (k + 1) + (k + 1) + 0} {y = n + (k + 1) + (k + 1)} (omega arith)
+                      ∙ ap (λ (x : List ℕ). getD x (n + (k + 1) + (k + 1)) 0) e8
+                      ∙ getD-set-same v7 (n + (k + 1) + (k + 1)) 0 0 (omega (arith, ap length e7, length-set v6 (n + (k + 1)) 1000, l6, q .words, q .few))
 
-                  sizes-3 : seg v3 n (k + 1) ≡ tabulate (k + 1) (sizeIn (seg u 0 n))
-                  sizes-3 = ap (λ (x : List ℕ). seg x n (k + 1)) e3′ ∙ seg-put-below v2 (13 * n + 8 * e + 3 * (k + 1)) (tabulate (k + 1) (sizeIn (seg u 0 n))) n (k + 1) (omega (arith, q .few, q .some)) ∙ sizes-2
+                  net : networkBy twoNyquist f k (seg u 0 n) vel ≡ network twoNyquist k e (seg u 0 n) ps (view e (k + 1) (seg v3 (13 * n) c) d1) filled
+                  net = unfold networkBy network in refl
 
-                  labels-3 : seg v3 0 n ≡ seg u 0 n
-                  labels-3 =
-                      ap (λ (x : List ℕ). seg x 0 n) e3′ ∙ seg-put-below v2 (13 * n + 8 * e + 3 * (k + 1)) (tabulate (k + 1) (sizeIn (seg u 0 n))) 0 n (omega arith)
-                      ∙ ap (λ (x : List ℕ). seg x 0 n) e2′ ∙ seg-put-below v1 n (tabulate (k + 1) (sizeIn (seg u 0 n))) 0 n (omega arith) ∙ E .labels
+                  pub reduced : Reduced (networkBy twoNyquist f k (seg u 0 n) vel) n k u v8 r
+                  reduced = rw net (record {
+                    answer = answer twoNyquist k e (seg u 0 n) ps (view e (k + 1) (seg v3 (13 * n) c) d1) filled y d2 r A;
+                    tables = record {
+                      counts = λ g l h. ⊎-elim
+                          (λ z. ap (λ (i : ℕ). unbias (getD v8 (countsAt n k + i) 0)) z ∙ ap unbias count-0′ ∙ zero-count ∙ ap (countOf _) (sym z))
+                          (λ z. ap unbias (count-of′ l (omega arith) h) ∙ leaves g .counts l (omega arith) h)
+                          (eq-or-ne l 0);
+                      most = λ g l h. ⊎-elim
+                          (λ z. omega (arith, ap (λ (i : ℕ). getD v8 (countsAt n k + i) 0) z, count-0′))
+                          (λ z. omega (arith, count-of′ l (omega arith) h, leaves g .most l h))
+                          (eq-or-ne l 0);
+                      marks = λ g l h. ⊎-elim
+                          (λ z. ap (λ (i : ℕ). getD v8 (marksAt n k + i) 0) z ∙ mark-0′ ∙ sym zero-mark ∙ ap (markOf _) (sym z))
+                          (λ z. mark-of′ l (omega arith) h ∙ leaves g .marks l (omega arith) h)
+                          (eq-or-ne l 0);
+                      sizes = unfold sizesAt in low n (k + 1) (omega arith) ∙ sizes-3;
+                      labels = low 0 n (omega arith) ∙ labels-3;
+                    };
+                  })
+                    where
+                      leaves : mergesInRange (network twoNyquist k e (seg u 0 n) ps (view e (k + 1) (seg v3 (13 * n) c) d1) filled) ≡ true → Left twoNyquist k e (seg u 0 n) ps (view e (k + 1) (seg v3 (13 * n) c) d1) filled y d2
+                      leaves g = unfold mergesInRange in left twoNyquist k e (seg u 0 n) ps (view e (k + 1) (seg v3 (13 * n) c) d1) filled y d2 r A g
+
+                      no-turn : unbias 1000 ≡ pos 0
+                      no-turn = unfold unbias in refl
+
+                      zero-count : unbias 1000 ≡ countOf (replay (network twoNyquist k e (seg u 0 n) ps (view e (k + 1) (seg v3 (13 * n) c) d1) filled) (merges (network twoNyquist k e (seg u 0 n) ps (view e (k + 1) (seg v3 (13 * n) c) d1) filled)) .regions) 0
+                      zero-count = no-turn ∙ sym (no-region-0 twoNyquist k e (seg u 0 n) ps (view e (k + 1) (seg v3 (13 * n) c) d1) filled)
+
+                      count-0′ : getD v8 (countsAt n k + 0) 0 ≡ 1000
+                      count-0′ = unfold countsAt in count-0
+
+                      count-of′ : (l : ℕ) → 1 ≤ l → l ≤ k → getD v8 (countsAt n k + l) 0 ≡ getD (view e (k + 1) y d2 .at count) l 0
+                      count-of′ l a b = unfold countsAt in count-of l a b
+
+                      zero-mark : markOf (trace (network twoNyquist k e (seg u 0 n) ps (view e (k + 1) (seg v3 (13 * n) c) d1) filled) (merges (network twoNyquist k e (seg u 0 n) ps (view e (k + 1) (seg v3 (13 * n) c) d1) filled))) 0 ≡ 0
+                      zero-mark = unfold markOf in refl
+
+                      mark-0′ : getD v8 (marksAt n k + 0) 0 ≡ 0
+                      mark-0′ = unfold marksAt in mark-0
+
+                      mark-of′ : (l : ℕ) → 1 ≤ l → l ≤ k → getD v8 (marksAt n k + l) 0 ≡ getD (view e (k + 1) y d2 .at mark) l 0
+                      mark-of′ l a b = unfold marksAt in mark-of l a b
+
+                      sizes-3 : seg v3 n (k + 1) ≡ tabulate (k + 1) (sizeIn (seg u 0 n))
+                      sizes-3 = ap (λ (x : List ℕ). seg x n (k + 1)) e3′ ∙ seg-put-below v2 (13 * n + 8 * e + 3 * (k + 1)) (tabulate (k + 1) (sizeIn (seg u 0 n))) n (k + 1) (omega (arith, q .few, q .some)) ∙ sizes-2
+
+                      labels-3 : seg v3 0 n ≡ seg u 0 n
+                      labels-3 =
+                          ap (λ (x : List ℕ). seg x 0 n) e3′ ∙ seg-put-below v2 (13 * n + 8 * e + 3 * (k + 1)) (tabulate (k + 1) (sizeIn (seg u 0 n))) 0 n (omega arith)
+                          ∙ ap (λ (x : List ℕ). seg x 0 n) e2′ ∙ seg-put-below v1 n (tabulate (k + 1) (sizeIn (seg u 0 n))) 0 n (omega arith) ∙ E .labels

@@ -12,7 +12,7 @@ use borrow.Author.Tests.{lt-ltb, le-ltb}
 use Rattle.lists.specs.Seq.{upto}
 use Rattle.lists.proofs.SeqLaws.{upto-length}
 use Rattle.merge.specs.Inside.Tables.{Tables, store}
-use Rattle.merge.specs.Inside.Table.{Table, first, second, enext, rnext, stamp, elen, rlen, count, is}
+use Rattle.merge.specs.Inside.Table.{Table, first, second, enext, rnext, stamp, elen, rlen, count, mark, is}
 use Rattle.merge.specs.Inside.Chain.{cur, Chains, own-joined, pos-joined, len-joined}
 use Rattle.network.specs.Inside.Begin.{slots, regionsFrom, linkAt, linkEdge, linkFrom}
 use Rattle.merge.proofs.Bias.{lt-or-le}
@@ -25,7 +25,7 @@ use Rattle.network.proofs.Moved.{same-no, same-yes}
 
 -- ---- the tables that are given stay
 abbrev ofNodes : Table → Bool
-ofNodes u = is rnext u || is rlen u || is elen u || is count u || is stamp u
+ofNodes u = is rnext u || is rlen u || is elen u || is count u || is stamp u || is mark u
 
 abbrev pub setUp : Table → Bool
 setUp u = is enext u || ofNodes u
@@ -39,13 +39,13 @@ given-then t u s a b = record { tables = alike-then setUp t u s (a .tables) (b .
 
 -- what leaves the chains of slots alone leaves what is given alone
 pub given-same : (t s : Tables) → Same t s → Given t s
-given-same t s h = record { tables = alike-less ofSlots setUp t s (λ u. go (is enext u) (is rnext u) (is rlen u) (is elen u) (is count u) (is stamp u)) (h .beside); diff = h .diff }
+given-same t s h = record { tables = alike-less ofSlots setUp t s (λ u. go (is enext u) (is rnext u) (is rlen u) (is elen u) (is count u) (is stamp u) (is mark u)) (h .beside); diff = h .diff }
   where
-    go : (a b c d e f : Bool) → (a || d) ≡ true → (a || (b || c || d || e || f)) ≡ true
-    go true b c d e f h = refl
-    go false true c d e f h = refl
-    go false false true d e f h = refl
-    go false false false d e f h = rw h refl
+    go : (a b c d e f g : Bool) → (a || d) ≡ true → (a || (b || c || d || e || f || g)) ≡ true
+    go true b c d e f g h = refl
+    go false true c d e f g h = refl
+    go false false true d e f g h = refl
+    go false false false d e f g h = rw h refl
 
 -- ---- slots
 pub given-slots : (m n : ℕ) (s : Tables) → Given (slots m n s) s
@@ -69,8 +69,8 @@ pub record Regions (s t : Tables) (i k : ℕ) : Type 0 where
   pub tables : Alike ofNodes t s
   pub diff : t .diff ≡ s .diff
   pub long : (u : Table) → length (t .at u) ≡ length (s .at u)
-  pub below : (x : ℕ) → x < i → (getD (t .at rnext) x 0 ≡ getD (s .at rnext) x 0) × (getD (t .at elen) x 0 ≡ getD (s .at elen) x 0) × (getD (t .at rlen) x 0 ≡ getD (s .at rlen) x 0) × (getD (t .at count) x 0 ≡ getD (s .at count) x 0) × (getD (t .at stamp) x 0 ≡ getD (s .at stamp) x 0)
-  pub own : (x : ℕ) → i ≤ x → x < i + k → (getD (t .at rnext) x 0 ≡ x) × (getD (t .at elen) x 0 ≡ 1) × (getD (t .at rlen) x 0 ≡ 1) × (getD (t .at count) x 0 ≡ 1000) × (getD (t .at stamp) x 0 ≡ 0)
+  pub below : (x : ℕ) → x < i → (getD (t .at rnext) x 0 ≡ getD (s .at rnext) x 0) × (getD (t .at elen) x 0 ≡ getD (s .at elen) x 0) × (getD (t .at rlen) x 0 ≡ getD (s .at rlen) x 0) × (getD (t .at count) x 0 ≡ getD (s .at count) x 0) × (getD (t .at stamp) x 0 ≡ getD (s .at stamp) x 0) × (getD (t .at mark) x 0 ≡ getD (s .at mark) x 0)
+  pub own : (x : ℕ) → i ≤ x → x < i + k → (getD (t .at rnext) x 0 ≡ x) × (getD (t .at elen) x 0 ≡ 1) × (getD (t .at rlen) x 0 ≡ 1) × (getD (t .at count) x 0 ≡ 1000) × (getD (t .at stamp) x 0 ≡ 0) × (getD (t .at mark) x 0 ≡ 0)
 
 pub given-regions : (s t : Tables) (i k : ℕ) → Regions s t i k → Given t s
 given-regions s t i k h = record { tables = alike-less ofNodes setUp t s (λ u. go (is enext u) (ofNodes u)) (h .tables); diff = h .diff }
@@ -81,7 +81,7 @@ given-regions s t i k h = record { tables = alike-less ofNodes setUp t s (λ u. 
 
 -- one region set up
 abbrev lone : Tables → ℕ → Tables
-lone s i = store stamp (store count (store elen (store rlen (store rnext s i i) i 1) i 1) i 1000) i 0
+lone s i = store mark (store stamp (store count (store elen (store rlen (store rnext s i i) i 1) i 1) i 1000) i 0) i 0
 
 alike-lone : (s : Tables) (i : ℕ) → Alike ofNodes (lone s i) s
 alike-lone s i =
@@ -89,10 +89,12 @@ alike-lone s i =
     let s₂ : Tables = store rlen s₁ i 1 in
     let s₃ : Tables = store elen s₂ i 1 in
     let s₄ : Tables = store count s₃ i 1000 in
-    alike-then ofNodes (lone s i) s₄ s (alike-store ofNodes stamp s₄ i 0 refl)
+    let s₅ : Tables = store stamp s₄ i 0 in
+    alike-then ofNodes (lone s i) s₅ s (alike-store ofNodes mark s₅ i 0 refl)
+    (alike-then ofNodes s₅ s₄ s (alike-store ofNodes stamp s₄ i 0 refl)
     (alike-then ofNodes s₄ s₃ s (alike-store ofNodes count s₃ i 1000 refl)
     (alike-then ofNodes s₃ s₂ s (alike-store ofNodes elen s₂ i 1 refl)
-    (alike-then ofNodes s₂ s₁ s (alike-store ofNodes rlen s₁ i 1 refl) (alike-store ofNodes rnext s i i refl))))
+    (alike-then ofNodes s₂ s₁ s (alike-store ofNodes rlen s₁ i 1 refl) (alike-store ofNodes rnext s i i refl)))))
 
 long-lone : (s : Tables) (i : ℕ) (u : Table) → length (lone s i .at u) ≡ length (s .at u)
 long-lone s i u =
@@ -100,25 +102,38 @@ long-lone s i u =
     let s₂ : Tables = store rlen s₁ i 1 in
     let s₃ : Tables = store elen s₂ i 1 in
     let s₄ : Tables = store count s₃ i 1000 in
-    length-store stamp u s₄ i 0 ∙ length-store count u s₃ i 1000 ∙ length-store elen u s₂ i 1 ∙ length-store rlen u s₁ i 1 ∙ length-store rnext u s i i
+    let s₅ : Tables = store stamp s₄ i 0 in
+    length-store mark u s₅ i 0 ∙ length-store stamp u s₄ i 0 ∙ length-store count u s₃ i 1000 ∙ length-store elen u s₂ i 1 ∙ length-store rlen u s₁ i 1 ∙ length-store rnext u s i i
 
-pub regions-are : (n k : ℕ) (s : Tables) (i : ℕ) → i + k ≤ n → length (s .at rnext) ≡ n → length (s .at elen) ≡ n → length (s .at rlen) ≡ n → length (s .at count) ≡ n → length (s .at stamp) ≡ n → Regions s (regionsFrom k s i) i k
+pub regions-are : (n k : ℕ) (s : Tables) (i : ℕ) → i + k ≤ n → length (s .at rnext) ≡ n → length (s .at elen) ≡ n → length (s .at rlen) ≡ n → length (s .at count) ≡ n → length (s .at stamp) ≡ n → length (s .at mark) ≡ n → Regions s (regionsFrom k s i) i k
 unfolding regionsFrom store
-regions-are n zero s i h a b c d f = record { tables = alike-refl ofNodes s; diff = refl; long = λ u. refl; below = λ x p. (refl, refl, refl, refl, refl); own = λ x p q. absurd (omega arith) }
-regions-are n (suc k) s i h a b c d f =
+regions-are n zero s i h a b c d f g = record { tables = alike-refl ofNodes s; diff = refl; long = λ u. refl; below = λ x p. (refl, refl, refl, refl, refl, refl); own = λ x p q. absurd (omega arith) }
+regions-are n (suc k) s i h a b c d f g =
     let u : Tables = lone s i in
-    let r : Regions u (regionsFrom k u (i + 1)) (i + 1) k = regions-are n k u (i + 1) (omega arith) (length-set (s .at rnext) i i ∙ a) (length-set (s .at elen) i 1 ∙ b) (length-set (s .at rlen) i 1 ∙ c) (length-set (s .at count) i 1000 ∙ d) (length-set (s .at stamp) i 0 ∙ f) in
+    let r : Regions u (regionsFrom k u (i + 1)) (i + 1) k = regions-are n k u (i + 1) (omega arith) (length-set (s .at rnext) i i ∙ a) (length-set (s .at elen) i 1 ∙ b) (length-set (s .at rlen) i 1 ∙ c) (length-set (s .at count) i 1000 ∙ d) (length-set (s .at stamp) i 0 ∙ f) (length-set (s .at mark) i 0 ∙ g) in
     let t : Tables = regionsFrom k u (i + 1) in
     record {
       tables = alike-then ofNodes t u s (r .tables) (alike-lone s i);
       diff = r .diff;
       long = λ y. r .long y ∙ long-lone s i y;
-      below = λ x p. let q : x ≡ i → ⊥ = λ e. omega arith in let w = r .below x (omega arith) in
-          (w .0 ∙ getD-set-other (s .at rnext) i x i 0 q, w .1 ∙ getD-set-other (s .at elen) i x 1 0 q, w .2 ∙ getD-set-other (s .at rlen) i x 1 0 q, w .3 ∙ getD-set-other (s .at count) i x 1000 0 q, w .4 ∙ getD-set-other (s .at stamp) i x 0 0 q);
+      below = λ x p. let q : x ≡ i → ⊥ = λ e. omega arith in let w = r .below x (omega arith) in (
+        w .0 ∙ getD-set-other (s .at rnext) i x i 0 q,
+        w .1 ∙ getD-set-other (s .at elen) i x 1 0 q,
+        w .2 ∙ getD-set-other (s .at rlen) i x 1 0 q,
+        w .3 ∙ getD-set-other (s .at count) i x 1000 0 q,
+        w .4 ∙ getD-set-other (s .at stamp) i x 0 0 q,
+        w .5 ∙ getD-set-other (s .at mark) i x 0 0 q,
+      );
       own = λ x p q. ⊎-elim
           (λ e. let w = r .below i (omega arith) in
-          subst (λ (y : ℕ). (getD (t .at rnext) y 0 ≡ y) × (getD (t .at elen) y 0 ≡ 1) × (getD (t .at rlen) y 0 ≡ 1) × (getD (t .at count) y 0 ≡ 1000) × (getD (t .at stamp) y 0 ≡ 0)) (sym e)
-          (w .0 ∙ getD-set-same (s .at rnext) i i 0 (omega arith), w .1 ∙ getD-set-same (s .at elen) i 1 0 (omega arith), w .2 ∙ getD-set-same (s .at rlen) i 1 0 (omega arith), w .3 ∙ getD-set-same (s .at count) i 1000 0 (omega arith), w .4 ∙ getD-set-same (s .at stamp) i 0 0 (omega arith)))
+          subst (λ (y : ℕ). (getD (t .at rnext) y 0 ≡ y) × (getD (t .at elen) y 0 ≡ 1) × (getD (t .at rlen) y 0 ≡ 1) × (getD (t .at count) y 0 ≡ 1000) × (getD (t .at stamp) y 0 ≡ 0) × (getD (t .at mark) y 0 ≡ 0)) (sym e) (
+            w .0 ∙ getD-set-same (s .at rnext) i i 0 (omega arith),
+            w .1 ∙ getD-set-same (s .at elen) i 1 0 (omega arith),
+            w .2 ∙ getD-set-same (s .at rlen) i 1 0 (omega arith),
+            w .3 ∙ getD-set-same (s .at count) i 1000 0 (omega arith),
+            w .4 ∙ getD-set-same (s .at stamp) i 0 0 (omega arith),
+            w .5 ∙ getD-set-same (s .at mark) i 0 0 (omega arith),
+          ))
           (λ e. r .own x (omega arith) (omega arith))
           (eq-or-ne x i);
     }

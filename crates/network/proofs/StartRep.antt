@@ -16,14 +16,13 @@ use Rattle.lists.specs.Inside.Seg.{put}
 use Rattle.lists.proofs.SeqLaws.{upto-at, map-upto-same}
 use Rattle.memory.specs.Inside.Tree.{Weighed}
 use Rattle.merge.specs.Inside.Tables.{Tables, view, HoldsTables, Sound}
-use Rattle.merge.specs.Inside.Table.{Table, long, weight, first, second, bridged, enext, rnext, stamp, size, elen, rlen, count}
+use Rattle.merge.specs.Inside.Table.{Table, long, weight, first, second, bridged, enext, rnext, stamp, size, elen, rlen, count, mark}
 use Rattle.merge.specs.Inside.Steps.{unbias, turned}
 use Rattle.merge.specs.Inside.Leaves.{LeavesTables}
 use Rattle.network.specs.Inside.Net.{edgeOf, regionOf, stateOf}
 use Rattle.network.specs.Inside.Rep.{Rep, Circled}
-use Rattle.network.specs.Inside.TurnIs.{gatesIn, firstOf, RanIs}
+use Rattle.network.specs.Inside.TurnIs.{gatesIn, firstOf, Unmarked, RunIs}
 use Rattle.network.specs.Inside.Begin.{slots, regionsFrom, linkFrom, rawRegion, rawNet, Space, Raw, Begun, Linkable, AllIs}
-use Rattle.network.specs.Inside.Settle.{settle}
 use Rattle.network.specs.declared.network.Ran.{Ran}
 use Rattle.merge.proofs.View.{view-lengths, view-weighed}
 use Rattle.merge.proofs.Leaf.{room-of}
@@ -79,7 +78,7 @@ module _ (m n : ℕ) (s : Tables) (lens₀ : Lengths m n s) (raw : Raw m n s) (s
   long₁ u = slots-long m n s (lens₀ .lengths enext) u ∙ lens₀ .lengths u
 
   G : Regions s₁ s₂ 0 n
-  G = regions-are n n s₁ 0 (omega arith) (long₁ rnext) (long₁ elen) (long₁ rlen) (long₁ count) (long₁ stamp)
+  G = regions-are n n s₁ 0 (omega arith) (long₁ rnext) (long₁ elen) (long₁ rlen) (long₁ count) (long₁ stamp) (long₁ mark)
 
   given₂ : Given s₂ s
   given₂ = given-then s₂ s₁ s (given-regions s₁ s₂ 0 n G) (given-slots m n s)
@@ -145,6 +144,9 @@ module _ (m n : ℕ) (s : Tables) (lens₀ : Lengths m n s) (raw : Raw m n s) (s
 
   stamp₃ : (x : ℕ) → x < n → getD (s₃ .at stamp) x 0 ≡ 0
   stamp₃ x h = ap (λ (l : List ℕ). getD l x 0) (all₃ .1 .beside .at stamp) ∙ G .own x (omega arith) (omega arith) .4
+
+  mark₃ : Unmarked n s₃
+  mark₃ x h = ap (λ (l : List ℕ). getD l x 0) (all₃ .1 .beside .at mark) ∙ G .own x (omega arith) (omega arith) .5
 
   edge₃ : (j : ℕ) → edgeOf s₃ j ≡ edgeOf s j
   unfolding edgeOf
@@ -250,9 +252,10 @@ module _ (m n : ℕ) (w : List ℕ) (d : List Float) (sp : Space m n w d) (raw :
             rep = subst (λ (u : Tables). Rep m n (gatesIn u) 0 u (firstOf m n u)) e (rep₃ m n s₀ l₀ raw (sp .small));
             net = ap (firstOf m n) (sym e) ∙ net₃ m n s₀ l₀ raw (sp .small);
             sizes = ap gatesIn (sym e) ∙ gates₃ m n s₀ l₀ raw (sp .small);
+            unmarked = subst (Unmarked n) e (mark₃ m n s₀ l₀ raw (sp .small));
           }
 
 -- ---- merge_all
-pub all-is : (m n : ℕ) (s : Tables) (w : List ℕ) (d : List Float) (w' : List ℕ) (d' : List Float) (r : Ran) → Begun m n s w d → RanIs m n (gatesIn (view m n w d)) (settle m (firstOf m n (view m n w d)) 0) w' d' r → AllIs m n s w' d' r
+pub all-is : (m n : ℕ) (s : Tables) (w : List ℕ) (d : List Float) (w' : List ℕ) (d' : List Float) (r : Ran) → Begun m n s w d → RunIs m n (gatesIn (view m n w d)) (firstOf m n (view m n w d)) w' d' r → AllIs m n s w' d' r
 unfolding AllIs
-all-is m n s w d w' d' r b h = subst (λ (g : ℕ → ℕ). RanIs m n g (settle m (rawNet m n s) 0) w' d' r) (b .sizes) (subst (λ (t : State). RanIs m n (gatesIn (view m n w d)) (settle m t 0) w' d' r) (b .net) h)
+all-is m n s w d w' d' r b h = subst (λ (g : ℕ → ℕ). RunIs m n g (rawNet m n s) w' d' r) (b .sizes) (subst (λ (t : State). RunIs m n (gatesIn (view m n w d)) t w' d' r) (b .net) h)

@@ -4,7 +4,7 @@ use Prim.Native.Nat.{ℕ, zero, suc, _+_, _≤_, _<_}
 use native.Mathlib.Omega.{arith}
 use native.Mathlib.Numerals.{add-one}
 use mathlib.Core.Path.{_≡_, refl, sym, ap, _∙_, subst}
-use mathlib.Core.Bool.{Bool, true, false, not, cond}
+use mathlib.Core.Bool.{Bool, true, false, not, _&&_, cond}
 use mathlib.Core.List.{List, [], _∷_, map}
 use mathlib.Core.Option.{Option, none, some}
 use lib.Dec.{eqb}
@@ -16,9 +16,9 @@ use Rattle.lists.proofs.AllLaws.{keep-all, all-upto}
 use Rattle.lists.proofs.SeqLaws.{map-upto-length, keep-every}
 use Rattle.lists.specs.Seq.{All, upto, keep, all}
 use Rattle.edges.specs.Edges.{Pair, used}
-use Rattle.network.specs.Network.{Region, State, Event, alone, start, sizeIn, merges, run, trace, replay, inRange, countOf}
+use Rattle.network.specs.Network.{Region, State, Event, alone, start, sizeIn, merges, run, trace, replay, inRange, countOf, marked, markOf}
 use Rattle.merge.specs.Inside.Tables.{Tables, view}
-use Rattle.merge.specs.Inside.Table.{count, first, second}
+use Rattle.merge.specs.Inside.Table.{count, mark, first, second}
 use Rattle.merge.specs.Inside.Steps.{unbias}
 use Rattle.network.specs.Inside.Net.{edgeOf, regionOf}
 use Rattle.network.specs.Inside.Settle.{Done, settle, outcome, ranOf}
@@ -128,6 +128,13 @@ module _ (twoNyquist : Float) (k m : ℕ) (L : List ℕ) (ps : List Pair) (s : T
       side : countOf (restrict some-label any-edge (replay tables (merges tables)) .regions) 0 ≡ pos 0
       side = unfold restrict in none-0 (replay tables (merges tables) .regions)
 
+  edge-number : length (tables .edges) ≡ m
+  edge-number = unfold tables rawNet in map-upto-length (edgeOf s) m 0
+
+  run-is : trace tables (run m tables) ≡ trace network (merges network)
+  unfolding merges
+  run-is = ap (λ (x : ℕ). trace tables (run x tables)) (sym edge-number) ∙ trace-is
+
   -- the tables' run, said of the definition's network
   unfoldable ending : Bool → Option Done
   ending b = cond b (some (record { last = replay tables (merges tables); merges = length (merges network) })) none
@@ -139,20 +146,19 @@ module _ (twoNyquist : Float) (k m : ℕ) (L : List ℕ) (ps : List Pair) (s : T
       ∙ ap (λ (x : ℕ). outcome tables (run x tables) 0) (sym edge-number)
       ∙ ap (λ (t : List Event). cond (all inRange t) (some (record { last = replay tables (merges tables); merges = 0 + length (merges tables) })) none) trace-is
       ∙ ap (λ (x : ℕ). cond (all inRange (trace network (merges network))) (some (record { last = replay tables (merges tables); merges = x })) none) (omega (arith, ap length merges-are))
-    where
-      edge-number : length (tables .edges) ≡ m
-      edge-number = unfold tables rawNet in map-upto-length (edgeOf s) m 0
 
   -- ---- what the run of the tables leaves
 
   pub record Left (w : List ℕ) (d : List Float) : Type 0 where
     pub counts : (l : ℕ) → 1 ≤ l → l ≤ k → unbias (getD (view m (k + 1) w d .at count) l 0) ≡ countOf (replay network (merges network) .regions) l
     pub most : (l : ℕ) → l ≤ k → getD (view m (k + 1) w d .at count) l 0 ≤ 2000
+    pub marks : (l : ℕ) → 1 ≤ l → l ≤ k → getD (view m (k + 1) w d .at mark) l 0 ≡ markOf (trace network (merges network)) l
 
   module _ (w : List ℕ) (d : List Float) (r : Ran) (h : AllIs m (k + 1) s w d r) where
-    ran : (b : Bool) → all inRange (trace network (merges network)) ≡ b → RanIs m (k + 1) (gatesIn s) (ending b) w d r
+    ran : (b : Bool) → all inRange (trace network (merges network)) ≡ b → RanIs m (k + 1) (gatesIn s) (trace network (merges network)) (ending b) w d r
     unfolding AllIs tables
-    ran b e = subst (λ (o : Option Done). RanIs m (k + 1) (gatesIn s) o w d r) (settle-is ∙ ap ending e) h
+    ran b e = subst (λ (o : Option Done). RanIs m (k + 1) (gatesIn s) (trace network (merges network)) o w d r) (settle-is ∙ ap ending e)
+        (subst (λ (vs : List Event). RanIs m (k + 1) (gatesIn s) vs (settle m tables 0) w d r) run-is h)
 
     pub answer : r ≡ ranOf (outcome network (merges network) 0)
     unfolding AllIs tables outcome
@@ -185,14 +191,19 @@ module _ (twoNyquist : Float) (k m : ℕ) (L : List ℕ) (ps : List Pair) (s : T
     unfolding regionOf
     count-of node l = refl
 
+    mark-of : (l : ℕ) → 1 ≤ l → cond (marked (trace network (merges network)) l) 1 0 ≡ markOf (trace network (merges network)) l
+    unfolding markOf
+    mark-of l a = ap (λ (b : Bool). cond (b && marked (trace network (merges network)) l) 1 0) (sym (label-ok l a))
+
     pub left : all inRange (trace network (merges network)) ≡ true → Left w d
     unfolding RunLeaves ending
     left e =
         let R = ran true e .leaves in
         record {
           counts = λ l a b.
-              sym (ap (λ (x : List Region). countOf x l) (last-regions (R .0) (R .1))
-              ∙ count-upto (regionOf (gatesIn s) (R .0) (view m (k + 1) w d)) 1 k l (λ i. unfold regionOf in refl) a (omega arith)
-              ∙ count-of (R .0) l);
-          most = λ l b. R .2 l (omega arith);
+              sym (ap (λ (x : List Region). countOf x l) (last-regions (R .node) (R .regions))
+              ∙ count-upto (regionOf (gatesIn s) (R .node) (view m (k + 1) w d)) 1 k l (λ i. unfold regionOf in refl) a (omega arith)
+              ∙ count-of (R .node) l);
+          most = λ l b. R .most l (omega arith);
+          marks = λ l a b. R .marks l (omega arith) ∙ mark-of l a;
         }

@@ -6,6 +6,7 @@ unfoldable pub evaluating : Unit {0}
 unfolding Below.evaluating Network.bounded Network.isZero Network.sizeOf Network.gatesOf Network.gather Network.members Network.raised Network.at Network.whole Network.quot
     Network.planFor Network.plan Network.kill Network.shifted Network.adjust Network.turnIf Network.turn Network.find Network.absorb Network.absent Network.hand Network.combine
     Network.prepare Network.joinAll Network.mergeEdges Network.move Network.merge Network.stepTo Network.step Network.better Network.choose Network.popped Network.follow Network.run
-    Network.merges Network.replay Network.eventOf Network.event Network.trace Network.countOf Network.inRange Network.edgeOf Network.numbered Network.alone Network.sizeIn
+    Network.merges Network.replay Network.eventOf Network.event Network.trace Network.countOf Network.has Network.marks Network.marked
+    Network.markOf Network.inRange Network.edgeOf Network.numbered Network.alone Network.sizeIn
     Network.start Network.networkBy Network.mergesInRange
 evaluating = tt

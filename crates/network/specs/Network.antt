@@ -1,6 +1,6 @@
 -- network.rs: regions joined by weighted edges, and the steps that join them into nodes.
 -- Letters: e an edge, i or k its number, a a node, b the base, m the moved node, p the plan of a merge, r a region or a record, w a weight.
-use mathlib.Core.Bool.{Bool, true, false, not, _&&_, cond}
+use mathlib.Core.Bool.{Bool, true, false, not, _&&_, _||_, cond}
 use mathlib.Core.List.{List, [], _∷_, map}
 use mathlib.Core.Option.{Option, none, some}
 use Prim.Native.Nat.{ℕ, zero, suc, _+_}
@@ -10,6 +10,7 @@ use lib.IntN.{ℤ, pos, negsuc, _+ℤ_, negℤ}
 use lib.Ieee.{Float, binary32, binary64, add, neg, div}
 use Rattle.lists.specs.Seq.{upto, all, keep}
 use Rattle.arithmetic.specs.Rounding.{roundEven, real, scale}
+use Rattle.arithmetic.specs.Doubtful.{doubtful}
 use Rattle.arithmetic.specs.declared.rounding.Rounded.{Rounded}
 use Rattle.arithmetic.specs.declared.rounding.Rounded.the-variants.{Whole, Outside}
 use Rattle.edges.specs.Edges.{difference, pairs, used}
@@ -95,9 +96,13 @@ unfoldable pub whole : Rounded → ℤ
 whole (Whole z) = z
 whole Outside = pos 2000
 
--- A difference divided by its weight, in f64, rounded to the nearest whole number, a tie to the even one.
+-- A difference divided by its weight, in f64.
+abbrev pub quotient : Float → ℕ → Float
+quotient d w = div binary64 d (real (pos w))
+
+-- The same, rounded to the nearest whole number, a tie to the even one.
 unfoldable pub quot : Float → ℕ → ℤ
-quot d w = whole (roundEven (div binary64 d (real (pos w))))
+quot d w = whole (roundEven (quotient d w))
 
 -- What a merge does: the edge that it consumes, the base, the moved node and the number that the moved node gains.
 pub record Plan : Type 0 where
@@ -251,10 +256,17 @@ unfoldable pub choose : List Edge → Option Edge
 choose [] = none
 choose (e ∷ es) = better e (choose es)
 
--- The answer of choosing: the ends, the difference divided by the weight in f64, and the number of the edge chosen, or none live
+-- The answer of choosing: the ends, the difference divided by the weight in f64, whether that is doubtful, and the number of the edge chosen,
+-- or none live.
 unfoldable pub popped : Option Edge → Popped
 popped none = Nothing
-popped (some e) = Taken (record { node1 = e .first; node2 = e .second; diff = div binary64 (e .link .diff) (real (pos (e .link .weight))); «edge_number» = e .num })
+popped (some e) = Taken (record {
+  node1 = e .first;
+  node2 = e .second;
+  diff = quotient (e .link .diff) (e .link .weight);
+  doubtful = doubtful (quotient (e .link .diff) (e .link .weight));
+  «edge_number» = e .num;
+})
 
 -- ---- the run
 
@@ -284,6 +296,7 @@ pub record Event : Type 0 where
   pub edge : ℕ
   pub live : Bool
   pub number : ℤ
+  pub doubtful : Bool
   pub gain : ℤ
   pub base : List ℕ
   pub moved : List ℕ
@@ -291,11 +304,12 @@ pub record Event : Type 0 where
 
 -- What the merge of edge i finds and does.
 unfoldable pub eventOf : List Region → ℕ → Option Edge → Event
-eventOf rs i none = record { edge = i; live = false; number = pos 0; gain = pos 0; base = []; moved = []; counts = [] }
+eventOf rs i none = record { edge = i; live = false; number = pos 0; doubtful = false; gain = pos 0; base = []; moved = []; counts = [] }
 eventOf rs i (some e) = record {
   edge = i;
   live = true;
   number = quot (e .link .diff) (e .link .weight);
+  doubtful = doubtful (quotient (e .link .diff) (e .link .weight));
   gain = plan rs e .gain;
   base = members rs (plan rs e .base);
   moved = members rs (plan rs e .moved);
@@ -321,6 +335,26 @@ countOf (r ∷ rs) a = cond (eqb a (r .label)) (r .count) (countOf rs a)
 -- Question 9 of one merge.
 unfoldable pub inRange : Event → Bool
 inRange v = bounded 1000 (v .number) && all (bounded 1000) (v .counts)
+
+-- ---- marks
+
+-- Whether a is in a list.
+unfoldable pub has : ℕ → List ℕ → Bool
+has a [] = false
+has a (x ∷ xs) = eqb a x || has a xs
+
+-- Whether a merge marks region l: it is doubtful, and l is in the moved node.
+unfoldable pub marks : Event → ℕ → Bool
+marks v l = v .doubtful && has l (v .moved)
+
+-- Whether one of these merges marks region l.
+unfoldable pub marked : List Event → ℕ → Bool
+marked [] l = false
+marked (v ∷ vs) l = marks v l || marked vs l
+
+-- The mark of a gate of label l as a byte: 1 if its region is marked; a gate of label 0, without a region, has mark 0.
+unfoldable pub markOf : List Event → ℕ → ℕ
+markOf vs l = cond (not (eqb l 0) && marked vs l) 1 0
 
 -- ---- the first network
 

@@ -1,4 +1,4 @@
-// Finding: from a sweep's limits to its merged regions. Labels, sizes and counts are left in the work memory; nothing else is written.
+// Finding: from a sweep's limits to its merged regions. Labels, sizes, counts and marks are left in the work memory; nothing else is written.
 use memory::layout;
 ghost use mathlib.Core.Path.{_≡_};
 ghost use Prim.Native.Nat.{_+_, _*_, _≤_};
@@ -79,20 +79,22 @@ pub fn label(
     label_in(&mut out, o, p, velocity, valid, work)
 }
 
-// Below two regions there is nothing to merge: the sizes, and every count 0, which is 1,000 in its table.
+// Below two regions there is nothing to merge: the sizes, every count 0, which is 1,000 in its table, and no mark.
 fn leave_alone(w: &mut [u32], n: usize, k: usize)
     requires { ⌜ Few (now w) n k ⌝ }
     ensures { λ _. ⌜ (
         let sized = put (now (w .entry)) n (tabulate (k + 1) (sizeIn (seg (now (w .entry)) 0 n))) in
-        now (w .exit) ≡ put sized (n + (k + 1)) (replicate (k + 1) 1000)
+        let counted = put sized (n + (k + 1)) (replicate (k + 1) 1000) in
+        now (w .exit) ≡ put counted (n + (k + 1) + (k + 1)) (replicate (k + 1) 0)
         ) ⌝ }
 {
     let nodes = k + 1;
     crate::sizes::count_sizes(w, n, n, nodes);
     memory::words::fill(w, n + nodes, nodes, layout::ZERO);
+    memory::words::fill(w, n + nodes + nodes, nodes, 0);
 }
 
-// The regions of a sweep by the limits of a plan, merged: labels, sizes and counts lie in the words afterwards.
+// The regions of a sweep by the limits of a plan, merged: labels, sizes, counts and marks lie in the words afterwards.
 pub fn find(
     o: crate::options::Options,
     p: arithmetic::intervals::Plan,

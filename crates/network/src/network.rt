@@ -10,16 +10,16 @@ ghost use Rattle.merge.specs.Inside.Tables.{view, HoldsTables, Sound};
 ghost use Rattle.merge.specs.Inside.Table.{elen};
 ghost use Rattle.merge.specs.Inside.Steps.{numberOf};
 ghost use Rattle.network.specs.Inside.Rep.{Rep};
-ghost use Rattle.network.specs.Inside.Settle.{settle};
-ghost use Rattle.network.specs.Inside.TurnIs.{Standing, AnyTurn, Chosen, AnyPick, gatesIn, firstOf, RanIs};
+ghost use Rattle.network.specs.Inside.TurnIs.{Standing, AnyTurn, Chosen, AnyPick, gatesIn, firstOf, Unmarked, RunIs};
 ghost use Rattle.network.specs.Inside.Begin.{regionsFrom, linkAt, linkFrom, Space, Raw, Begun, Linkable, AllIs};
 ghost use Rattle.merge.specs.Inside.Leaves.{LeavesTables};
 
-// The heaviest live edge: its ends, its difference after the division by its weight, and its number.
+// The heaviest live edge: its ends, its difference after the division by its weight, whether that is doubtful, and its number.
 pub struct PoppedEdge {
     pub node1: u32,
     pub node2: u32,
     pub diff: f64,
+    pub doubtful: bool,
     pub edge_number: u32,
 }
 
@@ -53,6 +53,7 @@ fn pop_edge(w: &[u32], d: &[f64], m: usize, n: usize) -> Popped
             node1: y,
             node2: x,
             diff: back,
+            doubtful: arithmetic::doubtful::is_doubtful(back),
             edge_number: e,
         });
     }
@@ -61,6 +62,7 @@ fn pop_edge(w: &[u32], d: &[f64], m: usize, n: usize) -> Popped
         node1: x,
         node2: y,
         diff: q,
+        doubtful: arithmetic::doubtful::is_doubtful(q),
         edge_number: e,
     })
 }
@@ -90,8 +92,8 @@ pub enum Turned {
     Refused,
 }
 
-// The merge of edge e, which stands from p to q and whose number, with 1000 added, is g, after k merges: the larger node is the base, the
-// second end's at equal sizes.
+// The merge of edge e, which stands from p to q and whose number, with 1000 added, is g, doubtful or not, after k merges: the larger node is
+// the base, the second end's at equal sizes.
 fn choose_base(
     w: &mut [u32],
     d: &mut [f64],
@@ -101,11 +103,12 @@ fn choose_base(
     p: u32,
     q: u32,
     g: u32,
+    doubtful: bool,
     k: usize,
 ) -> Turned
     requires { ⌜ HoldsTables m n (now w) (now d) ⌝ }
     requires { ⌜ Standing m n k (view m n (now w) (now d)) ⌝ }
-    requires { ⌜ Chosen m (view m n (now w) (now d)) e p q g ⌝ }
+    requires { ⌜ Chosen m (view m n (now w) (now d)) e p q g doubtful ⌝ }
     requires { ⌜ k < m ⌝ }
     ensures { λ r. ⌜ AnyPick m n k (view m n (now (w .entry)) (now (d .entry))) e (now (w .exit)) (now (d .exit)) r ⌝ }
 {
@@ -113,13 +116,13 @@ fn choose_base(
     let sp = w[layout::NODES * m + layout::SIZES * n + p as usize];
     let sq = w[layout::NODES * m + layout::SIZES * n + q as usize];
     if sp > sq {
-        let ok = merge::merge::merge(w, d, m, n, e, p, q, g, i);
+        let ok = merge::mark::merge_and_mark(w, d, m, n, e, p, q, g, i, doubtful);
         if ok {
             return Turned::Merged;
         }
         return Turned::Refused;
     }
-    let yes = merge::merge::merge(w, d, m, n, e, q, p, layout::MOST - g, i);
+    let yes = merge::mark::merge_and_mark(w, d, m, n, e, q, p, layout::MOST - g, i, doubtful);
     if yes {
         return Turned::Merged;
     }
@@ -142,7 +145,7 @@ fn turn(w: &mut [u32], d: &mut [f64], m: usize, n: usize, k: usize) -> Turned
         return Turned::Refused;
     }
     let e = q.edge_number as usize;
-    choose_base(w, d, m, n, e, q.node1, q.node2, g, k)
+    choose_base(w, d, m, n, e, q.node1, q.node2, g, q.doubtful, k)
 }
 
 // The run: how many merges there were, or a refusal.
@@ -154,7 +157,8 @@ pub enum Ran {
 fn run(w: &mut [u32], d: &mut [f64], m: usize, n: usize) -> Ran
     requires { ⌜ HoldsTables m n (now w) (now d) ⌝ }
     requires { ⌜ Rep m n (gatesIn (view m n (now w) (now d))) 0 (view m n (now w) (now d)) (firstOf m n (view m n (now w) (now d))) ⌝ }
-    ensures { λ r. ⌜ RanIs m n (gatesIn (view m n (now (w .entry)) (now (d .entry)))) (settle m (firstOf m n (view m n (now (w .entry)) (now (d .entry)))) 0) (now (w .exit)) (now (d .exit)) r ⌝ }
+    requires { ⌜ Unmarked n (view m n (now w) (now d)) ⌝ }
+    ensures { λ r. ⌜ RunIs m n (gatesIn (view m n (now (w .entry)) (now (d .entry)))) (firstOf m n (view m n (now (w .entry)) (now (d .entry)))) (now (w .exit)) (now (d .exit)) r ⌝ }
 {
     let mut k = 0;
     while k < m {
@@ -173,7 +177,7 @@ fn run(w: &mut [u32], d: &mut [f64], m: usize, n: usize) -> Ran
     Ran::Settled(k)
 }
 
-// Each region becomes a circle of its own, with count 0, that was never a base.
+// Each region becomes a circle of its own, with count 0, that was never a base and is not marked.
 fn fill_regions(w: &mut [u32], d: &mut [f64], m: usize, n: usize)
     requires { ⌜ HoldsTables m n (now w) (now d) ⌝ }
     ensures { λ _. ⌜ LeavesTables m n (now (w .exit)) (now (d .exit)) (regionsFrom n (view m n (now (w .entry)) (now (d .entry))) 0) ⌝ }
@@ -185,6 +189,7 @@ fn fill_regions(w: &mut [u32], d: &mut [f64], m: usize, n: usize)
         w[layout::NODES * m + layout::SLOT_LENGTHS * n + x] = 1;
         w[layout::NODES * m + layout::COUNTS * n + x] = layout::ZERO;
         w[layout::NODES * m + layout::STAMPS * n + x] = 0;
+        w[layout::NODES * m + layout::MARKS * n + x] = 0;
         x += 1;
     }
 }
@@ -232,7 +237,7 @@ fn begin(w: &mut [u32], d: &mut [f64], m: usize, n: usize)
     link_all(w, d, m, n);
 }
 
-// All merges from the edges (ends, weights, differences) and the regions' sizes: how many, with the counts in their table, or a refusal.
+// All merges from the edges (ends, weights, differences) and the regions' sizes: how many, with counts and marks in their tables, or a refusal.
 pub fn merge_all(w: &mut [u32], d: &mut [f64], m: usize, n: usize) -> Ran
     requires { ⌜ Space m n (now w) (now d) ⌝ }
     requires { ⌜ Raw m n (view m n (now w) (now d)) ⌝ }

@@ -1,4 +1,4 @@
-// From labels to the counts of all regions: edges, sizes and all merges, over the layout of the work memory (Layout, of the crate memory).
+// From labels to the counts and marks of all regions: edges, sizes and all merges, over the layout of the work memory (Layout, of the crate memory).
 use memory::layout;
 ghost use Rattle.lists.specs.Inside.Seg.{seg};
 ghost use Rattle.network.specs.Network.{networkBy};
@@ -30,7 +30,14 @@ pub fn reduce(
         n + nodes,
         nodes,
     );
-    // label 0 is no region: its count is 0
+    memory::words::copy(
+        w,
+        t + layout::NODES * e + layout::MARKS * nodes,
+        n + nodes + nodes,
+        nodes,
+    );
+    // label 0 is no region: its count is 0, and it is not marked
     w[n + nodes] = layout::ZERO;
+    w[n + nodes + nodes] = 0;
     r
 }

@@ -46,7 +46,7 @@ call-folds s m = go (outcome s (lengths m))
   where
     go : (o : Outcome) → foldsBy (ending o (workedOn s m) .number) (ending o (workedOn s m) .memory .counts) ≡ foldsOf o (m .counts)
     go (refused k) = unfold ending foldsOf in ap (foldsBy k) (kept-counts s m)
-    go (accepted cs r k) = unfold ending foldsOf in refl
+    go (accepted cs ds r k) = unfold ending foldsOf in refl
 
 -- ---- the answer to a file
 
@@ -81,9 +81,9 @@ module _ (f vel mask : List ℕ) (a : length vel ≡ fileGates f) (b : length ma
     same-input o us p q = (λ i. sweepBy (p i) (q i) ms) ∙ ap asSweep same-sweep
 
     -- the sweep entry's answer
-    pub file-unfolded : (o : Options) (us : List Float) (m : Memory) (r : ℕ) (cs : List ℤ) (p w : List ℕ) (d : List Float) → o ≡ optionsBy hd → us ≡ map (ofBits binary32) vs
-        → lengths m ≡ lentFor (fileGates f) → answerBy r cs p w d ≡ call (sweepBy o us ms) m → foldsBy r cs ≡ foldsOf (fileOutcome f) (m .counts)
-    file-unfolded o us m r cs p w d g h l t =
+    pub file-unfolded : (o : Options) (us : List Float) (m : Memory) (r : ℕ) (cs : List ℤ) (ds p w : List ℕ) (d : List Float) → o ≡ optionsBy hd → us ≡ map (ofBits binary32) vs
+        → lengths m ≡ lentFor (fileGates f) → answerBy r cs ds p w d ≡ call (sweepBy o us ms) m → foldsBy r cs ≡ foldsOf (fileOutcome f) (m .counts)
+    file-unfolded o us m r cs ds p w d g h l t =
         ap (λ (x : Answer). foldsBy (x .number) (x .memory .counts)) t
         ∙ call-folds (sweepBy o us ms) m
         ∙ (λ i. foldsOf (outcome (same-input o us g h i) (l i)) (m .counts))
@@ -94,7 +94,7 @@ module _ (f vel mask : List ℕ) (a : length vel ≡ fileGates f) (b : length ma
 -- the number of a refusal; any other than 0 of an acceptance
 abbrev refusalIn : Outcome → ℕ
 refusalIn (refused k) = k
-refusalIn (accepted counts regions merges) = 1
+refusalIn (accepted counts doubtful regions merges) = 1
 
 above : (k : ℕ) → 0 < k → k ≡ 0 → ⊥
 above k a b = omega arith
@@ -127,7 +127,7 @@ module _ (f : List ℕ) (rays gates k : ℕ) (lent counts : List ℤ) (e : folds
     where
       go : (o : Outcome) → foldsBy k counts ≡ foldsOf o lent → printedBy k [] ≡ printedOf rays gates o
       go (refused j) e = ap (λ (x : Folds). printedBy (x .number) []) e
-      go (accepted cs r m) e = absurd (n (ap (λ (x : Folds). x .number) e))
+      go (accepted cs ds r m) e = absurd (n (ap (λ (x : Folds). x .number) e))
 
   -- and an answer of 0 the counts
   pub counts-print : k ≡ 0 → printedBy 0 (rayLines rays gates counts) ≡ printedOf rays gates (fileOutcome f)
@@ -136,7 +136,7 @@ module _ (f : List ℕ) (rays gates k : ℕ) (lent counts : List ℤ) (e : folds
     where
       go : (o : Outcome) → (refusalIn o ≡ 0 → ⊥) → foldsBy k counts ≡ foldsOf o lent → printedBy 0 (rayLines rays gates counts) ≡ printedOf rays gates o
       go (refused j) n e = absurd (n (sym (ap (λ (x : Folds). x .number) e) ∙ z))
-      go (accepted cs r m) n e = ap (λ (x : Folds). printedBy 0 (rayLines rays gates (x .counts))) e
+      go (accepted cs ds r m) n e = ap (λ (x : Folds). printedBy 0 (rayLines rays gates (x .counts))) e
 
 -- ---- what is printed for a file
 
@@ -174,9 +174,9 @@ nothing-printed p k x b t e z h = ((λ i. printedBy (e i) (take (z i) t)) ∙ h,
 
 -- ---- lengths
 
-pub lent-is : (m : Memory) (n : ℕ) → length (m .counts) ≡ n → length (m .pair) ≡ 2 → length (m .words) ≡ wordsFor n → length (m .floats) ≡ floatsFor n → lengths m ≡ lentFor n
+pub lent-is : (m : Memory) (n : ℕ) → length (m .counts) ≡ n → length (m .doubtful) ≡ n → length (m .pair) ≡ 2 → length (m .words) ≡ wordsFor n → length (m .floats) ≡ floatsFor n → lengths m ≡ lentFor n
 unfolding lengths lentFor
-lent-is m n a b c d i = record { counts = a i; pair = b i; words = c i; floats = d i }
+lent-is m n a b c d e i = record { counts = a i; doubtful = b i; pair = c i; words = d i; floats = e i }
 
 pub gates-are : (f : List ℕ) (rays gates n : ℕ) → rays ≡ u16At f 3 → gates ≡ u16At f 5 → n ≡ rays * gates → n ≡ fileGates f
 unfolding fileGates

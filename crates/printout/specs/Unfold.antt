@@ -16,7 +16,7 @@ fileGates f = u16At f 3 * u16At f 5
 
 -- the memory that a sweep of n gates asks for
 unfoldable pub lentFor : ℕ → Lent
-lentFor n = record { counts = n; pair = 2; words = wordsFor n; floats = floatsFor n }
+lentFor n = record { counts = n; doubtful = n; pair = 2; words = wordsFor n; floats = floatsFor n }
 
 -- the answer to a file: the reader's where it refuses, else that of the sweep entry
 unfoldable pub fileOutcome : List ℕ → Outcome
@@ -37,7 +37,7 @@ printedBy number text = record { number = number; text = text }
 -- what is printed of an answer
 unfoldable pub printedOf : ℕ → ℕ → Outcome → Printed
 printedOf rays gates (refused k) = printedBy k []
-printedOf rays gates (accepted counts regions merges) = printedBy 0 (rayLines rays gates counts)
+printedOf rays gates (accepted counts doubtful regions merges) = printedBy 0 (rayLines rays gates counts)
 
 -- what is printed for a file
 unfoldable pub printed : List ℕ → Printed

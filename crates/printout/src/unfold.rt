@@ -26,12 +26,13 @@ fn unfold_in(
     valid: &mut [u8],
     velocity: &mut [f32],
     counts: &mut [i32],
+    doubtful: &mut [u8],
     pair: &mut [u32],
     words: &mut [u32],
     floats: &mut [f64],
 ) -> u32
     requires { ⌜ (length (now bits) ≡ fileGates (now file)) × (length (now valid) ≡ fileGates (now file)) × (length (now velocity) ≡ fileGates (now file)) ⌝ }
-    requires { ⌜ (length (now counts) ≡ fileGates (now file)) × (length (now pair) ≡ 2) ⌝ }
+    requires { ⌜ (length (now counts) ≡ fileGates (now file)) × (length (now doubtful) ≡ fileGates (now file)) × (length (now pair) ≡ 2) ⌝ }
     requires { ⌜ (length (now words) ≡ wordsFor (fileGates (now file))) × (length (now floats) ≡ floatsFor (fileGates (now file))) ⌝ }
     ensures { λ r. ⌜ foldsBy r (now (counts .exit)) ≡ foldsOf (fileOutcome (now (file .entry))) (now (counts .entry)) ⌝ }
 {
@@ -41,7 +42,7 @@ fn unfold_in(
     }
     files::bits::velocities_of(bits, velocity);
     let o = files::entry::options_of(r.header);
-    sweep::entry::dealias_sweep(o, velocity, valid, counts, pair, words, floats)
+    sweep::entry::dealias_sweep(o, velocity, valid, counts, doubtful, pair, words, floats)
 }
 
 // The same with memory of its own but for the counts.
@@ -55,6 +56,7 @@ fn unfold_file(file: &[u8], counts: &mut [i32]) -> u32
     let mut bits = arrays::bits();
     let mut valid = arrays::mask();
     let mut velocity = arrays::velocities();
+    let mut doubtful = arrays::mask();
     let mut pair = [0u32; 2];
     let mut words = arrays::words();
     let mut floats = arrays::floats();
@@ -64,6 +66,7 @@ fn unfold_file(file: &[u8], counts: &mut [i32]) -> u32
         &mut valid[..n],
         &mut velocity[..n],
         counts,
+        &mut doubtful[..n],
         &mut pair,
         &mut words[..w],
         &mut floats[..d],

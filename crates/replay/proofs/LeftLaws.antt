@@ -38,7 +38,7 @@ module _ (t : ℕ → Bool) (n i : ℕ) where
       let e : n - i ≡ 0 = omega arith in
       rw e refl
 
--- the tests of a word, of an f64 and of a count
+-- the tests of a word, of an f64, of a count and of a mark
 abbrev pub wordTest : ℕ → List ℕ → ℕ → Bool
 wordTest k w g = eqb (getD w g 0) (dueWord k g)
 
@@ -47,6 +47,9 @@ floatTest k d g = eq (getD d g nan) (dueFloat k g)
 
 abbrev pub countTest : List ℤ → ℕ → Bool
 countTest cs g = isPattern (getD cs g (pos 0))
+
+abbrev pub markTest : List ℕ → ℕ → Bool
+markTest ds g = eqb (getD ds g 0) 7
 
 -- a word, an f64 and a count, by what the code asked of it
 pub word-yes : (x : ℕ) {d : ℕ} (e : ℕ) → d ≡ e → x ≡ d → eqb x e ≡ true

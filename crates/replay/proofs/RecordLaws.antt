@@ -98,6 +98,7 @@ raise-turn more w₀ w i r e f h =
 pub record Held (s : Setting) : Type 0 where
   pub recorded : s .recorded ≤ 128
   pub counts : s .counts ≤ 136
+  pub doubtful : s .doubtful ≤ 136
   pub pair : s .pair ≤ 4
   pub words : s .words ≤ 12416
   pub floats : s .floats ≤ 2080
@@ -107,16 +108,19 @@ unfolding held
 held-parts s h =
     let a = leb (s .recorded) 128 in
     let b = leb (s .counts) 136 in
-    let c = leb (s .pair) 4 in
-    let d = leb (s .words) 12416 in
-    let e = leb (s .floats) 2080 in
-    let h₁ = and-left (a && b && c && d) e h in
-    let h₂ = and-left (a && b && c) d h₁ in
-    let h₃ = and-left (a && b) c h₂ in
+    let c = leb (s .doubtful) 136 in
+    let d = leb (s .pair) 4 in
+    let e = leb (s .words) 12416 in
+    let f = leb (s .floats) 2080 in
+    let h₁ = and-left (a && b && c && d && e) f h in
+    let h₂ = and-left (a && b && c && d) e h₁ in
+    let h₃ = and-left (a && b && c) d h₂ in
+    let h₄ = and-left (a && b) c h₃ in
     record {
-      recorded = leb-true (s .recorded) 128 (and-left a b h₃);
-      counts = leb-true (s .counts) 136 (and-right a b h₃);
-      pair = leb-true (s .pair) 4 (and-right (a && b) c h₂);
-      words = leb-true (s .words) 12416 (and-right (a && b && c) d h₁);
-      floats = leb-true (s .floats) 2080 (and-right (a && b && c && d) e h);
+      recorded = leb-true (s .recorded) 128 (and-left a b h₄);
+      counts = leb-true (s .counts) 136 (and-right a b h₄);
+      doubtful = leb-true (s .doubtful) 136 (and-right (a && b) c h₃);
+      pair = leb-true (s .pair) 4 (and-right (a && b && c) d h₂);
+      words = leb-true (s .words) 12416 (and-right (a && b && c && d) e h₁);
+      floats = leb-true (s .floats) 2080 (and-right (a && b && c && d && e) f h);
     }

@@ -38,6 +38,10 @@ isPattern (negsuc n) = false
 unfoldable pub countsKept : List ℤ → Bool
 countsKept cs = all (λ g. isPattern (getD cs g (pos 0))) (upto (length cs) 0)
 
+-- every mark is the pattern
+unfoldable pub marksKept : List ℕ → Bool
+marksKept ds = all (λ g. eqb (getD ds g 0) 7) (upto (length ds) 0)
+
 -- whether the call of an answer clears the work memory that it asks for
 unfoldable pub clearsWork : ℕ → Bool
 clearsWork number = eqb number 0 || eqb number 9

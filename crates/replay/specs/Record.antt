@@ -6,9 +6,9 @@ use lib.IntN.{ℤ, pos, _+ℤ_}
 use Rattle.network.specs.Network.{bounded}
 use Rattle.replay.specs.declared.gates.Setting.{Setting}
 
--- whether the arrays hold the gates, counts, pair, words and floats that a record asks for
+-- whether the arrays hold the gates, counts, marks, pair, words and floats that a record asks for
 unfoldable pub held : Setting → Bool
-held s = leb (s .recorded) 128 && leb (s .counts) 136 && leb (s .pair) 4 && leb (s .words) 12416 && leb (s .floats) 2080
+held s = leb (s .recorded) 128 && leb (s .counts) 136 && leb (s .doubtful) 136 && leb (s .pair) 4 && leb (s .words) 12416 && leb (s .floats) 2080
 
 -- a count from -100,000 to 100,000
 unfoldable pub isNear : ℤ → Bool

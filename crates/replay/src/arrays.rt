@@ -3,10 +3,12 @@
 ghost use mathlib.Core.Path.{_≡_};
 ghost use lib.ListN.{length};
 
-// The pattern, as a word, as a count and as an f64.
+// The pattern, as a word, as a count, as a mark and as an f64.
 pub const WORD: u32 = 7;
 
 pub const COUNT: i32 = 7;
+
+pub const MARK: u8 = 7;
 
 pub const FLOAT: f64 = 7.0;
 
@@ -29,6 +31,12 @@ pub fn counts() -> [i32; 136]
     ensures { λ r. ⌜ 136 ≡ length r ⌝ }
 {
     [COUNT; 136]
+}
+
+pub fn marks() -> [u8; 136]
+    ensures { λ r. ⌜ 136 ≡ length r ⌝ }
+{
+    [MARK; 136]
 }
 
 pub fn pair() -> [u32; 4]

@@ -1,6 +1,6 @@
-// One recorded sweep: fourteen numbers that set it, then two numbers a gate.
+// One recorded sweep: fifteen numbers that set it, then two numbers a gate.
 // The first nine: rays, gates, Nyquist's bits, splits, the skip between rays and along a ray, centring, wrap, gates recorded.
-// The other five: how long the counts, the pair, the words and the floats lent are to be, and what is added to each count.
+// The other six: how long the counts, the marks, the pair, the words and the floats lent are to be, and what is added to each count.
 ghost use mathlib.Core.Path.{_≡_};
 ghost use mathlib.Core.Bool.{true};
 ghost use Prim.Native.Nat.{_*_, _≤_};
@@ -22,6 +22,7 @@ pub struct Setting {
     pub wrap: u32,
     pub recorded: u32,
     pub counts: u32,
+    pub doubtful: u32,
     pub pair: u32,
     pub words: u32,
     pub floats: u32,
@@ -35,8 +36,8 @@ pub enum Start {
     Malformed,
 }
 
-// The setting that fourteen numbers say.
-fn setting_of(n: &[u32; 14]) -> Setting
+// The setting that fifteen numbers say.
+fn setting_of(n: &[u32; 15]) -> Setting
     ensures { λ r. ⌜ r ≡ settingOf (now (n .entry)) ⌝ }
 {
     Setting {
@@ -50,15 +51,16 @@ fn setting_of(n: &[u32; 14]) -> Setting
         wrap: n[7],
         recorded: n[8],
         counts: n[9],
-        pair: n[10],
-        words: n[11],
-        floats: n[12],
-        more: n[13],
+        doubtful: n[10],
+        pair: n[11],
+        words: n[12],
+        floats: n[13],
+        more: n[14],
     }
 }
 
 // The start by what a read of its numbers got.
-fn start_of(got: words::Got, n: &[u32; 14]) -> Start
+fn start_of(got: words::Got, n: &[u32; 15]) -> Start
     ensures { λ r. ⌜ r ≡ startBy got (now (n .entry)) ⌝ }
 {
     match got {
@@ -70,8 +72,8 @@ fn start_of(got: words::Got, n: &[u32; 14]) -> Start
 
 // The setting of a sweep, read from standard input.
 pub fn read_start() -> Start {
-    let mut text = [0u8; 126];
-    let mut n = [0u32; 14];
+    let mut text = [0u8; 135];
+    let mut n = [0u32; 15];
     let got = words::read(&mut text, &mut n);
     start_of(got, &n)
 }

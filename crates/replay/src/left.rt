@@ -3,7 +3,7 @@
 ghost use mathlib.Core.Path.{_≡_};
 ghost use mathlib.Core.Bool.{_&&_};
 ghost use Prim.Native.Nat.{_≤_};
-ghost use Rattle.replay.specs.Left.{dueWord, dueFloat, wordsLeft, floatsLeft, countsKept, clearsWork, clearedWords, clearedFloats, leftBy};
+ghost use Rattle.replay.specs.Left.{dueWord, dueFloat, wordsLeft, floatsLeft, countsKept, marksKept, clearsWork, clearedWords, clearedFloats, leftBy};
 use crate::arrays;
 use memory::layout;
 
@@ -78,6 +78,20 @@ fn counts_kept(counts: &[i32]) -> bool
     true
 }
 
+// Whether every mark is the pattern.
+fn marks_kept(doubtful: &[u8]) -> bool
+    ensures { λ r. ⌜ r ≡ marksKept (now (doubtful .entry)) ⌝ }
+{
+    let mut i = 0;
+    while i < doubtful.len() {
+        if doubtful[i] != arrays::MARK {
+            return false;
+        }
+        i += 1;
+    }
+    true
+}
+
 // Whether the call of an answer clears the work memory that it asks for.
 fn clears(number: u32) -> bool
     ensures { λ r. ⌜ r ≡ clearsWork number ⌝ }
@@ -110,11 +124,14 @@ fn cleared_floats(number: u32, n: usize) -> usize
     0
 }
 
-// Whether the counts and the pair, which a sweep call writes, still hold the pattern.
-pub fn folds_kept(counts: &[i32], pair: &[u32]) -> bool
-    ensures { λ r. ⌜ r ≡ (countsKept (now (counts .entry)) && wordsLeft 0 (now (pair .entry))) ⌝ }
+// Whether the counts, the marks and the pair, which a sweep call writes, still hold the pattern.
+pub fn folds_kept(counts: &[i32], doubtful: &[u8], pair: &[u32]) -> bool
+    ensures { λ r. ⌜ r ≡ (countsKept (now (counts .entry)) && marksKept (now (doubtful .entry)) && wordsLeft 0 (now (pair .entry))) ⌝ }
 {
     if !counts_kept(counts) {
+        return false;
+    }
+    if !marks_kept(doubtful) {
         return false;
     }
     words_left(pair, 0)

@@ -1,4 +1,4 @@
-// The line of an answer: its number, where it is 0 the regions, the merges and the counts, in decimal, and what is left of the memory.
+// The line of an answer: its number, where it is 0 the regions, the merges and the counts, in decimal, and the marks; and what is left of the memory.
 // The line of a region map: the word map, the number, where it is 0 the regions and the labels, and what is left of the memory.
 // The line of unfolded velocities: the number, and where it is 0 the bits of each, in hexadecimal.
 ghost use mathlib.Core.Path.{_≡_};
@@ -38,6 +38,23 @@ fn write_counts(counts: &[i32]) {
     }
 }
 
+// A mark as a digit, after a space where it is the first.
+fn write_mark(i: usize, mark: u8) {
+    if i == 0 {
+        io::write_all(1, b" ");
+    }
+    io::print_decimal(1, mark as u64);
+}
+
+// Every gate's mark, all in one word; nothing where there is no gate.
+fn write_marks(doubtful: &[u8]) {
+    let mut i = 0;
+    while i < doubtful.len() {
+        write_mark(i, doubtful[i]);
+        i += 1;
+    }
+}
+
 // What is left of the memory lent, in one word.
 fn write_left(left: Left) {
     match left {
@@ -54,11 +71,12 @@ fn write_left(left: Left) {
 }
 
 // The whole line.
-pub fn write_answer(number: u32, pair: &[u32], counts: &[i32], left: Left) {
+pub fn write_answer(number: u32, pair: &[u32], counts: &[i32], doubtful: &[u8], left: Left) {
     io::print_decimal(1, number as u64);
     if number == 0 {
         write_numbers(pair);
         write_counts(counts);
+        write_marks(doubtful);
     }
     write_left(left);
 }

@@ -107,6 +107,7 @@ fn call_sweep(
     velocity: &[f32],
     valid: &[u8],
     counts: &mut [i32],
+    doubtful: &mut [u8],
     pair: &mut [u32],
     words: &mut [u32],
     floats: &mut [f64],
@@ -125,13 +126,14 @@ fn call_sweep(
         velocity,
         valid,
         counts,
+        doubtful,
         pair,
         words,
         floats,
     );
-    let kept = left::folds_kept(counts, pair);
+    let kept = left::folds_kept(counts, doubtful, pair);
     let left = left::left_by(number, velocity.len(), kept, words, floats);
-    lines::write_answer(number, pair, counts, left);
+    lines::write_answer(number, pair, counts, doubtful, left);
     call_map(s, velocity, valid, words, floats);
     if number == 0 {
         call_velocity(s, velocity, valid, counts);
@@ -143,10 +145,12 @@ fn answer(s: gates::Setting, velocity: &[f32], valid: &[u8])
     requires { ⌜ (length (now velocity) ≤ 128) × (held s ≡ true) ⌝ }
 {
     let c = s.counts as usize;
+    let b = s.doubtful as usize;
     let p = s.pair as usize;
     let w = s.words as usize;
     let d = s.floats as usize;
     let mut counts = arrays::counts();
+    let mut doubtful = arrays::marks();
     let mut pair = arrays::pair();
     let mut words = arrays::words();
     let mut floats = arrays::floats();
@@ -155,6 +159,7 @@ fn answer(s: gates::Setting, velocity: &[f32], valid: &[u8])
         velocity,
         valid,
         &mut counts[..c],
+        &mut doubtful[..b],
         &mut pair[..p],
         &mut words[..w],
         &mut floats[..d],
@@ -183,6 +188,9 @@ fn holds(s: gates::Setting) -> bool
         return false;
     }
     if s.counts > 136 {
+        return false;
+    }
+    if s.doubtful > 136 {
         return false;
     }
     if s.pair > 4 {

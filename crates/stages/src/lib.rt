@@ -2,6 +2,7 @@
 // that the entry uses, and asks of its caller what they ask, and promises what they promise: callers get there by the stages before, on sweeps that
 // the entry accepts.
 ghost use mathlib.Core.Path.{_≡_};
+ghost use mathlib.Core.Bool.{cond};
 ghost use mathlib.Core.List.{List};
 ghost use Prim.Native.Nat.{_+_, _*_, _≤_};
 ghost use lib.IntN.{pos};
@@ -13,6 +14,7 @@ ghost use Rattle.lists.specs.Seq.{tabulate, all};
 ghost use Rattle.arithmetic.specs.Inside.Asked.{Asked, front};
 ghost use Rattle.arithmetic.specs.Intervals.{velocityInRange};
 ghost use Rattle.arithmetic.specs.Rounding.{real};
+ghost use Rattle.arithmetic.specs.Doubtful.{doubtful};
 ghost use Rattle.arithmetic.specs.Intervals as I;
 ghost use Rattle.labels.specs.Regions.{regions};
 ghost use Rattle.labels.specs.Inside.Sheet.{bandsOf, FindsRegions};
@@ -22,14 +24,14 @@ ghost use Rattle.edges.specs.Inside.Sorts.{Sorts, Sorted};
 ghost use Rattle.edges.specs.Inside.Gather.{later, Legible, Gathers, Gathered};
 ghost use Rattle.edges.specs.Inside.Order.{runs};
 ghost use Rattle.merge.specs.Inside.Tables.{view};
-ghost use Rattle.network.specs.Network.{sizeIn};
+ghost use Rattle.network.specs.Network.{sizeIn, run, trace};
 ghost use Rattle.network.specs.Inside.Sizes.{Sizes};
 ghost use Rattle.network.specs.Inside.Begin.{rawNet, Space, Raw};
 ghost use Rattle.network.specs.Inside.Settle.{settle, ranOf};
 ghost use Rattle.network.specs.Inside.TurnIs.{gatesIn, RunLeaves};
 ghost use Rattle.sweep.specs.Questions.{firstNo, sevenOf};
 ghost use Rattle.sweep.specs.Entry.{sweepOf, answerOf};
-ghost use Rattle.sweep.specs.Inside.Finish.{countsBy, Finishes};
+ghost use Rattle.sweep.specs.Inside.Finish.{countsBy, marksBy, WritesMarks, Finishes};
 ghost use Rattle.stages.specs.Answers.{rangeNumber, ranNumber};
 
 // Questions 1 to 7.
@@ -50,7 +52,7 @@ pub extern "C" fn stage_questions(
 ) -> u32
     ensures { λ r. ⌜ (
         let s = sweepOf rays gates nyquist splits «skip_between_rays» «skip_along_ray» centred wrap (now (velocity .entry)) (now (valid .entry)) in
-        r ≡ answerOf (firstNo (sevenOf s (record { counts = length (now (velocity .entry)); pair = 2; words = words; floats = floats })))
+        r ≡ answerOf (firstNo (sevenOf s (record { counts = length (now (velocity .entry)); doubtful = length (now (velocity .entry)); pair = 2; words = words; floats = floats })))
         ) ⌝ }
 {
     let o = network::options::Options {
@@ -64,7 +66,7 @@ pub extern "C" fn stage_questions(
         wrap: wrap,
     };
     let n = sweep::questions::gates_in(rays, gates);
-    let lent = sweep::questions::room_of(n, velocity.len(), 2, words, floats);
+    let lent = sweep::questions::room_of(n, velocity.len(), velocity.len(), 2, words, floats);
     sweep::questions::first_missed(o, velocity, valid, lent)
 }
 
@@ -225,7 +227,7 @@ pub extern "C" fn stage_merges(tables: &mut [u32], floats: &mut [f64], e: usize,
     ensures { λ r. ⌜ r ≡ ranNumber (ranOf (settle e (rawNet e v (view e v (now (tables .entry)) (now (floats .entry)))) 0)) ⌝ }
     ensures { λ _. ⌜ (
         let s = view e v (now (tables .entry)) (now (floats .entry)) in
-        RunLeaves e v (gatesIn s) (settle e (rawNet e v s) 0) (now (tables .exit)) (now (floats .exit))
+        RunLeaves e v (gatesIn s) (trace (rawNet e v s) (run e (rawNet e v s))) (settle e (rawNet e v s) 0) (now (tables .exit)) (now (floats .exit))
         ) ⌝ }
 {
     match network::network::merge_all(tables, floats, e, v) {
@@ -234,7 +236,18 @@ pub extern "C" fn stage_merges(tables: &mut [u32], floats: &mut [f64], e: usize,
     }
 }
 
-// The counts of all gates.
+// Whether a difference in folds is doubtful: 1, or 0.
+#[no_mangle]
+pub extern "C" fn stage_doubtful(q: f64) -> u32
+    ensures { λ r. ⌜ r ≡ cond (doubtful q) 1 0 ⌝ }
+{
+    if arithmetic::doubtful::is_doubtful(q) {
+        return 1;
+    }
+    0
+}
+
+// The counts and marks of all gates.
 #[no_mangle]
 pub extern "C" fn stage_output(
     work: &[u32],
@@ -243,11 +256,15 @@ pub extern "C" fn stage_output(
     valid: &[u8],
     centred: u32,
     folds: &mut [i32],
+    doubtful: &mut [u8],
 )
     requires { ⌜ Finishes (now work) n k (now valid) (length (now folds)) ⌝ }
+    requires { ⌜ WritesMarks (now work) n k (length (now doubtful)) ⌝ }
     ensures { λ _. ⌜ now (folds .exit) ≡ countsBy (now (work .entry)) n k (now (valid .entry)) centred ⌝ }
+    ensures { λ _. ⌜ now (doubtful .exit) ≡ marksBy (now (work .entry)) n k ⌝ }
 {
     sweep::sweep::settle(work, n, k, valid, centred, folds);
+    sweep::sweep::write_marks(work, n, k, doubtful);
 }
 
 // All of both work memories zero.

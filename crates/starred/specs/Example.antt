@@ -45,7 +45,7 @@ abbrev echo : ℕ → Bool
 echo g = ltb g 2
 
 abbrev lent : Lent
-lent = record { counts = 8; pair = 2; words = 832; floats = 144 }
+lent = record { counts = 8; doubtful = 8; pair = 2; words = 832; floats = 144 }
 
 -- ---- their answers
 
@@ -56,11 +56,15 @@ folds-counts = negsuc 0 ∷ pos 0 ∷ pos 0 ∷ negsuc 0 ∷ negsuc 0 ∷ pos 0 
 abbrev smooth-counts : List ℤ
 smooth-counts = negsuc 0 ∷ pos 0 ∷ pos 0 ∷ pos 0 ∷ pos 0 ∷ pos 0 ∷ pos 0 ∷ pos 0 ∷ []
 
-folds-off : outcome (folds 0) lent ≡ accepted folds-counts 5 3
+-- no merge of either is doubtful
+abbrev unmarked : List ℕ
+unmarked = 0 ∷ 0 ∷ 0 ∷ 0 ∷ 0 ∷ 0 ∷ 0 ∷ 0 ∷ []
+
+folds-off : outcome (folds 0) lent ≡ accepted folds-counts unmarked 5 3
 unfolding evaluating
 folds-off = refl
 
-smooth-off : outcome (smooth 0) lent ≡ accepted smooth-counts 3 1
+smooth-off : outcome (smooth 0) lent ≡ accepted smooth-counts unmarked 3 1
 unfolding evaluating
 smooth-off = refl
 
@@ -68,11 +72,11 @@ smooth-off = refl
 abbrev folds-centred : List ℤ
 folds-centred = pos 0 ∷ pos 1 ∷ pos 0 ∷ pos 0 ∷ pos 0 ∷ pos 1 ∷ pos 1 ∷ pos 0 ∷ []
 
-folds-on : outcome (folds 1) lent ≡ accepted folds-centred 5 3
+folds-on : outcome (folds 1) lent ≡ accepted folds-centred unmarked 5 3
 unfolding evaluating
 folds-on = refl
 
-smooth-on : outcome (smooth 1) lent ≡ accepted smooth-counts 3 1
+smooth-on : outcome (smooth 1) lent ≡ accepted smooth-counts unmarked 3 1
 unfolding evaluating
 smooth-on = refl
 
@@ -127,15 +131,15 @@ limits-same c = ap (limitsFor (ofInt binary32 (pos 10)) 3) (folds-range c ∙ sy
 alike : (c : ℕ) → Alike echo (folds c) (smooth c)
 alike c = record { shape = refl; splits = refl; centred = refl; nyquist = refl; limits = limits-same c; mask = masks c; vel = λ g h v. velocities c g h }
 
-yes-by : (s : Sweep) (c : List ℤ) (r m : ℕ) → outcome s lent ≡ accepted c r m → Accepted s c
+yes-by : (s : Sweep) (c : List ℤ) (r m : ℕ) → outcome s lent ≡ accepted c unmarked r m → Accepted s c unmarked
 yes-by s c r m h = record { lent = lent; regions = r; merges = m; yes = h }
 
-pub example-off : Agree echo (folds 0) (smooth 0) folds-counts smooth-counts
-example-off = two-sweeps echo (folds 0) (smooth 0) folds-counts smooth-counts (yes-by (folds 0) folds-counts 5 3 folds-off) (yes-by (smooth 0) smooth-counts 3 1 smooth-off) (alike 0)
+pub example-off : Agree echo (folds 0) (smooth 0) folds-counts smooth-counts unmarked unmarked
+example-off = two-sweeps echo (folds 0) (smooth 0) folds-counts smooth-counts unmarked unmarked (yes-by (folds 0) folds-counts 5 3 folds-off) (yes-by (smooth 0) smooth-counts 3 1 smooth-off) (alike 0)
     (folds-apart 0) (smooth-apart 0)
 
-pub example-on : Agree echo (folds 1) (smooth 1) folds-centred smooth-counts
-example-on = two-sweeps echo (folds 1) (smooth 1) folds-centred smooth-counts (yes-by (folds 1) folds-centred 5 3 folds-on) (yes-by (smooth 1) smooth-counts 3 1 smooth-on) (alike 1)
+pub example-on : Agree echo (folds 1) (smooth 1) folds-centred smooth-counts unmarked unmarked
+example-on = two-sweeps echo (folds 1) (smooth 1) folds-centred smooth-counts unmarked unmarked (yes-by (folds 1) folds-centred 5 3 folds-on) (yes-by (smooth 1) smooth-counts 3 1 smooth-on) (alike 1)
     (folds-apart 1) (smooth-apart 1)
 
 -- ---- a merge list
@@ -188,4 +192,4 @@ unfolding evaluating
 list-finds = refl
 
 pub example-list : Does (folds 0) (ownLimits (folds 0)) (1 ∷ 0 ∷ 2 ∷ [])
-example-list = merge-lists echo (folds 0) folds-counts (yes-by (folds 0) folds-counts 5 3 folds-off) (folds-apart 0) (1 ∷ 0 ∷ 2 ∷ []) between
+example-list = merge-lists echo (folds 0) folds-counts unmarked (yes-by (folds 0) folds-counts 5 3 folds-off) (folds-apart 0) (1 ∷ 0 ∷ 2 ∷ []) between

@@ -41,24 +41,26 @@ three w = record {
   mask = 1 ∷ 0 ∷ 1 ∷ [];
 }
 
--- counts and pair lent with 5 in each place, work memory with 7, one word more than is asked for
+-- counts, marks and pair lent with 5 in each place, work memory with 7, one word more than is asked for
 abbrev lent : Sweep → Memory
 lent s = record {
   counts = replicate (gatesIn s) (pos 5);
+  doubtful = replicate (gatesIn s) 5;
   pair = 5 ∷ 5 ∷ [];
   words = replicate (wordsFor (gatesIn s)) 7 ++ (7 ∷ []);
   floats = replicate (floatsFor (gatesIn s)) (real (pos 7)) ++ (real (pos 7) ∷ []);
 }
 
--- a sweep, its answer number, and counts and pair afterwards
+-- a sweep, its answer number, and counts, marks and pair afterwards
 pub record Row : Type 0 where
   pub sweep : Sweep
   pub number : ℕ
   pub counts : List ℤ
+  pub doubtful : List ℕ
   pub pair : List ℕ
 
-abbrev row : Sweep → ℕ → List ℤ → List ℕ → Row
-row s k cs p = record { sweep = s; number = k; counts = cs; pair = p }
+abbrev row : Sweep → ℕ → List ℤ → List ℕ → List ℕ → Row
+row s k cs ds p = record { sweep = s; number = k; counts = cs; doubtful = ds; pair = p }
 
 -- the whole answer: the work memory asked for is zero, the word more as lent
 abbrev answer : Row → Answer
@@ -66,6 +68,7 @@ answer r = record {
   number = r .number;
   memory = record {
     counts = r .counts;
+    doubtful = r .doubtful;
     pair = r .pair;
     words = replicate (wordsFor (gatesIn (r .sweep))) 0 ++ (7 ∷ []);
     floats = replicate (floatsFor (gatesIn (r .sweep))) (real (pos 0)) ++ (real (pos 7) ∷ []);
@@ -74,19 +77,19 @@ answer r = record {
 
 abbrev pub starred : List Row
 starred =
-    row (ray []) 0 [] (0 ∷ 0 ∷ [])
-    ∷ row (ray (pos 9 ∷ negsuc 8 ∷ [])) 0 (negsuc 0 ∷ pos 0 ∷ []) (2 ∷ 1 ∷ [])
-    ∷ row (ray (pos 9 ∷ pos 9 ∷ negsuc 8 ∷ [])) 0 (pos 0 ∷ pos 0 ∷ pos 1 ∷ []) (2 ∷ 1 ∷ [])
-    ∷ row (ray (pos 9 ∷ pos 9 ∷ negsuc 8 ∷ negsuc 8 ∷ pos 9 ∷ [])) 0 (negsuc 0 ∷ negsuc 0 ∷ pos 0 ∷ pos 0 ∷ negsuc 0 ∷ []) (3 ∷ 2 ∷ [])
-    ∷ row (centred (ray (pos 9 ∷ pos 9 ∷ negsuc 8 ∷ negsuc 8 ∷ pos 9 ∷ []))) 0 (pos 0 ∷ pos 0 ∷ pos 1 ∷ pos 1 ∷ pos 0 ∷ []) (3 ∷ 2 ∷ [])
-    ∷ row (centred (ray (pos 9 ∷ pos 9 ∷ negsuc 8 ∷ negsuc 8 ∷ pos 9 ∷ pos 10 ∷ []))) 0 (pos 0 ∷ pos 0 ∷ pos 1 ∷ pos 1 ∷ pos 0 ∷ pos 1 ∷ []) (3 ∷ 2 ∷ [])
-    ∷ row (ray (pos 5 ∷ negsuc 4 ∷ [])) 0 (pos 0 ∷ pos 0 ∷ []) (2 ∷ 1 ∷ [])
-    ∷ row (ray (negsuc 14 ∷ pos 15 ∷ [])) 0 (pos 0 ∷ negsuc 1 ∷ []) (2 ∷ 1 ∷ [])
-    ∷ row (ray (pos 12 ∷ pos 12 ∷ [])) 0 (pos 0 ∷ pos 0 ∷ []) (0 ∷ 0 ∷ [])
-    ∷ row (narrow (ray (negsuc 999 ∷ pos 1000 ∷ []))) 0 (pos 0 ∷ negsuc 999 ∷ []) (2 ∷ 1 ∷ [])
-    ∷ row (narrow (ray (negsuc 1999 ∷ pos 2000 ∷ []))) 9 (pos 5 ∷ pos 5 ∷ []) (5 ∷ 5 ∷ [])
-    ∷ row (three 1) 0 (negsuc 0 ∷ pos 0 ∷ pos 0 ∷ []) (2 ∷ 1 ∷ [])
-    ∷ row (three 0) 0 (pos 0 ∷ pos 0 ∷ pos 0 ∷ []) (2 ∷ 0 ∷ [])
+    row (ray []) 0 [] [] (0 ∷ 0 ∷ [])
+    ∷ row (ray (pos 9 ∷ negsuc 8 ∷ [])) 0 (negsuc 0 ∷ pos 0 ∷ []) (0 ∷ 0 ∷ []) (2 ∷ 1 ∷ [])
+    ∷ row (ray (pos 9 ∷ pos 9 ∷ negsuc 8 ∷ [])) 0 (pos 0 ∷ pos 0 ∷ pos 1 ∷ []) (0 ∷ 0 ∷ 0 ∷ []) (2 ∷ 1 ∷ [])
+    ∷ row (ray (pos 9 ∷ pos 9 ∷ negsuc 8 ∷ negsuc 8 ∷ pos 9 ∷ [])) 0 (negsuc 0 ∷ negsuc 0 ∷ pos 0 ∷ pos 0 ∷ negsuc 0 ∷ []) (0 ∷ 0 ∷ 0 ∷ 0 ∷ 0 ∷ []) (3 ∷ 2 ∷ [])
+    ∷ row (centred (ray (pos 9 ∷ pos 9 ∷ negsuc 8 ∷ negsuc 8 ∷ pos 9 ∷ []))) 0 (pos 0 ∷ pos 0 ∷ pos 1 ∷ pos 1 ∷ pos 0 ∷ []) (0 ∷ 0 ∷ 0 ∷ 0 ∷ 0 ∷ []) (3 ∷ 2 ∷ [])
+    ∷ row (centred (ray (pos 9 ∷ pos 9 ∷ negsuc 8 ∷ negsuc 8 ∷ pos 9 ∷ pos 10 ∷ []))) 0 (pos 0 ∷ pos 0 ∷ pos 1 ∷ pos 1 ∷ pos 0 ∷ pos 1 ∷ []) (0 ∷ 0 ∷ 0 ∷ 0 ∷ 0 ∷ 0 ∷ []) (3 ∷ 2 ∷ [])
+    ∷ row (ray (pos 5 ∷ negsuc 4 ∷ [])) 0 (pos 0 ∷ pos 0 ∷ []) (1 ∷ 0 ∷ []) (2 ∷ 1 ∷ [])
+    ∷ row (ray (negsuc 14 ∷ pos 15 ∷ [])) 0 (pos 0 ∷ negsuc 1 ∷ []) (0 ∷ 1 ∷ []) (2 ∷ 1 ∷ [])
+    ∷ row (ray (pos 12 ∷ pos 12 ∷ [])) 0 (pos 0 ∷ pos 0 ∷ []) (0 ∷ 0 ∷ []) (0 ∷ 0 ∷ [])
+    ∷ row (narrow (ray (negsuc 999 ∷ pos 1000 ∷ []))) 0 (pos 0 ∷ negsuc 999 ∷ []) (0 ∷ 0 ∷ []) (2 ∷ 1 ∷ [])
+    ∷ row (narrow (ray (negsuc 1999 ∷ pos 2000 ∷ []))) 9 (pos 5 ∷ pos 5 ∷ []) (5 ∷ 5 ∷ []) (5 ∷ 5 ∷ [])
+    ∷ row (three 1) 0 (negsuc 0 ∷ pos 0 ∷ pos 0 ∷ []) (0 ∷ 0 ∷ 0 ∷ []) (2 ∷ 1 ∷ [])
+    ∷ row (three 0) 0 (pos 0 ∷ pos 0 ∷ pos 0 ∷ []) (0 ∷ 0 ∷ 0 ∷ []) (2 ∷ 0 ∷ [])
     ∷ []
 
 -- each starred sweep's call gives its answer

@@ -1,4 +1,4 @@
--- The early ends: there is no edge, so the network's merges are none and its counts 0. Assumes nothing.
+-- The early ends: there is no edge, so the network's merges are none, its counts 0 and no region is marked. Assumes nothing.
 use Prim.Native.Nat.{ℕ}
 use mathlib.Core.Path.{_≡_, refl, sym}
 use mathlib.Core.Bool.{Bool, true, false, _||_, true≢false}
@@ -9,8 +9,8 @@ use borrow.Author.Tests.{ltb-true}
 use Rattle.arithmetic.specs.Intervals.{twoNyquist}
 use Rattle.labels.specs.Label.{Found}
 use Rattle.edges.specs.Edges.{Pair, used}
-use Rattle.network.specs.Network.{merges, countOf}
-use Rattle.network.proofs.FewRegions.{used-few, used-none, no-merges, no-counts}
+use Rattle.network.specs.Network.{merges, trace, countOf, markOf}
+use Rattle.network.proofs.FewRegions.{used-few, used-none, no-merges, no-counts, no-marks}
 use Rattle.sweep.specs.Sweep.{Sweep, pairsOf, networkOf, final, none, early}
 
 module _ (s : Sweep) (f : Found) (h : early s f ≡ true) where
@@ -30,3 +30,7 @@ module _ (s : Sweep) (f : Found) (h : early s f ≡ true) where
   pub early-counts : (a : ℕ) → countOf (final (networkOf s f) .regions) a ≡ pos 0
   unfolding final networkOf pairsOf
   early-counts = no-counts (twoNyquist (s .nyquist)) (s .shape) (f .number) (f .labels) (s .vel) used-early
+
+  pub early-marks : (a : ℕ) → markOf (trace (networkOf s f) (merges (networkOf s f))) a ≡ 0
+  unfolding networkOf pairsOf
+  early-marks = no-marks (twoNyquist (s .nyquist)) (s .shape) (f .number) (f .labels) (s .vel) used-early

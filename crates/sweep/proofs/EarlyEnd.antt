@@ -17,10 +17,10 @@ use Rattle.lists.specs.Seq.{tabulate, all}
 use Rattle.arithmetic.specs.Evaluating.{evaluating}
 use Rattle.lists.proofs.SeqLaws.{tab-same}
 use Rattle.labels.specs.Label.{Found}
-use Rattle.network.specs.Network.{alone, start, replay, trace, countOf, gatesOf, networkBy, mergesInRange}
+use Rattle.network.specs.Network.{alone, start, merges, replay, trace, countOf, gatesOf, markOf, networkBy, mergesInRange}
 use Rattle.sweep.specs.Sweep.{Sweep, orZero, sizes, networkOf, final, early, weighed, meanOf, offsetOf, gateCount, ended, finished, unfoldedBy}
 use Rattle.sweep.specs.Questions.{firstNo, answered, asked9}
-use Rattle.sweep.proofs.Early.{early-merges, early-counts}
+use Rattle.sweep.proofs.Early.{early-merges, early-counts, early-marks}
 
 -- ---- a zero divided by anything rounds to 0, or is no number
 
@@ -105,13 +105,16 @@ module _ (s : Sweep) (f : Found) (h : early s f ≡ true) where
       (λ g l. ap (λ (z : ℤ). gateCount z (getD (s .mask) g 0) (countOf (final (networkOf s f) .regions) (getD (f .labels) g 0))) early-offset
       ∙ ap (gateCount (pos 0) (getD (s .mask) g 0)) (early-counts s f h (getD (f .labels) g 0)) ∙ no-count (getD (s .mask) g 0))
 
+  early-none : tabulate (length (s .mask)) (λ g. markOf (trace (networkOf s f) (merges (networkOf s f))) (getD (f .labels) g 0)) ≡ tabulate (length (s .mask)) (λ g. 0)
+  early-none = tab-same (λ g. markOf (trace (networkOf s f) (merges (networkOf s f))) (getD (f .labels) g 0)) (λ g. 0) (length (s .mask)) (λ g l. early-marks s f h (getD (f .labels) g 0))
+
   early-good : mergesInRange (networkOf s f) ≡ true
   unfolding mergesInRange
   early-good = rw (early-merges s f h) (unfold trace all in refl)
 
   early-same : asked9 (finished s f (networkOf s f)) ≡ asked9 (ended s f)
   unfolding finished ended asked9 answered firstNo
-  early-same = rw (early-good, early-merges s f h, early-gates) refl
+  early-same = rw (early-good, early-none, early-merges s f h, early-gates) refl
 
 pub ends-same : (s : Sweep) (f : Found) → asked9 (finished s f (networkOf s f)) ≡ asked9 (unfoldedBy s f)
 unfolding unfoldedBy

@@ -19,17 +19,17 @@ use Rattle.sweep.specs.Entry.{sweepBy}
 use Rattle.sweep.specs.Inside.Finish.{allZero}
 use Rattle.sweep.specs.Inside.Planning.{Fit}
 use Rattle.sweep.specs.declared.questions.Room.{Room}
-use Rattle.sweep.proofs.PassedLaws.{Passed, passed, two-are}
+use Rattle.sweep.proofs.PassedLaws.{Passed, passed, three-are}
 use Rattle.sweep.proofs.WorkLaws as Work
 
 -- an answer with more words behind those of its memory
 abbrev behind : List ℕ → List Float → Answer → Answer
-behind W D x = answerBy (x .number) (x .memory .counts) (x .memory .pair) (x .memory .words ++ W) (x .memory .floats ++ D)
+behind W D x = answerBy (x .number) (x .memory .counts) (x .memory .doubtful) (x .memory .pair) (x .memory .words ++ W) (x .memory .floats ++ D)
 
-end-behind : (o : Outcome) (m : Memory) (W : List ℕ) (D : List Float) → behind W D (ending o m) ≡ ending o (memoryOf (m .counts) (m .pair) (m .words ++ W) (m .floats ++ D))
+end-behind : (o : Outcome) (m : Memory) (W : List ℕ) (D : List Float) → behind W D (ending o m) ≡ ending o (memoryOf (m .counts) (m .doubtful) (m .pair) (m .words ++ W) (m .floats ++ D))
 unfolding ending
 end-behind (refused k) m W D = refl
-end-behind (accepted c r k) m W D = refl
+end-behind (accepted c x r k) m W D = refl
 
 -- a sweep and memory whose questions 1 to 7 got a yes
 module _ (s : Sweep) (m : Memory) (h : firstNo (sevenOf s (lengths m)) ≡ none) where
@@ -63,14 +63,14 @@ module _ (o : Options) (p : Plan) (vel : List Float) (mask : List ℕ) (m : Memo
     floats = omega (arith, ed);
   }
 
-  pub outputs : (length (m .counts) ≡ length vel) × (length (m .pair) ≡ 2)
+  pub outputs : (length (m .counts) ≡ length vel) × (length (m .doubtful) ≡ length vel) × (length (m .pair) ≡ 2)
   unfolding room lengths gatesIn
   outputs =
-      let q = two-are (length (m .counts)) (gatesIn s) (length (m .pair)) 2 (known s m h .own) in
-      (q .0 ∙ sym (known s m h .vel), q .1)
+      let q = three-are (length (m .counts)) (gatesIn s) (length (m .doubtful)) (gatesIn s) (length (m .pair)) 2 (known s m h .own) in
+      (q .0 ∙ sym (known s m h .vel), q .1 ∙ sym (known s m h .vel), q .2)
 
   pub solved-ends : (w : List ℕ) (d : List Float) → length w ≡ 96 * length vel + 64 → length d ≡ 16 * length vel + 16 → (x : Answer)
-      → x ≡ ending (asked9 (unfolded s (limitsBy o p))) (allZero (memoryOf (m .counts) (m .pair) w d))
+      → x ≡ ending (asked9 (unfolded s (limitsBy o p))) (allZero (memoryOf (m .counts) (m .doubtful) (m .pair) w d))
       → (W : List ℕ) (D : List Float) → W ≡ drop (96 * length vel + 64) (m .words) → D ≡ drop (16 * length vel + 16) (m .floats)
       → behind W D x ≡ ending (asked9 (unfolded s (limitsBy o p))) (clearedFor (gatesIn s) m)
   unfolding clearedFor
@@ -79,5 +79,5 @@ module _ (o : Options) (p : Plan) (vel : List Float) (mask : List ℕ) (m : Memo
       let cw = Work.cleared-is 0 (96 * length vel + 64) (wordsFor (gatesIn s)) (replicate (length w) 0) W (m .words) (Work.words-asked s (lentRoom s m h) (known s m h)) (ap (λ (n : ℕ). replicate n 0) ew) eW in
       let cd = Work.cleared-is (real (pos 0)) (16 * length vel + 16) (floatsFor (gatesIn s)) (replicate (length d) (real (pos 0))) D (m .floats) (Work.floats-asked s (lentRoom s m h) (known s m h)) (ap (λ (n : ℕ). replicate n (real (pos 0))) ed) eD in
       ap (behind W D) e
-      ∙ end-behind y (allZero (memoryOf (m .counts) (m .pair) w d)) W D
-      ∙ (λ i. ending y (memoryOf (m .counts) (m .pair) (cw i) (cd i)))
+      ∙ end-behind y (allZero (memoryOf (m .counts) (m .doubtful) (m .pair) w d)) W D
+      ∙ (λ i. ending y (memoryOf (m .counts) (m .doubtful) (m .pair) (cw i) (cd i)))

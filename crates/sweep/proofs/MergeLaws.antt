@@ -1,8 +1,8 @@
--- From what finding leaves in the work memory to the counts and the pair of the definition. Assumes nothing.
+-- From what finding leaves in the work memory to the counts, the marks and the pair of the definition. Assumes nothing.
 use Prim.Native.Nat.{ℕ, zero, suc, _+_, _*_, _≤_, _<_}
 use native.Mathlib.Omega.{arith}
 use mathlib.Core.Path.{_≡_, refl, sym, ap, _∙_, subst}
-use mathlib.Core.Bool.{Bool, true, false, cond, true≢false}
+use mathlib.Core.Bool.{Bool, true, false, not, _&&_, cond, true≢false}
 use mathlib.Core.List.{List, [], _∷_}
 use lib.Dec.{eqb}
 use lib.IntN.{ℤ, pos, subℕ}
@@ -15,10 +15,10 @@ use Rattle.arithmetic.specs.Intervals.{twoNyquist}
 use Rattle.lists.proofs.SeqLaws.{tab-at, tab-same, keep-same}
 use Rattle.lists.proofs.SegLaws.{getD-seg}
 use Rattle.labels.specs.Label.{Found}
-use Rattle.network.specs.Network.{State, sizeIn, replay, merges, countOf, gatesOf, networkBy, mergesInRange}
+use Rattle.network.specs.Network.{State, Event, sizeIn, replay, merges, trace, countOf, gatesOf, marked, markOf, networkBy, mergesInRange}
 use Rattle.edges.specs.Edges.{pairs, used}
 use Rattle.merge.specs.Inside.Steps.{unbias}
-use Rattle.memory.specs.Inside.Layout.{sizesAt, countsAt}
+use Rattle.memory.specs.Inside.Layout.{sizesAt, countsAt, marksAt}
 use Rattle.memory.specs.Size.{gatesOfLargest}
 use Rattle.network.specs.Inside.Find.{shapeOf, networkFor, findingOf, Leaves}
 use Rattle.network.proofs.Settles.{ran-no, ran-yes}
@@ -31,7 +31,7 @@ use Rattle.sweep.specs.Questions.{Outcome, firstNo, answered, asked9}
 use Rattle.sweep.specs.Call.{ending}
 use Rattle.sweep.specs.Entry.{sweepBy}
 use Rattle.sweep.specs.Inside.Mean.{sumFrom, sizeAt, heldAt}
-use Rattle.sweep.specs.Inside.Finish.{offsetBy, countsBy, Finishes, WritesFound, lent, written}
+use Rattle.sweep.specs.Inside.Finish.{offsetBy, countsBy, marksBy, WritesMarks, Finishes, WritesFound, lent, written}
 use Rattle.sweep.proofs.MergeNumber.{merges-most, parts-few}
 use Rattle.sweep.proofs.MeanLaws.{weighed-is, gates-is, last-labels, last-sizes}
 use Rattle.sweep.proofs.EarlyEnd.{ends-same}
@@ -53,6 +53,15 @@ sizes-few L i k = omega (arith, sum-same (sizeIn L) (λ l. length (keep (λ (x :
 
     size-is : (l : ℕ) → sizeIn L l ≡ length (keep (λ (x : ℕ). eqb x l) L)
     size-is l = unfold sizeIn in ap length (keep-same (eqb l) (λ (x : ℕ). eqb x l) L (λ x. turned l x (eqb x l) refl))
+
+-- a mark is 0 or 1
+mark-most : (vs : List Event) (l : ℕ) → markOf vs l ≤ 1
+unfolding markOf
+mark-most vs l = go (not (eqb l 0) && marked vs l)
+  where
+    go : (b : Bool) → cond b 1 0 ≤ 1
+    go true = omega arith
+    go false = omega arith
 
 -- ---- what was found
 
@@ -127,9 +136,18 @@ module _ (o : Options) (vel : List Float) (mask : List ℕ) (F : Found) (n : ℕ
     label = label-most;
   })
 
-  pub ready : (c two : ℕ) → c ≡ n → two ≡ 2 → WritesFound x v mask c two
-  ready c two ec et = record {
+  marks-ask : mergesInRange t ≡ true → (m : ℕ) → m ≡ n → (b : ℕ) → b ≡ n → WritesMarks v m k b
+  marks-ask g m em b eb = subst (λ (z : ℕ). WritesMarks v z k b) (sym em) (record {
+    room = omega (arith, few, room);
+    bytes = eb;
+    label = label-most;
+    most = λ l h. omega (arith, R .tables .marks g l h, mark-most (trace t (merges t)) l);
+  })
+
+  pub ready : (c b two : ℕ) → c ≡ n → b ≡ n → two ≡ 2 → WritesFound x v mask c b two
+  ready c b two ec eb et = record {
     tables = λ r e. subst (λ (z : ℕ). Finishes v (length mask) z mask c) (sym (ap (λ (y : Run). y .regions) (run-is r e))) (finishes (good-if r e) (length mask) masks c ec);
+    marks = λ r e. subst (λ (z : ℕ). WritesMarks v (length mask) z b) (sym (ap (λ (y : Run). y .regions) (run-is r e))) (marks-ask (good-if r e) (length mask) masks b eb);
     few = λ r e. (
       omega (arith, ap (λ (y : Run). y .regions) (run-is r e), few, small),
       omega (arith, ap (λ (y : Run). y .merges) (run-is r e), merges-most (twoNyquist (o .nyquist)) (shapeOf o) k L vel, long, small),
@@ -175,25 +193,35 @@ module _ (o : Options) (vel : List Float) (mask : List ℕ) (F : Found) (n : ℕ
         (λ g h. ap (gateCount off (getD mask g 0)) (R .tables .counts good (getD v g 0) (label-most g h) ∙ ap (countOf (replay t (merges t) .regions)) (label-at g h)))
         ∙ ap (λ (m : ℕ). tabulate m (λ g. gateCount off (getD mask g 0) (countOf (replay t (merges t) .regions) (getD L g 0)))) (sym masks)
 
-    written-good : (cs : List ℤ) (p : List ℕ) → written x v mask (o .centred) cs p ≡ ending (asked9 (finished s F t)) (lent cs p)
-    written-good cs p =
-        ap (λ (y : Finding). written y v mask (o .centred) cs p) (found-yes good)
-        ∙ ap (λ (y : List ℤ). record { number = 0; memory = lent y (k ∷ length (merges t) ∷ []) }) counts-are ∙ sym (accepted-end good)
+    marks-are : marksBy v (length mask) k ≡ tabulate (length mask) (λ g. markOf (trace t (merges t)) (getD L g 0))
+    marks-are =
+        ap (λ (m : ℕ). marksBy v m k) masks
+        ∙ tab-same (λ g. getD v (marksAt n k + getD v g 0) 0) (λ g. markOf (trace t (merges t)) (getD L g 0)) n
+        (λ g h. R .tables .marks good (getD v g 0) (label-most g h) ∙ ap (markOf (trace t (merges t))) (label-at g h))
+        ∙ ap (λ (m : ℕ). tabulate m (λ g. markOf (trace t (merges t)) (getD L g 0))) (sym masks)
+
+    written-good : (cs : List ℤ) (ds p : List ℕ) → written x v mask (o .centred) cs ds p ≡ ending (asked9 (finished s F t)) (lent cs ds p)
+    written-good cs ds p =
+        ap (λ (y : Finding). written y v mask (o .centred) cs ds p) (found-yes good)
+        ∙ (λ i. record { number = 0; memory = lent (counts-are i) (marks-are i) (k ∷ length (merges t) ∷ []) }) ∙ sym (accepted-end good)
       where
-        accepted-end : mergesInRange t ≡ true
-            → ending (asked9 (finished s F t)) (lent cs p) ≡ record { number = 0; memory = lent (tabulate (length mask) (λ g. gateCount (offsetOf s (final t)) (getD mask g 0) (countOf (final t .regions) (getD L g 0)))) (k ∷ length (merges t) ∷ []) }
+        accepted-end : mergesInRange t ≡ true → ending (asked9 (finished s F t)) (lent cs ds p) ≡ record {
+          number = 0;
+          memory = lent (tabulate (length mask) (λ g. gateCount (offsetOf s (final t)) (getD mask g 0) (countOf (final t .regions) (getD L g 0))))
+              (tabulate (length mask) (λ g. markOf (trace t (merges t)) (getD L g 0))) (k ∷ length (merges t) ∷ []);
+        }
         accepted-end e = unfold ending asked9 answered firstNo finished in rw e refl
 
-  written-bad : mergesInRange t ≡ false → (cs : List ℤ) (p : List ℕ) → written x v mask (o .centred) cs p ≡ ending (asked9 (finished s F t)) (lent cs p)
-  written-bad e cs p = ap (λ (y : Finding). written y v mask (o .centred) cs p) (found-no e) ∙ sym (refused-end e)
+  written-bad : mergesInRange t ≡ false → (cs : List ℤ) (ds p : List ℕ) → written x v mask (o .centred) cs ds p ≡ ending (asked9 (finished s F t)) (lent cs ds p)
+  written-bad e cs ds p = ap (λ (y : Finding). written y v mask (o .centred) cs ds p) (found-no e) ∙ sym (refused-end e)
     where
-      refused-end : mergesInRange t ≡ false → ending (asked9 (finished s F t)) (lent cs p) ≡ record { number = 9; memory = lent cs p }
+      refused-end : mergesInRange t ≡ false → ending (asked9 (finished s F t)) (lent cs ds p) ≡ record { number = 9; memory = lent cs ds p }
       refused-end e = unfold ending asked9 answered firstNo finished in rw e refl
 
-  pub written-is : (cs : List ℤ) (p : List ℕ) → written x v mask (o .centred) cs p ≡ ending (asked9 (unfoldedBy s F)) (lent cs p)
-  written-is cs p =
-      go (mergesInRange t) refl ∙ (unfold networkOf in ap (λ (y : Outcome). ending y (lent cs p)) (ends-same s F))
+  pub written-is : (cs : List ℤ) (ds p : List ℕ) → written x v mask (o .centred) cs ds p ≡ ending (asked9 (unfoldedBy s F)) (lent cs ds p)
+  written-is cs ds p =
+      go (mergesInRange t) refl ∙ (unfold networkOf in ap (λ (y : Outcome). ending y (lent cs ds p)) (ends-same s F))
     where
-      go : (b : Bool) → mergesInRange t ≡ b → written x v mask (o .centred) cs p ≡ ending (asked9 (finished s F t)) (lent cs p)
-      go true e = written-good e cs p
-      go false e = written-bad e cs p
+      go : (b : Bool) → mergesInRange t ≡ b → written x v mask (o .centred) cs ds p ≡ ending (asked9 (finished s F t)) (lent cs ds p)
+      go true e = written-good e cs ds p
+      go false e = written-bad e cs ds p

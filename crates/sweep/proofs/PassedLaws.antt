@@ -15,7 +15,7 @@ use Rattle.memory.specs.Size.{largest, gatesOfLargest}
 use Rattle.lists.specs.Seq.{all}
 use Rattle.arithmetic.specs.Intervals.{valid, nyquistInRange, velocityInRange}
 use Rattle.arithmetic.specs.Inside.Asked.{Asked}
-use Rattle.arithmetic.proofs.Plans.{T-of}
+use Rattle.arithmetic.proofs.RangeLaws.{T-of}
 use Rattle.lists.proofs.AllLaws.{and-left, and-right, and-three}
 use Rattle.sweep.specs.Sweep.{Sweep, Unfolded, unfolded}
 use Rattle.sweep.specs.Questions.{
@@ -180,6 +180,9 @@ module _ (s : Sweep) (r : Room) where
 -- two slices as long as they are to be
 pub two-are : (a n b m : ℕ) → (eqb a n && eqb b m) ≡ true → (a ≡ n) × (b ≡ m)
 two-are a n b m h = (eqb-true a n (and-left (eqb a n) (eqb b m) h), eqb-true b m (and-right (eqb a n) (eqb b m) h))
+
+pub three-are : (a n b m c l : ℕ) → (eqb a n && eqb b m && eqb c l) ≡ true → (a ≡ n) × (b ≡ m) × (c ≡ l)
+three-are a n b m c l h = let q = two-are a n b m (and-left (eqb a n && eqb b m) (eqb c l) h) in (q .0, q .1, eqb-true c l (and-right (eqb a n && eqb b m) (eqb c l) h))
 
 module _ (s : Sweep) (l : Lent) where
   pub missed-none : answerOf (firstMissed s l) ≡ 0 → firstMissed s l ≡ none

@@ -19,14 +19,14 @@ use Rattle.sweep.specs.Entry.{sweepBy}
 use Rattle.sweep.specs.Inside.Finish.{WritesFound, lent, written, allZero}
 use Rattle.sweep.proofs.MergeLaws as M
 
--- counts and pair of an answer, with these work memories
+-- counts, marks and pair of an answer, with these work memories
 abbrev in-memory : List ℕ → List Float → Answer → Answer
-in-memory W D x = answerBy (x .number) (x .memory .counts) (x .memory .pair) W D
+in-memory W D x = answerBy (x .number) (x .memory .counts) (x .memory .doubtful) (x .memory .pair) W D
 
-end-in : (o : Outcome) (cs : List ℤ) (p W : List ℕ) (D : List Float) → in-memory W D (ending o (lent cs p)) ≡ ending o (memoryOf cs p W D)
+end-in : (o : Outcome) (cs : List ℤ) (ds p W : List ℕ) (D : List Float) → in-memory W D (ending o (lent cs ds p)) ≡ ending o (memoryOf cs ds p W D)
 unfolding ending
-end-in (refused k) cs p W D = refl
-end-in (accepted c r k) cs p W D = refl
+end-in (refused k) cs ds p W D = refl
+end-in (accepted c x r k) cs ds p W D = refl
 
 module _ (o : Options) (p : Plan) (vel : List Float) (mask w : List ℕ) (d : List Float) (q : Finds o p vel mask w d) (v : List ℕ) (x : Finding) (same : length v ≡ length w)
     (R : Leaves (regionsBy o p vel mask) (networkFor o (regionsBy o p vel mask) vel) (length vel) v x) where
@@ -39,15 +39,15 @@ module _ (o : Options) (p : Plan) (vel : List Float) (mask w : List ℕ) (d : Li
   long : length (regionsBy o p vel mask .labels) ≡ length vel
   long = labels-long (o .gates) vel mask (limitsBy o p) ∙ q .limited .masks
 
-  pub write-asks : (c two : ℕ) → c ≡ length vel → two ≡ 2 → WritesFound x v mask c two
+  pub write-asks : (c b two : ℕ) → c ≡ length vel → b ≡ length vel → two ≡ 2 → WritesFound x v mask c b two
   write-asks = M.ready o vel mask (regionsBy o p vel mask) (length vel) v x R (q .limited .masks) (q .limited .small) room few long (label-at-most (o .gates) vel mask (limitsBy o p) (q .limited .rising))
 
-  pub solved-is : (r : ℕ) (cs cs' : List ℤ) (ps ps' W : List ℕ) (D : List Float) → _≡_ {A = Answer} (record { number = r; memory = lent cs' ps' }) (written x v mask (o .centred) cs ps)
+  pub solved-is : (r : ℕ) (cs cs' : List ℤ) (ds ds' ps ps' W : List ℕ) (D : List Float) → _≡_ {A = Answer} (record { number = r; memory = lent cs' ds' ps' }) (written x v mask (o .centred) cs ds ps)
       → W ≡ replicate (length w) 0 → D ≡ replicate (length d) (real (pos 0))
-      → answerBy r cs' ps' W D ≡ ending (asked9 (unfolded (sweepBy o vel mask) (limitsBy o p))) (allZero (memoryOf cs ps w d))
+      → answerBy r cs' ds' ps' W D ≡ ending (asked9 (unfolded (sweepBy o vel mask) (limitsBy o p))) (allZero (memoryOf cs ds ps w d))
   unfolding unfolded regionsOf
-  solved-is r cs cs' ps ps' W D e g h =
+  solved-is r cs cs' ds ds' ps ps' W D e g h =
       let y : Outcome = asked9 (unfoldedBy (sweepBy o vel mask) (regionsBy o p vel mask)) in
-      ap (in-memory W D) (e ∙ M.written-is o vel mask (regionsBy o p vel mask) (length vel) v x R (q .limited .masks) (q .limited .small) room few long (label-at-most (o .gates) vel mask (limitsBy o p) (q .limited .rising)) cs ps)
-      ∙ end-in y cs ps W D
-      ∙ (λ i. ending y (memoryOf cs ps (g i) (h i)))
+      ap (in-memory W D) (e ∙ M.written-is o vel mask (regionsBy o p vel mask) (length vel) v x R (q .limited .masks) (q .limited .small) room few long (label-at-most (o .gates) vel mask (limitsBy o p) (q .limited .rising)) cs ds ps)
+      ∙ end-in y cs ds ps W D
+      ∙ (λ i. ending y (memoryOf cs ds ps (g i) (h i)))

@@ -27,9 +27,10 @@ unfoldable pub firstNo : List Question → Option ℕ
 firstNo [] = none
 firstNo (q ∷ qs) = elim (q .yes) [ true ↦ firstNo qs | false ↦ some (q .number) ]
 
--- how long the slices lent are: counts, pair, work memory
+-- how long the slices lent are: counts, marks, pair, work memory
 pub record Lent : Type 0 where
   pub counts : ℕ
+  pub doubtful : ℕ
   pub pair : ℕ
   pub words : ℕ
   pub floats : ℕ
@@ -99,9 +100,9 @@ seven s r =
 abbrev pub eight : Sweep → Room → List Question
 eight s r = seven s r ++ (ask 8 (limitsFew s) ∷ [])
 
--- the sweep entry's own part of question 2 is the counts and the pair
+-- the sweep entry's own part of question 2 is the counts, the marks and the pair
 unfoldable pub room : ℕ → Lent → Room
-room n l = record { own = eqb (l .counts) n && eqb (l .pair) 2; words = l .words; floats = l .floats }
+room n l = record { own = eqb (l .counts) n && eqb (l .doubtful) n && eqb (l .pair) 2; words = l .words; floats = l .floats }
 
 -- questions 1 to 7 of the sweep entry
 abbrev pub sevenOf : Sweep → Lent → List Question
@@ -123,14 +124,14 @@ asked s l = firstNo (eightOf s l)
 unfoldable pub firstMissed : Sweep → Lent → Option ℕ
 firstMissed s l = firstNo (nineOf s l)
 
--- the answer: a refusal by its number, or the counts, regions and number of merges
+-- the answer: a refusal by its number, or the counts, marks, regions and number of merges
 pub data Outcome : Type 0 where
   refused : ℕ → Outcome
-  accepted : List ℤ → ℕ → ℕ → Outcome
+  accepted : List ℤ → List ℕ → ℕ → ℕ → Outcome
 
 -- the answer by the first no
 unfoldable pub answered : Option ℕ → Unfolded → Outcome
-answered none u = accepted (u .counts) (u .regions) (length (u .merges))
+answered none u = accepted (u .counts) (u .doubtful) (u .regions) (length (u .merges))
 answered (some k) u = refused k
 
 -- the answer of a call

@@ -1,5 +1,5 @@
--- sweep.rs: the counts of a sweep by given limits.
-use Prim.Native.Nat.{ℕ, _+_, _*_}
+-- sweep.rs: the counts of a sweep by given limits, and the marks of its doubtful merges.
+use Prim.Native.Nat.{ℕ}
 use mathlib.Core.Bool.{Bool, true, false, cond, _||_}
 use mathlib.Core.List.{List, [], _∷_, map}
 use lib.Dec.{eqb, ltb}
@@ -15,7 +15,7 @@ use Rattle.labels.specs.Label.{Found}
 use Rattle.labels.specs.Regions.{regions}
 use Rattle.edges.specs.Edges.{Pair, pairs}
 use Rattle.edges.specs.declared.edges.Shape.{Shape}
-use Rattle.network.specs.Network.{Region, State, gatesOf, sizeIn, merges, mergesInRange, replay, countOf, networkBy}
+use Rattle.network.specs.Network.{Region, State, gatesOf, sizeIn, merges, mergesInRange, replay, trace, countOf, markOf, networkBy}
 
 -- the inputs of a call, but for what is lent
 pub record Sweep : Type 0 where
@@ -69,17 +69,25 @@ orZero Outside = pos 0
 unfoldable pub meanOf : List Region → ℤ
 meanOf rs = orZero (roundEven (div binary64 (real (weighed rs)) (real (pos (gatesOf rs)))))
 
--- regions found, merges in order, each region's count, the offset, the gates' counts, and whether question 9 gets a yes at each merge
+-- regions found, merges in order, the offset, the gates' counts and marks, and whether question 9 gets a yes at each merge
 pub record Unfolded : Type 0 where
   pub regions : ℕ
   pub merges : List ℕ
   pub offset : ℤ
   pub counts : List ℤ
+  pub doubtful : List ℕ
   pub mergesInRange : Bool
 
--- an early end: all counts 0
+-- an early end: all counts and marks 0
 unfoldable pub ended : Sweep → Found → Unfolded
-ended s f = record { regions = f .number; merges = []; offset = pos 0; counts = tabulate (length (s .mask)) (λ g. pos 0); mergesInRange = true }
+ended s f = record {
+  regions = f .number;
+  merges = [];
+  offset = pos 0;
+  counts = tabulate (length (s .mask)) (λ g. pos 0);
+  doubtful = tabulate (length (s .mask)) (λ g. 0);
+  mergesInRange = true;
+}
 
 -- the count of a gate with mask byte m and its region's count c; a masked gate gets 0
 unfoldable pub gateCount : ℤ → ℕ → ℤ → ℤ
@@ -96,6 +104,7 @@ finished s f n = record {
   merges = merges n;
   offset = offsetOf s (final n);
   counts = tabulate (length (s .mask)) (λ g. gateCount (offsetOf s (final n)) (getD (s .mask) g 0) (countOf (final n .regions) (getD (f .labels) g 0)));
+  doubtful = tabulate (length (s .mask)) (λ g. markOf (trace n (merges n)) (getD (f .labels) g 0));
   mergesInRange = mergesInRange n;
 }
 

@@ -68,16 +68,17 @@ fn unfold_sweep(
     velocity: &[f32],
     valid: &[u8],
     folds: &mut [i32],
+    doubtful: &mut [u8],
     pair: &mut [u32],
     words: &mut [u32],
     floats: &mut [f64],
 ) -> u32
-    requires { ⌜ firstNo (sevenOf (sweepBy o (now velocity) (now valid)) (lengths (memoryOf (now folds) (now pair) (now words) (now floats)))) ≡ none ⌝ }
+    requires { ⌜ firstNo (sevenOf (sweepBy o (now velocity) (now valid)) (lengths (memoryOf (now folds) (now doubtful) (now pair) (now words) (now floats)))) ≡ none ⌝ }
     requires { ⌜ Fit o p ⌝ }
     ensures { λ r. ⌜ (
         let s = sweepBy o (now (velocity .entry)) (now (valid .entry)) in
-        let m = memoryOf (now (folds .entry)) (now (pair .entry)) (now (words .entry)) (now (floats .entry)) in
-        answerBy r (now (folds .exit)) (now (pair .exit)) (now (words .exit)) (now (floats .exit))
+        let m = memoryOf (now (folds .entry)) (now (doubtful .entry)) (now (pair .entry)) (now (words .entry)) (now (floats .entry)) in
+        answerBy r (now (folds .exit)) (now (doubtful .exit)) (now (pair .exit)) (now (words .exit)) (now (floats .exit))
         ≡ ending (asked9 (unfolded s (limitsBy o p))) (clearedFor (gatesIn s) m)
         ) ⌝ }
 {
@@ -90,32 +91,51 @@ fn unfold_sweep(
         velocity,
         valid,
         folds,
+        doubtful,
         pair,
         &mut words[0..w],
         &mut floats[0..d],
     )
 }
 
-// A sweep's fold counts, with the numbers of regions and of merges.
+// A sweep's fold counts and the marks of its doubtful merges, with the numbers of regions and of merges.
 pub fn dealias_sweep(
     o: network::options::Options,
     velocity: &[f32],
     valid: &[u8],
     folds: &mut [i32],
+    doubtful: &mut [u8],
     pair: &mut [u32],
     words: &mut [u32],
     floats: &mut [f64],
 ) -> u32
     ensures { λ r. ⌜ (
-        let m = memoryOf (now (folds .entry)) (now (pair .entry)) (now (words .entry)) (now (floats .entry)) in
-        answerBy r (now (folds .exit)) (now (pair .exit)) (now (words .exit)) (now (floats .exit))
+        let m = memoryOf (now (folds .entry)) (now (doubtful .entry)) (now (pair .entry)) (now (words .entry)) (now (floats .entry)) in
+        answerBy r (now (folds .exit)) (now (doubtful .exit)) (now (pair .exit)) (now (words .exit)) (now (floats .exit))
         ≡ call (sweepBy o (now (velocity .entry)) (now (valid .entry))) m
         ) ⌝ }
 {
     let n = crate::questions::gates_in(o.rays, o.gates);
-    let lent = crate::questions::room_of(n, folds.len(), pair.len(), words.len(), floats.len());
+    let lent = crate::questions::room_of(
+        n,
+        folds.len(),
+        doubtful.len(),
+        pair.len(),
+        words.len(),
+        floats.len(),
+    );
     match plan_sweep(o, velocity, valid, lent) {
-        Planning::Limits(p) => unfold_sweep(o, p, velocity, valid, folds, pair, words, floats),
+        Planning::Limits(p) => unfold_sweep(
+            o,
+            p,
+            velocity,
+            valid,
+            folds,
+            doubtful,
+            pair,
+            words,
+            floats,
+        ),
         Planning::Missed(k) => k,
     }
 }

@@ -170,12 +170,19 @@ pub struct Room {
     pub floats: usize,
 }
 
-// The sweep entry's own slices are the counts and the pair, n being the gates that the sweep should have.
-pub fn room_of(n: usize, counts: usize, pair: usize, words: usize, floats: usize) -> Room
-    ensures { λ r. ⌜ r ≡ room n (record { counts = counts; pair = pair; words = words; floats = floats }) ⌝ }
+// The sweep entry's own slices are the counts, the marks and the pair, n being the gates that the sweep should have.
+pub fn room_of(
+    n: usize,
+    counts: usize,
+    doubtful: usize,
+    pair: usize,
+    words: usize,
+    floats: usize,
+) -> Room
+    ensures { λ r. ⌜ r ≡ room n (record { counts = counts; doubtful = doubtful; pair = pair; words = words; floats = floats }) ⌝ }
 {
     Room {
-        own: two_long(counts, n, pair, 2),
+        own: two_long(counts, n, doubtful, n) && pair == 2,
         words: words,
         floats: floats,
     }

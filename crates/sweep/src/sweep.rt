@@ -16,7 +16,7 @@ ghost use Rattle.sweep.specs.Inside.Mean.{sumFrom, sizeAt, heldAt, Table
 ghost use Rattle.sweep.specs.Questions.{asked9};
 ghost use Rattle.sweep.specs.Call.{ending, memoryOf, answerBy};
 ghost use Rattle.sweep.specs.Entry.{sweepBy};
-ghost use Rattle.sweep.specs.Inside.Finish.{offsetBy, countsBy, Finishes, WritesFound, lent, written, allZero};
+ghost use Rattle.sweep.specs.Inside.Finish.{offsetBy, countsBy, marksBy, WritesMarks, Finishes, WritesFound, lent, written, allZero};
 
 // Counts are kept with 1,000 added (layout::ZERO): the word of 0, for sums and for signed numbers.
 const ZERO_U64: u64 = 1000;
@@ -117,25 +117,40 @@ pub fn settle(w: &[u32], n: usize, k: usize, valid: &[u8], centred: u32, folds: 
     write_folds(w, n, k, valid, offset, folds);
 }
 
-// What was found, written: counts and pair, or nothing where question 9 refused. The answer's number.
+// The marks of all gates: labels are the first n words, marks lie in their table.
+pub fn write_marks(w: &[u32], n: usize, k: usize, doubtful: &mut [u8])
+    requires { ⌜ WritesMarks (now w) n k (length (now doubtful)) ⌝ }
+    ensures { λ _. ⌜ now (doubtful .exit) ≡ marksBy (now (w .entry)) n k ⌝ }
+{
+    let mut g = 0;
+    while g < n {
+        let l = w[g] as usize;
+        doubtful[g] = w[n + (k + 1) + (k + 1) + l] as u8;
+        g += 1;
+    }
+}
+
+// What was found, written: counts, marks and pair, or nothing where question 9 refused. The answer's number.
 fn write(
     f: network::find::Finding,
     centred: u32,
     valid: &[u8],
     w: &[u32],
     folds: &mut [i32],
+    doubtful: &mut [u8],
     pair: &mut [u32],
 ) -> u32
-    requires { ⌜ WritesFound f (now w) (now valid) (length (now folds)) (length (now pair)) ⌝ }
+    requires { ⌜ WritesFound f (now w) (now valid) (length (now folds)) (length (now doubtful)) (length (now pair)) ⌝ }
     ensures { λ r. ⌜
-        record { number = r; memory = lent (now (folds .exit)) (now (pair .exit)) }
-        ≡ written f (now (w .entry)) (now (valid .entry)) centred (now (folds .entry)) (now (pair .entry))
+        record { number = r; memory = lent (now (folds .exit)) (now (doubtful .exit)) (now (pair .exit)) }
+        ≡ written f (now (w .entry)) (now (valid .entry)) centred (now (folds .entry)) (now (doubtful .entry)) (now (pair .entry))
         ⌝ }
 {
     match f {
         network::find::Finding::Regions(r) => {
             let n = valid.len();
             settle(w, n, r.regions, valid, centred, folds);
+            write_marks(w, n, r.regions, doubtful);
             write_pair(pair, r.regions, r.merges);
             0
         }
@@ -171,21 +186,22 @@ pub fn solve(
     velocity: &[f32],
     valid: &[u8],
     folds: &mut [i32],
+    doubtful: &mut [u8],
     pair: &mut [u32],
     words: &mut [u32],
     floats: &mut [f64],
 ) -> u32
     requires { ⌜ Finds o p (now velocity) (now valid) (now words) (now floats) ⌝ }
-    requires { ⌜ (length (now folds) ≡ length (now velocity)) × (length (now pair) ≡ 2) ⌝ }
+    requires { ⌜ (length (now folds) ≡ length (now velocity)) × (length (now doubtful) ≡ length (now velocity)) × (length (now pair) ≡ 2) ⌝ }
     ensures { λ r. ⌜ (
         let s = sweepBy o (now (velocity .entry)) (now (valid .entry)) in
-        let m = memoryOf (now (folds .entry)) (now (pair .entry)) (now (words .entry)) (now (floats .entry)) in
-        answerBy r (now (folds .exit)) (now (pair .exit)) (now (words .exit)) (now (floats .exit))
+        let m = memoryOf (now (folds .entry)) (now (doubtful .entry)) (now (pair .entry)) (now (words .entry)) (now (floats .entry)) in
+        answerBy r (now (folds .exit)) (now (doubtful .exit)) (now (pair .exit)) (now (words .exit)) (now (floats .exit))
         ≡ ending (asked9 (unfolded s (limitsBy o p))) (allZero m)
         ) ⌝ }
 {
     let f = network::find::find(o, p, velocity, valid, words, floats);
-    let r = write(f, o.centred, valid, words, folds, pair);
+    let r = write(f, o.centred, valid, words, folds, doubtful, pair);
     clear(words, floats);
     r
 }

@@ -5,7 +5,7 @@
 --   pairing            labels n, gates of the pairs 4n, gates that these see 4n, whether the look was bridged in the lowest bit of either
 --   sorting            the same, then from 9n: order m, spare m, first labels m, second labels m, tallies v
 --   gathering          the same pairs and order, then from 13n: the edges' weights, ends and bridged pairs, in their tables
---   merging            labels n, sizes v, counts v, then from 13n the tables of edges and nodes
+--   merging            labels n, sizes v, counts v, marks v, then from 13n the tables of edges and nodes
 -- The floats: the edges' differences, from 0 on.
 use Prim.Native.Nat.{ℕ, _+_, _*_, _≤_}
 use mathlib.Core.List.{List, [], _∷_}
@@ -47,6 +47,10 @@ sizesAt n = n
 unfoldable pub countsAt : ℕ → ℕ → ℕ
 countsAt n k = n + (k + 1)
 
+-- where their marks begin
+unfoldable pub marksAt : ℕ → ℕ → ℕ
+marksAt n k = n + (k + 1) + (k + 1)
+
 -- where the tables of edges and nodes begin
 unfoldable pub tablesAt : ℕ → ℕ
 tablesAt n = 13 * n
@@ -74,7 +78,7 @@ bridgedAt e = 5 * e
 abbrev pub enextAt : ℕ → ℕ
 enextAt e = 6 * e
 
--- of each node: the next region of its chain, its stamp, its size, the lengths of its two chains, its count
+-- of each node: the next region of its chain, its stamp, its size, the lengths of its two chains, its count, its mark
 abbrev pub rnextAt : ℕ → ℕ → ℕ
 rnextAt e v = 8 * e + v
 
@@ -93,9 +97,12 @@ rlenAt e v = 8 * e + 5 * v
 abbrev pub nodeCountAt : ℕ → ℕ → ℕ
 nodeCountAt e v = 8 * e + 6 * v
 
+abbrev pub nodeMarkAt : ℕ → ℕ → ℕ
+nodeMarkAt e v = 8 * e + 7 * v
+
 -- all of them
 abbrev pub tableWords : ℕ → ℕ → ℕ
-tableWords e v = 8 * e + 7 * v
+tableWords e v = 8 * e + 8 * v
 
 -- ---- the parts of each stage, in order of place
 
@@ -126,16 +133,16 @@ gatherParts n m e =
 
 abbrev pub mergeParts : ℕ → ℕ → ℕ → List Part
 mergeParts n k e =
-    part 0 n ∷ part (sizesAt n) (k + 1) ∷ part (countsAt n k) (k + 1)
+    part 0 n ∷ part (sizesAt n) (k + 1) ∷ part (countsAt n k) (k + 1) ∷ part (marksAt n k) (k + 1)
     ∷ part (tablesAt n + weightAt) e ∷ part (tablesAt n + treeAt e) (2 * e) ∷ part (tablesAt n + firstAt e) e ∷ part (tablesAt n + secondAt e) e
     ∷ part (tablesAt n + bridgedAt e) e ∷ part (tablesAt n + enextAt e) (2 * e + (k + 1)) ∷ part (tablesAt n + rnextAt e (k + 1)) (k + 1) ∷ part (tablesAt n + stampAt e (k + 1)) (k + 1)
     ∷ part (tablesAt n + nodeSizeAt e (k + 1)) (k + 1) ∷ part (tablesAt n + elenAt e (k + 1)) (k + 1) ∷ part (tablesAt n + rlenAt e (k + 1)) (k + 1)
-    ∷ part (tablesAt n + nodeCountAt e (k + 1)) (k + 1) ∷ []
+    ∷ part (tablesAt n + nodeCountAt e (k + 1)) (k + 1) ∷ part (tablesAt n + nodeMarkAt e (k + 1)) (k + 1) ∷ []
 
--- the parts of every stage lie apart, and fit into 52n + 32 of the 96n + 64 words that question 4 asks for, and a quarter of the floats
+-- the parts of every stage lie apart, and fit into 53n + 32 of the 96n + 64 words that question 4 asks for, and a quarter of the floats
 pub record Laid (n k m e : ℕ) : Type 0 where
-  pub regions : InTurn 0 (regionParts n) (52 * n + 32)
-  pub sort : InTurn 0 (sortParts n k m) (52 * n + 32)
-  pub gather : InTurn 0 (gatherParts n m e) (52 * n + 32)
-  pub merge : InTurn 0 (mergeParts n k e) (52 * n + 32)
+  pub regions : InTurn 0 (regionParts n) (53 * n + 32)
+  pub sort : InTurn 0 (sortParts n k m) (53 * n + 32)
+  pub gather : InTurn 0 (gatherParts n m e) (53 * n + 32)
+  pub merge : InTurn 0 (mergeParts n k e) (53 * n + 32)
   pub differences : InTurn 0 (part 0 e ∷ []) (4 * n)

@@ -1,13 +1,14 @@
 -- What each function of the merging code does to the tables, step by step as the code goes.
 use mathlib.Core.Bool.{Bool, true, false, _&&_, cond}
+use mathlib.Core.List.{List}
 use mathlib.Core.Option.{Option, none, some}
 use Prim.Native.Nat.{ℕ, zero, suc, _+_, _*_, _-_, _/_}
 use lib.Dec.{eqb, ltb, leb}
 use lib.IntN.{ℤ, pos, negsuc, _+ℤ_}
-use lib.ListN.{getD}
+use lib.ListN.{getD, set}
 use lib.Ieee.{nan, Float, neg, binary32, add}
-use Rattle.merge.specs.Inside.Tables.{Tables, store, diff-set}
-use Rattle.merge.specs.Inside.Table.{Table, weight, first, second, bridged, enext, rnext, stamp, size, elen, rlen, count}
+use Rattle.merge.specs.Inside.Tables.{Tables, store, withMarks, diff-set}
+use Rattle.merge.specs.Inside.Table.{Table, weight, first, second, bridged, enext, rnext, stamp, size, elen, rlen, count, mark}
 use Rattle.arithmetic.specs.Rounding.{scale}
 
 -- numbers from -1000 to 1000 are kept as words from 0 to 2000
@@ -122,6 +123,19 @@ unfoldable pub walkRaise : ℕ → ℕ → Tables → ℕ → Option Tables
 walkRaise zero g s x = some s
 walkRaise (suc k) g s x =
     cond (countInRange (getD (s .at count) x 0 + g)) (walkRaise k g (store count s x (getD (s .at count) x 0 + g - 1000)) (getD (s .at rnext) x 0)) none
+
+-- the marks when the next k regions from region x on are marked, next being the table of next regions
+unfoldable pub walkMark : ℕ → List ℕ → List ℕ → ℕ → List ℕ
+walkMark zero next marks x = marks
+walkMark (suc k) next marks x = walkMark k next (set marks x 1) (getD next x 0)
+
+-- the marks when all regions of node v are
+unfoldable pub markedAll : ℕ → Tables → List ℕ
+markedAll v s = walkMark (getD (s .at rlen) v 0) (s .at rnext) (s .at mark) v
+
+-- the regions of v, the moved node, are marked if its merge is doubtful
+unfoldable pub markIf : Bool → ℕ → Tables → Tables
+markIf doubtful v s = withMarks (cond doubtful (markedAll v s) (s .at mark)) s
 
 -- the chains of v are joined to those of b
 unfoldable pub splice : ℕ → ℕ → ℕ → Tables → Tables

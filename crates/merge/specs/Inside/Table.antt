@@ -6,7 +6,7 @@ use mathlib.Core.List.{List, [], _∷_}
 use Prim.Native.Nat.{ℕ, _+_, _*_}
 use lib.Dec.{eqb}
 use lib.ListN.{getD}
-use Rattle.memory.specs.Inside.Layout.{Part, part, weightAt, firstAt, secondAt, bridgedAt, enextAt, rnextAt, stampAt, nodeSizeAt, elenAt, rlenAt, nodeCountAt}
+use Rattle.memory.specs.Inside.Layout.{Part, part, weightAt, firstAt, secondAt, bridgedAt, enextAt, rnextAt, stampAt, nodeSizeAt, elenAt, rlenAt, nodeCountAt, nodeMarkAt}
 
 -- a table is its number in the list of them
 pub data Table : Type 0 where
@@ -29,6 +29,7 @@ tables m n =
     ∷ part (elenAt m n) n
     ∷ part (rlenAt m n) n
     ∷ part (nodeCountAt m n) n
+    ∷ part (nodeMarkAt m n) n
     ∷ []
 
 -- of each edge: its weight, 0 where it is dead, its two ends, and how many of its pairs are bridged
@@ -70,6 +71,10 @@ rlen = table 9
 -- its count, with 1,000 added
 abbrev pub count : Table
 count = table 10
+
+-- 1 if it was moved by a doubtful merge, else 0
+abbrev pub mark : Table
+mark = table 11
 
 -- where a table begins, and how many words it has
 abbrev pub from : Table → ℕ → ℕ → ℕ

@@ -11,7 +11,7 @@ use Rattle.lists.specs.Inside.Seg.{seg}
 use Rattle.lists.specs.Seq.{sum}
 use Rattle.memory.specs.Inside.Tree.{Tree}
 use Rattle.memory.specs.Inside.Layout.{tableWords}
-use Rattle.merge.specs.Inside.Table.{Table, weight, first, second, bridged, enext, rnext, count, from, long, is}
+use Rattle.merge.specs.Inside.Table.{Table, weight, first, second, bridged, enext, rnext, count, mark, from, long, is}
 
 -- the tables of words by name, and the edges' differences
 pub record Tables : Type 0 where
@@ -49,6 +49,10 @@ pub record Sound (m n : ℕ) (s : Tables) : Type 0 where
 -- table t with x at j
 unfoldable pub store : Table → Tables → ℕ → ℕ → Tables
 store t s j x = record { at = λ u. cond (is t u) (set (s .at u) j x) (s .at u); diff = s .diff }
+
+-- the tables with this one of marks
+abbrev pub withMarks : List ℕ → Tables → Tables
+withMarks l s = record { at = λ u. cond (is mark u) l (s .at u); diff = s .diff }
 
 -- the differences with x at j
 unfoldable pub diff-set : Tables → ℕ → Float → Tables

@@ -10,23 +10,22 @@ use lib.ListN.{length, getD}
 use Rattle.network.specs.Network.{Region, State, gatesOf}
 use Rattle.lists.specs.Seq.{upto, sum}
 use Rattle.merge.specs.Inside.Tables.{Tables, view, HoldsTables, store}
-use Rattle.merge.specs.Inside.Table.{is, weight, first, second, bridged, enext, rnext, stamp, size, elen, rlen, count}
+use Rattle.merge.specs.Inside.Table.{is, weight, first, second, bridged, enext, rnext, stamp, size, elen, rlen, count, mark}
 use Rattle.memory.specs.Inside.Layout.{tableWords}
 use Rattle.network.specs.Inside.Net.{edgeOf}
 use Rattle.network.specs.Inside.Rep.{Rep}
-use Rattle.network.specs.Inside.Settle.{settle}
 use Rattle.network.specs.declared.network.Ran.{Ran}
-use Rattle.network.specs.Inside.TurnIs.{gatesIn, firstOf, RanIs}
+use Rattle.network.specs.Inside.TurnIs.{gatesIn, firstOf, Unmarked, RunIs}
 use Rattle.network.specs.Inside.Simple.{Simple}
 
 -- each slot a circle of its own
 unfoldable pub slots : ℕ → ℕ → Tables → Tables
 slots m n s = record { at = λ u. cond (is enext u) (upto (2 * m + n) 0) (s .at u); diff = s .diff }
 
--- each region a circle of its own, with count 0, that was never a base
+-- each region a circle of its own, with count 0, that was never a base and is not marked
 unfoldable pub regionsFrom : ℕ → Tables → ℕ → Tables
 regionsFrom zero s x = s
-regionsFrom (suc k) s x = regionsFrom k (store stamp (store count (store elen (store rlen (store rnext s x x) x 1) x 1) x 1000) x 0) (x + 1)
+regionsFrom (suc k) s x = regionsFrom k (store mark (store stamp (store count (store elen (store rlen (store rnext s x x) x 1) x 1) x 1000) x 0) x 0) (x + 1)
 
 -- slot i into the circle of node a
 unfoldable pub linkAt : ℕ → ℕ → ℕ → Tables → Tables
@@ -69,6 +68,7 @@ pub record Begun (m n : ℕ) (s : Tables) (w : List ℕ) (d : List Float) : Type
   pub rep : Rep m n (gatesIn (view m n w d)) 0 (view m n w d) (firstOf m n (view m n w d))
   pub net : firstOf m n (view m n w d) ≡ rawNet m n s
   pub sizes : gatesIn (view m n w d) ≡ gatesIn s
+  pub unmarked : Unmarked n (view m n w d)
 
 -- what linking asks: ends in range, and lengths that have grown by no more than two an edge
 pub record Linkable (m n j : ℕ) (s : Tables) : Type 0 where
@@ -78,4 +78,4 @@ pub record Linkable (m n j : ℕ) (s : Tables) : Type 0 where
 
 -- what all merges come to, from the tables of edges and sizes
 unfoldable pub AllIs : ℕ → ℕ → Tables → List ℕ → List Float → Ran → Type 0
-AllIs m n s w d r = RanIs m n (gatesIn s) (settle m (rawNet m n s) 0) w d r
+AllIs m n s w d r = RunIs m n (gatesIn s) (rawNet m n s) w d r

@@ -58,10 +58,10 @@ pub record Labelled (f : Found) (n k : ℕ) (w : List ℕ) : Type 0 where
   pub number : k ≡ f .number
   pub labels : seg w 0 n ≡ f .labels
 
--- labels of k regions at n gates, and room for the tables of sizes and counts
+-- labels of k regions at n gates, and room for the tables of sizes, counts and marks
 pub record Few (w : List ℕ) (n k : ℕ) : Type 0 where
   pub few : k < 2
-  pub room : n + (k + 1) + (k + 1) ≤ length w
+  pub room : n + (k + 1) + (k + 1) + (k + 1) ≤ length w
   pub small : n ≤ gatesOfLargest
   pub label : (g : ℕ) → g < n → getD w g 0 ≤ k
 

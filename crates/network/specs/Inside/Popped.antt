@@ -6,6 +6,7 @@ use lib.IntN.{pos}
 use lib.ListN.{getD}
 use lib.Ieee.{Float, binary64, div}
 use Rattle.arithmetic.specs.Rounding.{real}
+use Rattle.arithmetic.specs.Doubtful.{doubtful}
 use Rattle.memory.specs.Inside.Tree.{Best}
 use Rattle.network.specs.Network.{popped, State, choose}
 use Rattle.merge.specs.Inside.Tables.{Tables, view}
@@ -26,6 +27,7 @@ pub record Takes (m n : ℕ) (w : List ℕ) (d : List Float) (p : PoppedEdge) : 
   pub first : p .node1 ≡ edgeNow (view m n w d) (p .«edge_number») .first
   pub second : p .node2 ≡ edgeNow (view m n w d) (p .«edge_number») .second
   pub diff : p .diff ≡ div binary64 (edgeNow (view m n w d) (p .«edge_number») .link .diff) (real (pos (getD w (p .«edge_number») 0)))
+  pub doubtful : p .doubtful ≡ doubtful (p .diff)
 
 unfoldable pub Pops : ℕ → ℕ → List ℕ → List Float → Popped → Type 0
 Pops m n w d (Taken p) = Takes m n w d p

@@ -16,4 +16,4 @@ foldsBy number counts = record { number = number; counts = counts }
 -- what an answer is and leaves, of counts lent: a refusal leaves them as they were
 unfoldable pub foldsOf : Outcome → List ℤ → Folds
 foldsOf (refused k) lent = foldsBy k lent
-foldsOf (accepted counts regions merges) lent = foldsBy 0 counts
+foldsOf (accepted counts doubtful regions merges) lent = foldsBy 0 counts

@@ -1,25 +1,30 @@
 -- `replay::answer` meets its contract: `held` says that each part that is lent lies within its array. Assumes nothing.
 use Rattle.replay.proofs.RecordLaws.{held-parts}
 use Rattle.lists.proofs.PartLaws.{part}
-use borrow.Author.Needs.{needs}
 use native.Mathlib.Omega.{arith}
 use Rattle.replay.proofs.answer.Statement.{statement}
 use Rattle.replay.proofs.answer.Tie as tie
 
 cast-c : tie.Need-cast-c
-cast-c c = search needs
+cast-c c = omega (arith, held-parts _ (c .before .before .before .pre .1) .counts)
+
+cast-b : tie.Need-cast-b
+cast-b c = omega (arith, held-parts _ (c .before .before .before .before .pre .1) .doubtful)
 
 cast-p : tie.Need-cast-p
-cast-p c = search needs
+cast-p c = omega (arith, held-parts _ (c .before .before .before .before .before .pre .1) .pair)
 
 cast-w : tie.Need-cast-w
-cast-w c = search needs
+cast-w c = omega (arith, held-parts _ (c .before .before .before .before .before .before .pre .1) .words)
 
 cast-d : tie.Need-cast-d
-cast-d c = omega (arith, held-parts _ (c .before .before .before .before .before .before .pre .1) .floats)
+cast-d c = omega (arith, held-parts _ (c .before .before .before .before .before .before .before .pre .1) .floats)
 
 counts-requires : tie.Need-counts-requires
 counts-requires c κs = tt
+
+marks-requires : tie.Need-marks-requires
+marks-requires c κs = tt
 
 pair-requires : tie.Need-pair-requires
 pair-requires c κs = tt
@@ -31,43 +36,52 @@ floats-requires : tie.Need-floats-requires
 floats-requires c κs = tt
 
 array-borrow-prefix-counts : tie.Need-array-borrow-prefix-counts
-array-borrow-prefix-counts c = omega (arith, held-parts _ (c .before .before .before .before .before .before .before .before .before .before .pre .1) .counts, c .before .before .before .counts .ensures)
+array-borrow-prefix-counts c = omega (arith, held-parts _ (c .before .before .before .before .before .before .before .before .before .before .before .before .pre .1) .counts, c .before .before .before .before .counts .ensures)
 
 slice-aggregate-call-sweep : tie.Need-slice-aggregate-call-sweep
 slice-aggregate-call-sweep c =
-    let m = c .before .before .before .before in
-    let s = m .before .before .before .before .before .before .before in
+    let m = c .before .before .before .before .before in
+    let s = m .before .before .before .before .before .before .before .before in
     part (s .args .s .counts) 136 (m .counts .result) (m .counts .ensures) (held-parts _ (s .pre .1) .counts)
 
-array-borrow-prefix-pair : tie.Need-array-borrow-prefix-pair
-array-borrow-prefix-pair c = omega (arith, held-parts _ (c .before .before .before .before .before .before .before .before .before .before .before .pre .1) .pair, c .before .before .before .pair .ensures)
+array-borrow-prefix-doubtful : tie.Need-array-borrow-prefix-doubtful
+array-borrow-prefix-doubtful c = omega (arith, held-parts _ (c .before .before .before .before .before .before .before .before .before .before .before .before .before .pre .1) .doubtful, c .before .before .before .before .marks .ensures)
 
 slice-aggregate-call-sweep-2 : tie.Need-slice-aggregate-call-sweep-2
 slice-aggregate-call-sweep-2 c =
-    let m = c .before .before .before .before in
-    let s = m .before .before .before .before .before .before .before .before in
-    part (s .args .s .pair) 4 (m .pair .result) (m .pair .ensures) (held-parts _ (s .pre .1) .pair)
+    let m = c .before .before .before .before .before in
+    let s = m .before .before .before .before .before .before .before .before .before in
+    part (s .args .s .doubtful) 136 (m .marks .result) (m .marks .ensures) (held-parts _ (s .pre .1) .doubtful)
 
-array-borrow-prefix-words : tie.Need-array-borrow-prefix-words
-array-borrow-prefix-words c = omega (arith, held-parts _ (c .before .before .before .before .before .before .before .before .before .before .before .before .pre .1) .words, c .before .before .before .words .ensures)
+array-borrow-prefix-pair : tie.Need-array-borrow-prefix-pair
+array-borrow-prefix-pair c = omega (arith, held-parts _ (c .before .before .before .before .before .before .before .before .before .before .before .before .before .before .pre .1) .pair, c .before .before .before .before .pair .ensures)
 
 slice-aggregate-call-sweep-3 : tie.Need-slice-aggregate-call-sweep-3
 slice-aggregate-call-sweep-3 c =
-    let m = c .before .before .before .before in
-    let s = m .before .before .before .before .before .before .before .before .before in
-    part (s .args .s .words) 12416 (m .words .result) (m .words .ensures) (held-parts _ (s .pre .1) .words)
+    let m = c .before .before .before .before .before in
+    let s = m .before .before .before .before .before .before .before .before .before .before in
+    part (s .args .s .pair) 4 (m .pair .result) (m .pair .ensures) (held-parts _ (s .pre .1) .pair)
 
-array-borrow-prefix-floats : tie.Need-array-borrow-prefix-floats
-array-borrow-prefix-floats c = omega (arith, held-parts _ (c .before .before .before .before .before .before .before .before .before .before .before .before .before .pre .1) .floats, c .before .before .before .floats .ensures)
+array-borrow-prefix-words : tie.Need-array-borrow-prefix-words
+array-borrow-prefix-words c = omega (arith, held-parts _ (c .before .before .before .before .before .before .before .before .before .before .before .before .before .before .before .pre .1) .words, c .before .before .before .before .words .ensures)
 
 slice-aggregate-call-sweep-4 : tie.Need-slice-aggregate-call-sweep-4
 slice-aggregate-call-sweep-4 c =
-    let m = c .before .before .before .before in
-    let s = m .before .before .before .before .before .before .before .before .before .before in
+    let m = c .before .before .before .before .before in
+    let s = m .before .before .before .before .before .before .before .before .before .before .before in
+    part (s .args .s .words) 12416 (m .words .result) (m .words .ensures) (held-parts _ (s .pre .1) .words)
+
+array-borrow-prefix-floats : tie.Need-array-borrow-prefix-floats
+array-borrow-prefix-floats c = omega (arith, held-parts _ (c .before .before .before .before .before .before .before .before .before .before .before .before .before .before .before .before .pre .1) .floats, c .before .before .before .before .floats .ensures)
+
+slice-aggregate-call-sweep-5 : tie.Need-slice-aggregate-call-sweep-5
+slice-aggregate-call-sweep-5 c =
+    let m = c .before .before .before .before .before in
+    let s = m .before .before .before .before .before .before .before .before .before .before .before .before in
     part (s .args .s .floats) 2080 (m .floats .result) (m .floats .ensures) (held-parts _ (s .pre .1) .floats)
 
 call-sweep-requires : tie.Need-call-sweep-requires
-call-sweep-requires c κs = c .before .before .before .before .before .before .before .before .before .before .before .before .before .before .pre
+call-sweep-requires c κs = c .before .before .before .before .before .before .before .before .before .before .before .before .before .before .before .before .before .pre
 
 returns : tie.Need-returns
 returns c = tt
@@ -77,20 +91,24 @@ answer-spec =
     tie.close
     (tie.spec
     cast-c
+    cast-b
     cast-p
     cast-w
     cast-d
     counts-requires
+    marks-requires
     pair-requires
     words-requires
     floats-requires
     array-borrow-prefix-counts
     slice-aggregate-call-sweep
-    array-borrow-prefix-pair
+    array-borrow-prefix-doubtful
     slice-aggregate-call-sweep-2
-    array-borrow-prefix-words
+    array-borrow-prefix-pair
     slice-aggregate-call-sweep-3
-    array-borrow-prefix-floats
+    array-borrow-prefix-words
     slice-aggregate-call-sweep-4
+    array-borrow-prefix-floats
+    slice-aggregate-call-sweep-5
     call-sweep-requires
     returns)

@@ -1,4 +1,4 @@
--- The start of a recorded sweep: the setting that fourteen numbers say, and what a read of them gives.
+-- The start of a recorded sweep: the setting that fifteen numbers say, and what a read of them gives.
 use Prim.Native.Nat.{ℕ}
 use mathlib.Core.List.{List}
 use lib.ListN.{getD}
@@ -9,7 +9,7 @@ use Rattle.replay.specs.declared.gates.Setting.{Setting}
 use Rattle.replay.specs.declared.gates.Start.{Start}
 use Rattle.replay.specs.declared.gates.Start.the-variants.{Sweep, End as NoSweep, Malformed as NoStart}
 
--- the setting of fourteen numbers, in the order of the record
+-- the setting of fifteen numbers, in the order of the record
 unfoldable pub settingOf : List ℕ → Setting
 settingOf l = record {
   rays = getD l 0 0;
@@ -22,10 +22,11 @@ settingOf l = record {
   wrap = getD l 7 0;
   recorded = getD l 8 0;
   counts = getD l 9 0;
-  pair = getD l 10 0;
-  words = getD l 11 0;
-  floats = getD l 12 0;
-  more = getD l 13 0;
+  doubtful = getD l 10 0;
+  pair = getD l 11 0;
+  words = getD l 12 0;
+  floats = getD l 13 0;
+  more = getD l 14 0;
 }
 
 -- the start by what was got

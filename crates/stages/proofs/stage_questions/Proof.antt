@@ -24,7 +24,7 @@ unfolding gatesIn
 returns c =
     let a = c .before .before .before .before .before .args in
     let s : Sweep = sweepOf (a .rays) (a .gates) (a .nyquist) (a .splits) (a .skip-between-rays) (a .skip-along-ray) (a .centred) (a .wrap) (a .velocity .now) (a .valid .now) in
-    let l : Lent = record { counts = length (a .velocity .now); pair = 2; words = a .words; floats = a .floats } in
+    let l : Lent = record { counts = length (a .velocity .now); doubtful = length (a .velocity .now); pair = 2; words = a .words; floats = a .floats } in
     c .first-missed .ensures
     ∙ ap (λ (r : Room). answerOf (firstNo (seven s r))) (c .before .room-of .ensures ∙ ap (λ (n : ℕ). room n l) (c .before .before .gates-in .ensures))
 

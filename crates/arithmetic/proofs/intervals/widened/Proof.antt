@@ -7,7 +7,8 @@ use mir.Syntax.{w32, w64}
 use mir.ValLaws.{toZ-ofZ}
 use Rattle.arithmetic.specs.Rounding.{within}
 use Rattle.arithmetic.specs.Intervals.{overStart, overEnd}
-use Rattle.arithmetic.proofs.Plans.{T-of, start-within, end-within, plan-is}
+use Rattle.arithmetic.proofs.RangeLaws.{T-of}
+use Rattle.arithmetic.proofs.Plans.{start-within, end-within, plan-is}
 use mathlib.Core.Path.{sym, _∙_}
 use Prim.Native.Nat.{_-_}
 use borrow.Author.Needs.{needs}

@@ -21,14 +21,36 @@ add-fill c = search needs
 fill-requires : tie.Need-fill-requires
 fill-requires c κs = search needs
 
+add-fill-2 : tie.Need-add-fill-2
+add-fill-2 c = search needs
+
+add-fill-3 : tie.Need-add-fill-3
+add-fill-3 c = search needs
+
+fill-requires-2 : tie.Need-fill-requires-2
+fill-requires-2 c κs = search needs
+
 same-length : tie.Need-same-length
 same-length c = search needs
 
 returns : tie.Need-returns
 returns c =
-    let a = c .before .before .before .before .before .before .before .before .before .args in
-    c .before .before .fill .ensures ∙ ap (λ (x : List ℕ). put x (a .n + (a .k + 1)) (replicate (a .k + 1) 1000)) (c .before .before .before .before .before .before .count-sizes .ensures)
+    let a = c .before .before .before .before .before .before .before .before .before .before .before .before .before .args in
+    let n = a .n in
+    let k = a .k in
+    c .before .before .fill2 .ensures ∙ ap (λ (x : List ℕ). put x (n + (k + 1) + (k + 1)) (replicate (k + 1) 0)) (c .before .before .before .before .before .before .fill .ensures
+    ∙ ap (λ (x : List ℕ). put x (n + (k + 1)) (replicate (k + 1) 1000)) (c .before .before .before .before .before .before .before .before .before .before .count-sizes .ensures))
 
 pub leave-alone-spec : {M : Type 1} → statement M
 leave-alone-spec =
-    tie.close (tie.spec add-nodes count-sizes-requires add-fill fill-requires same-length returns)
+    tie.close
+    (tie.spec
+    add-nodes
+    count-sizes-requires
+    add-fill
+    fill-requires
+    add-fill-2
+    add-fill-3
+    fill-requires-2
+    same-length
+    returns)

@@ -107,6 +107,24 @@ mul-w-14 c = omega (arith, c .loop-test .taken, c .before .loop .inv .room .word
 slice-write-w-5 : tie.Need-slice-write-w-5 Inv-loop μ-loop
 slice-write-w-5 c = let h = c .before .loop .inv .room .words in simp length-set (omega arith)
 
+mul-w-15 : tie.Need-mul-w-15 Inv-loop μ-loop
+mul-w-15 c = omega (arith, c .loop-test .taken, c .before .loop .inv .room .words, c .before .loop .inv .room .small)
+
+mul-w-16 : tie.Need-mul-w-16 Inv-loop μ-loop
+mul-w-16 c = omega (arith, c .loop-test .taken, c .before .loop .inv .room .words, c .before .loop .inv .room .small)
+
+add-w-11 : tie.Need-add-w-11 Inv-loop μ-loop
+add-w-11 c = omega (arith, c .loop-test .taken, c .before .loop .inv .room .words, c .before .loop .inv .room .small)
+
+add-w-12 : tie.Need-add-w-12 Inv-loop μ-loop
+add-w-12 c = omega (arith, c .loop-test .taken, c .before .loop .inv .room .words, c .before .loop .inv .room .small)
+
+mul-w-17 : tie.Need-mul-w-17 Inv-loop μ-loop
+mul-w-17 c = omega (arith, c .loop-test .taken, c .before .loop .inv .room .words, c .before .loop .inv .room .small)
+
+slice-write-w-6 : tie.Need-slice-write-w-6 Inv-loop μ-loop
+slice-write-w-6 c = let h = c .before .loop .inv .room .words in simp length-set (omega arith)
+
 add-x : tie.Need-add-x Inv-loop μ-loop
 add-x c = omega (arith, c .loop-test .taken, c .before .loop .inv .room .words, c .before .loop .inv .room .small)
 
@@ -159,6 +177,12 @@ fill-regions-spec =
     add-w-10
     mul-w-14
     slice-write-w-5
+    mul-w-15
+    mul-w-16
+    add-w-11
+    add-w-12
+    mul-w-17
+    slice-write-w-6
     add-x
     loop-less
     loop-again

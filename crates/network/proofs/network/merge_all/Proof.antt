@@ -1,7 +1,6 @@
 -- `network::network::merge_all` meets its contract. Assumes nothing.
 use Rattle.network.proofs.StartRep.{all-is}
 use Rattle.merge.specs.Inside.Tables.{view}
-use Prim.Native.Nat.{_-_}
 use borrow.Author.Needs.{needs}
 use Rattle.network.proofs.network.merge_all.Statement.{statement}
 use Rattle.network.proofs.network.merge_all.Tie as tie
@@ -10,7 +9,7 @@ begin-requires : tie.Need-begin-requires
 begin-requires c κs = search needs
 
 run-requires : tie.Need-run-requires
-run-requires c κs = let k = c .before .before .before .before .before .before .begin .ensures in (k .room, k .rep)
+run-requires c κs = let k = c .before .before .before .before .before .before .begin .ensures in (k .room, (k .rep, k .unmarked))
 
 same-length : tie.Need-same-length
 same-length c = search needs

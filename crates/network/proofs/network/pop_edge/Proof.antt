@@ -126,20 +126,28 @@ shared-slice-read-j c =
 int-to-float-back : tie.Need-int-to-float-back
 int-to-float-back c = search needs
 
+is-doubtful-requires : tie.Need-is-doubtful-requires
+is-doubtful-requires c κs = search needs
+
 returns-2 : tie.Need-returns-2
 unfolding Pops real neg
 returns-2 c =
-    let p = c .before .before .before .before .before .before .before .before .before .before .before .before .pre in
-    let a = c .before .before .before .before .before .before .before .before .before .before .before .before .args in let e = c .before .before .before .before .before .before .before .before .before .best in pop-turned (a .m) (a .n) (a .w .now) (a .d .now) (p .0) (p .1 .0) (e .result) (e .ensures) (c .before .before .before .before .before .before .before .if1 .left) (c .before .if2 .taken)
+    let p = c .before .before .before .before .before .before .before .before .before .before .before .before .before .pre in
+    let a = c .before .before .before .before .before .before .before .before .before .before .before .before .before .args in let e = c .before .before .before .before .before .before .before .before .before .before .best in
+    pop-turned (a .m) (a .n) (a .w .now) (a .d .now) (p .0) (p .1 .0) (e .result) (e .ensures) (c .before .before .before .before .before .before .before .before .if1 .left) (c .before .before .if2 .taken) (c .is-doubtful .result) (c .is-doubtful .ensures)
 
 int-to-float-q : tie.Need-int-to-float-q
 int-to-float-q c = search needs
 
+is-doubtful-requires-2 : tie.Need-is-doubtful-requires-2
+is-doubtful-requires-2 c κs = search needs
+
 returns-3 : tie.Need-returns-3
 unfolding Pops real
 returns-3 c =
-    let p = c .before .before .before .before .before .before .before .before .before .before .before .before .pre in
-    let a = c .before .before .before .before .before .before .before .before .before .before .before .before .args in let e = c .before .before .before .before .before .before .before .before .before .best in pop-straight (a .m) (a .n) (a .w .now) (a .d .now) (p .0) (p .1 .0) (e .result) (e .ensures) (c .before .before .before .before .before .before .before .if1 .left) (c .before .if2 .left)
+    let p = c .before .before .before .before .before .before .before .before .before .before .before .before .before .pre in
+    let a = c .before .before .before .before .before .before .before .before .before .before .before .before .before .args in let e = c .before .before .before .before .before .before .before .before .before .before .best in
+    pop-straight (a .m) (a .n) (a .w .now) (a .d .now) (p .0) (p .1 .0) (e .result) (e .ensures) (c .before .before .before .before .before .before .before .before .if1 .left) (c .before .before .if2 .left) (c .is-doubtful2 .result) (c .is-doubtful2 .ensures)
 
 pub pop-edge-spec : {M : Type 1} → statement M
 pop-edge-spec =
@@ -178,6 +186,8 @@ pop-edge-spec =
     mul-j-3
     shared-slice-read-j
     int-to-float-back
+    is-doubtful-requires
     returns-2
     int-to-float-q
+    is-doubtful-requires-2
     returns-3)

@@ -1,5 +1,5 @@
 -- `network::network::run` meets its contract. Assumes nothing.
-use Rattle.network.proofs.Turns.{Running, run-start, run-out, run-merged, run-refused, run-ended}
+use Rattle.network.proofs.Runs.{Running, run-start, run-out, run-merged, run-refused, run-ended}
 use Rattle.network.specs.Inside.TurnIs.{gatesIn}
 use Rattle.merge.specs.Inside.Tables.{view}
 use borrow.Author.Needs.{needs}
@@ -16,7 +16,7 @@ abbrev μ-loop : tie.MeasureT-loop
 μ-loop w₀ d₀ m n k₀ w d k = m - k
 
 loop-holds : tie.Need-loop-holds Inv-loop μ-loop
-loop-holds c = let a = c .before .before .args in run-start (a .m) (a .n) (a .w .now) (a .d .now) (c .before .before .pre .0) (c .before .before .pre .1)
+loop-holds c = let a = c .before .before .args in run-start (a .m) (a .n) (a .w .now) (a .d .now) (c .before .before .pre .0) (c .before .before .pre .1 .0) (c .before .before .pre .1 .1)
 
 turn-requires : tie.Need-turn-requires Inv-loop μ-loop
 turn-requires c κs = let a = c .before .before .before .before .before .before .args in let i = c .before .before .before .loop .inv in (i .room, ((gatesIn (view (a .m) (a .n) (a .w .now) (a .d .now)), i .net, i .rep), c .before .before .loop-test .taken))

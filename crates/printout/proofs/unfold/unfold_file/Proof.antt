@@ -28,6 +28,9 @@ bits-requires c κs = search needs
 mask-requires : tie.Need-mask-requires
 mask-requires c κs = search needs
 
+mask-requires-2 : tie.Need-mask-requires-2
+mask-requires-2 c κs = search needs
+
 velocities-requires : tie.Need-velocities-requires
 velocities-requires c κs = search needs
 
@@ -41,41 +44,48 @@ array-borrow-prefix-bits : tie.Need-array-borrow-prefix-bits
 array-borrow-prefix-bits c = search needs
 
 slice-aggregate-unfold-in : tie.Need-slice-aggregate-unfold-in
-slice-aggregate-unfold-in c = let s = c .before .before .before .before .before .before .before in let a = c .before .before .before .before .before .bits in part (length (s .args .counts .now)) 128 (a .result) (a .ensures) (s .pre .1)
+slice-aggregate-unfold-in c = let s = c .before .before .before .before .before .before .before .before in let a = c .before .before .before .before .before .before .bits in part (length (s .args .counts .now)) 128 (a .result) (a .ensures) (s .pre .1)
 
 array-borrow-prefix-valid : tie.Need-array-borrow-prefix-valid
 array-borrow-prefix-valid c = search needs
 
 slice-aggregate-unfold-in-2 : tie.Need-slice-aggregate-unfold-in-2
-slice-aggregate-unfold-in-2 c = let s = c .before .before .before .before .before .before .before .before in let a = c .before .before .before .before .before .mask in part (length (s .args .counts .now)) 128 (a .result) (a .ensures) (s .pre .1)
+slice-aggregate-unfold-in-2 c = let s = c .before .before .before .before .before .before .before .before .before in let a = c .before .before .before .before .before .before .mask in part (length (s .args .counts .now)) 128 (a .result) (a .ensures) (s .pre .1)
 
 array-borrow-prefix-velocity : tie.Need-array-borrow-prefix-velocity
 array-borrow-prefix-velocity c = search needs
 
 slice-aggregate-unfold-in-3 : tie.Need-slice-aggregate-unfold-in-3
-slice-aggregate-unfold-in-3 c = let s = c .before .before .before .before .before .before .before .before .before in let a = c .before .before .before .before .before .velocities in part (length (s .args .counts .now)) 128 (a .result) (a .ensures) (s .pre .1)
+slice-aggregate-unfold-in-3 c = let s = c .before .before .before .before .before .before .before .before .before .before in let a = c .before .before .before .before .before .before .velocities in part (length (s .args .counts .now)) 128 (a .result) (a .ensures) (s .pre .1)
+
+array-borrow-prefix-doubtful : tie.Need-array-borrow-prefix-doubtful
+array-borrow-prefix-doubtful c = search needs
 
 slice-aggregate-unfold-in-4 : tie.Need-slice-aggregate-unfold-in-4
-slice-aggregate-unfold-in-4 c = search needs
+slice-aggregate-unfold-in-4 c = let s = c .before .before .before .before .before .before .before .before .before .before .before .before in let a = c .before .before .before .before .before .before .before .mask2 in part (length (s .args .counts .now)) 128 (a .result) (a .ensures) (s .pre .1)
+
+slice-aggregate-unfold-in-5 : tie.Need-slice-aggregate-unfold-in-5
+slice-aggregate-unfold-in-5 c = search needs
 
 array-borrow-prefix-words : tie.Need-array-borrow-prefix-words
 array-borrow-prefix-words c = search needs
 
-slice-aggregate-unfold-in-5 : tie.Need-slice-aggregate-unfold-in-5
-slice-aggregate-unfold-in-5 c = let s = c .before .before .before .before .before .before .before .before .before .before .before .before in let a = c .before .before .before .before .before .before .before .words in part (96 * length (s .args .counts .now) + 64) 12352 (a .result) (a .ensures) (omega (arith, s .pre .1))
+slice-aggregate-unfold-in-6 : tie.Need-slice-aggregate-unfold-in-6
+slice-aggregate-unfold-in-6 c = let s = c .before .before .before .before .before .before .before .before .before .before .before .before .before .before in let a = c .before .before .before .before .before .before .before .before .words in part (96 * length (s .args .counts .now) + 64) 12352 (a .result) (a .ensures) (omega (arith, s .pre .1))
 
 array-borrow-prefix-floats : tie.Need-array-borrow-prefix-floats
 array-borrow-prefix-floats c = search needs
 
-slice-aggregate-unfold-in-6 : tie.Need-slice-aggregate-unfold-in-6
-slice-aggregate-unfold-in-6 c = let s = c .before .before .before .before .before .before .before .before .before .before .before .before .before in let a = c .before .before .before .before .before .before .before .floats in part (16 * length (s .args .counts .now) + 16) 2064 (a .result) (a .ensures) (omega (arith, s .pre .1))
+slice-aggregate-unfold-in-7 : tie.Need-slice-aggregate-unfold-in-7
+slice-aggregate-unfold-in-7 c = let s = c .before .before .before .before .before .before .before .before .before .before .before .before .before .before .before in let a = c .before .before .before .before .before .before .before .before .floats in part (16 * length (s .args .counts .now) + 16) 2064 (a .result) (a .ensures) (omega (arith, s .pre .1))
 
 unfold-in-requires : tie.Need-unfold-in-requires
 unfolding wordsFor floatsFor
 unfold-in-requires c κs =
-    let d = c .before .before .before .before .before .before .before in
+    let d = c .before .before .before .before .before .before .before .before in
     let w = d .before in
-    let v = w .before in
+    let z = w .before in
+    let v = z .before in
     let m = v .before in
     let b = m .before in
     let s = b .before .before in
@@ -83,7 +93,7 @@ unfold-in-requires c κs =
     let e : n ≡ fileGates (s .args .file .now) = s .pre .0 in (
       (sym (part n 128 (b .bits .result) (b .bits .ensures) (s .pre .1)) ∙ e, sym (part n 128 (m .mask .result) (m .mask .ensures) (s .pre .1)) ∙ e, sym (part n 128 (v .velocities .result) (v .velocities .ensures) (s .pre .1)) ∙ e),
       (
-        (e, refl),
+        (e, sym (part n 128 (z .mask2 .result) (z .mask2 .ensures) (s .pre .1)) ∙ e, refl),
         (
           sym (part (96 * n + 64) 12352 (w .words .result) (w .words .ensures) (omega (arith, s .pre .1))) ∙ ap (λ (k : ℕ). 96 * k + 64) e,
           sym (part (16 * n + 16) 2064 (d .floats .result) (d .floats .ensures) (omega (arith, s .pre .1))) ∙ ap (λ (k : ℕ). 16 * k + 16) e,
@@ -108,6 +118,7 @@ unfold-file-spec =
     bits-requires
     mask-requires
     velocities-requires
+    mask-requires-2
     words-requires
     floats-requires
     array-borrow-prefix-bits
@@ -116,11 +127,13 @@ unfold-file-spec =
     slice-aggregate-unfold-in-2
     array-borrow-prefix-velocity
     slice-aggregate-unfold-in-3
+    array-borrow-prefix-doubtful
     slice-aggregate-unfold-in-4
-    array-borrow-prefix-words
     slice-aggregate-unfold-in-5
-    array-borrow-prefix-floats
+    array-borrow-prefix-words
     slice-aggregate-unfold-in-6
+    array-borrow-prefix-floats
+    slice-aggregate-unfold-in-7
     unfold-in-requires
     same-length
     returns)

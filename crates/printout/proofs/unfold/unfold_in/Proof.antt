@@ -16,7 +16,7 @@ same-length-2 : tie.Need-same-length-2
 same-length-2 c = search needs
 
 returns : tie.Need-returns
-returns c = let s = c .before .before .before .before .before .before .before .before .before .before .before .before .before .before .before .before in file-refused (s .args .file .now) (s .args .bits .now) (s .args .valid .now) (s .pre .0 .0) (s .pre .0 .1) _ _ _ _ (c .before .before .before .before .before .before .read .ensures) (s .args .counts .now) (c .if1 .taken)
+returns c = let s = c .before .before .before .before .before .before .before .before .before .before .before .before .before .before .before .before .before in file-refused (s .args .file .now) (s .args .bits .now) (s .args .valid .now) (s .pre .0 .0) (s .pre .0 .1) _ _ _ _ (c .before .before .before .before .before .before .read .ensures) (s .args .counts .now) (c .if1 .taken)
 
 velocities-of-requires : tie.Need-velocities-of-requires
 velocities-of-requires c κs = search needs
@@ -48,17 +48,20 @@ same-length-8 c = search needs
 same-length-9 : tie.Need-same-length-9
 same-length-9 c = search needs
 
+same-length-10 : tie.Need-same-length-10
+same-length-10 c = search needs
+
 returns-2 : tie.Need-returns-2
 returns-2 c =
-    let a = c .before .before .before .before .before .before .before in
-    let o = a .before .before .before .before .before .before .before in
+    let a = c .before .before .before .before .before .before .before .before .before in
+    let o = a .before .before .before .before .before .before .before .before in
     let v = o .before .before .before in
     let e = v .before .before .before in
     let r = e .before .before .before .before .before .before in
-    let s = r .before .before .before .before .before .before .before .before .before .before in
-    let m = memoryOf (s .args .counts .now) (s .args .pair .now) (s .args .words .now) (s .args .floats .now) in
-    file-unfolded (s .args .file .now) (s .args .bits .now) (s .args .valid .now) (s .pre .0 .0) (s .pre .0 .1) _ _ _ _ (r .read .ensures) (e .if1 .left) _ _ m _ _ _ _ _ (o .options-of .ensures) (v .velocities-of .ensures)
-    (lent-is m (fileGates (s .args .file .now)) (s .pre .1 .0 .0) (s .pre .1 .0 .1) (s .pre .1 .1 .0) (s .pre .1 .1 .1)) (a .dealias-sweep .ensures)
+    let s = r .before .before .before .before .before .before .before .before .before .before .before in
+    let m = memoryOf (s .args .counts .now) (s .args .doubtful .now) (s .args .pair .now) (s .args .words .now) (s .args .floats .now) in
+    file-unfolded (s .args .file .now) (s .args .bits .now) (s .args .valid .now) (s .pre .0 .0) (s .pre .0 .1) _ _ _ _ (r .read .ensures) (e .if1 .left) _ _ m _ _ _ _ _ _ (o .options-of .ensures) (v .velocities-of .ensures)
+    (lent-is m (fileGates (s .args .file .now)) (s .pre .1 .0 .0) (s .pre .1 .0 .1) (s .pre .1 .0 .2) (s .pre .1 .1 .0) (s .pre .1 .1 .1)) (a .dealias-sweep .ensures)
 
 pub unfold-in-spec : {M : Type 1} → statement M
 unfold-in-spec =
@@ -78,4 +81,5 @@ unfold-in-spec =
     same-length-7
     same-length-8
     same-length-9
+    same-length-10
     returns-2)

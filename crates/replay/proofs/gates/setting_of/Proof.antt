@@ -50,9 +50,12 @@ element-copy-out-t41 c = search needs
 element-copy-out-t44 : tie.Need-element-copy-out-t44
 element-copy-out-t44 c = search needs
 
+element-copy-out-t47 : tie.Need-element-copy-out-t47
+element-copy-out-t47 c = search needs
+
 returns : tie.Need-returns
 unfolding settingOf
-returns c = rw (c .before .before .before .before .before .before .before .before .before .before .before .float-of .ensures) refl
+returns c = rw (c .before .before .before .before .before .before .before .before .before .before .before .before .float-of .ensures) refl
 
 pub setting-of-spec : {M : Type 1} → statement M
 setting-of-spec =
@@ -73,4 +76,5 @@ setting-of-spec =
     element-copy-out-t38
     element-copy-out-t41
     element-copy-out-t44
+    element-copy-out-t47
     returns)

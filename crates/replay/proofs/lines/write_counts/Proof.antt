@@ -1,5 +1,5 @@
 -- `replay::lines::write_counts` is safe and ends. The invariant: i is at most the number of counts. Assumes nothing.
-use borrow.Author.Needs.{needs}
+use native.Mathlib.Omega.{arith}
 use Prim.Native.Nat.{_-_, _≤_}
 use lib.ListN.{length}
 use Rattle.replay.proofs.lines.write_counts.Statement.{statement}
@@ -12,28 +12,28 @@ abbrev μ-loop : tie.MeasureT-loop
 μ-loop counts i₀ i = length counts - i
 
 loop-holds : tie.Need-loop-holds Inv-loop μ-loop
-loop-holds c = search needs
+loop-holds c = omega arith
 
 mul-write-count : tie.Need-mul-write-count Inv-loop μ-loop
-mul-write-count c = search needs
+mul-write-count c = omega arith
 
 shared-slice-copy-out-write-count : tie.Need-shared-slice-copy-out-write-count Inv-loop μ-loop
-shared-slice-copy-out-write-count c = search needs
+shared-slice-copy-out-write-count c = omega arith
 
 write-count-requires : tie.Need-write-count-requires Inv-loop μ-loop
-write-count-requires c κs = search needs
+write-count-requires c κs = tt
 
 add-i : tie.Need-add-i Inv-loop μ-loop
-add-i c = search needs
+add-i c = omega arith
 
 loop-less : tie.Need-loop-less Inv-loop μ-loop
-loop-less c = search needs
+loop-less c = omega arith
 
 loop-again : tie.Need-loop-again Inv-loop μ-loop
-loop-again c = search needs
+loop-again c = omega arith
 
 returns : tie.Need-returns Inv-loop μ-loop
-returns c = search needs
+returns c = tt
 
 pub write-counts-spec : {M : Type 1} → statement M
 write-counts-spec =

@@ -20,11 +20,11 @@ abbrev sweepAt : tie.Start → Sweep
 sweepAt s = sweepBy (s .args .o) (s .args .velocity .now) (s .args .valid .now)
 
 abbrev memoryAt : tie.Start → Memory
-memoryAt s = memoryOf (s .args .folds .now) (s .args .pair .now) (s .args .words .now) (s .args .floats .now)
+memoryAt s = memoryOf (s .args .folds .now) (s .args .doubtful .now) (s .args .pair .now) (s .args .words .now) (s .args .floats .now)
 
 -- where the call began, from the place after questions 1 to 8
 abbrev at-start : tie.After-plan-sweep → tie.Start
-at-start c = c .before .before .before .before .before .before .before .before
+at-start c = c .before .before .before .before .before .before .before .before .before
 
 -- the answer of questions 1 to 8
 planned : (c : tie.After-plan-sweep) → c .plan-sweep .result ≡ planningBy (firstNo (eightOf (sweepAt (at-start c)) (lengths (memoryAt (at-start c))))) (ownPlan (sweepAt (at-start c)))
@@ -55,7 +55,7 @@ enum-known-p c = search needs
 
 unfold-sweep-requires : tie.Need-unfold-sweep-requires
 unfold-sweep-requires c κs =
-    let d = c .before .before .before .before .before in
+    let d = c .before .before .before .before .before .before in
     let s = at-start (d .before .before) in
     (seven-of-eight (sweepAt s) (room (gatesIn (sweepAt s)) (lengths (memoryAt s))) (eight-yes d), d .before .before .plan-sweep .ensures .1 (d .p .given .0 .0) (d .p .given .1))
 
@@ -74,10 +74,13 @@ same-length-3 c = search needs
 same-length-4 : tie.Need-same-length-4
 same-length-4 c = search needs
 
+same-length-5 : tie.Need-same-length-5
+same-length-5 c = search needs
+
 returns : tie.Need-returns
 returns c =
-    let u = c .before .before .before .before .before .before .before in
-    let d = u .before .before .before .before .before .before in
+    let u = c .before .before .before .before .before .before .before .before .before in
+    let d = u .before .before .before .before .before .before .before in
     let s = at-start (d .before .before) in
     u .unfold-sweep .ensures ∙ call-goes-on (sweepAt s) (memoryAt s) (d .p .given .0 .0) (plan-own d) (eight-yes d)
 
@@ -101,5 +104,6 @@ dealias-sweep-spec =
     same-length-2
     same-length-3
     same-length-4
+    same-length-5
     returns
     returns-2)

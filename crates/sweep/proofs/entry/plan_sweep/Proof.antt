@@ -5,7 +5,7 @@ use mathlib.Core.Path.{_≡_, refl, sym, ap, subst, _∙_}
 use native.Mathlib.Omega.{arith}
 use borrow.Author.Needs.{needs}
 use Rattle.arithmetic.specs.declared.intervals.Plan.{Plan}
-use Rattle.arithmetic.proofs.Plans.{T-of}
+use Rattle.arithmetic.proofs.RangeLaws.{T-of}
 use Rattle.sweep.specs.Entry.{sweepBy}
 use Rattle.sweep.specs.Inside.Planning.{planningBy, Fit}
 use Rattle.sweep.specs.Questions.{firstNo, seven, eight, atMost}

@@ -14,7 +14,7 @@ use Rattle.sweep.proofs.entry.unfold_sweep.Tie as tie
 
 -- the memory that the parameters are
 abbrev memoryAt : tie.Start → Memory
-memoryAt s = memoryOf (s .args .folds .now) (s .args .pair .now) (s .args .words .now) (s .args .floats .now)
+memoryAt s = memoryOf (s .args .folds .now) (s .args .doubtful .now) (s .args .pair .now) (s .args .words .now) (s .args .floats .now)
 
 few : (s : tie.Start) → length (s .args .velocity .now) ≤ gatesOfLargest
 few s = small (sweepBy (s .args .o) (s .args .velocity .now) (s .args .valid .now)) (memoryAt s) (s .pre .0)
@@ -26,16 +26,16 @@ floats-are : (s : tie.Start) → 16 * length (s .args .velocity .now) + 16 ≤ l
 floats-are s = floats-room (sweepBy (s .args .o) (s .args .velocity .now) (s .args .valid .now)) (memoryAt s) (s .pre .0)
 
 mul-w : tie.Need-mul-w
-mul-w c = record { fits = omega (arith, few (c .before .before .before .before .before)) }
+mul-w c = record { fits = omega (arith, few (c .before .before .before .before .before .before)) }
 
 add-w : tie.Need-add-w
-add-w c = record { fits = omega (arith, few (c .before .before .before .before .before)) }
+add-w c = record { fits = omega (arith, few (c .before .before .before .before .before .before)) }
 
 mul-d : tie.Need-mul-d
-mul-d c = record { fits = omega (arith, few (c .before .before .before .before .before)) }
+mul-d c = record { fits = omega (arith, few (c .before .before .before .before .before .before)) }
 
 add-d : tie.Need-add-d
-add-d c = record { fits = omega (arith, few (c .before .before .before .before .before)) }
+add-d c = record { fits = omega (arith, few (c .before .before .before .before .before .before)) }
 
 sub-solve : tie.Need-sub-solve
 sub-solve c = search needs
@@ -44,7 +44,7 @@ part-solve-start : tie.Need-part-solve-start
 part-solve-start c = search needs
 
 part-solve-end : tie.Need-part-solve-end
-part-solve-end c = words-are (c .before .before .before .before .before .before .before)
+part-solve-end c = words-are (c .before .before .before .before .before .before .before .before .before)
 
 sub-solve-2 : tie.Need-sub-solve-2
 sub-solve-2 c = search needs
@@ -53,11 +53,11 @@ part-solve-start-2 : tie.Need-part-solve-start-2
 part-solve-start-2 c = search needs
 
 part-solve-end-2 : tie.Need-part-solve-end-2
-part-solve-end-2 c = floats-are (c .before .before .before .before .before .before .before .before)
+part-solve-end-2 c = floats-are (c .before .before .before .before .before .before .before .before .before .before)
 
 solve-requires : tie.Need-solve-requires
 solve-requires c κs =
-    let s = c .before .before .before .before .before .before .before .before .before in
+    let s = c .before .before .before .before .before .before .before .before .before .before .before in
     let a = s .args in
     (finds-ask (a .o) (a .p) (a .velocity .now) (a .valid .now) (memoryAt s) (s .pre .0) (s .pre .1) _ _ (length-taken _ (a .words .now) (words-are s)) (length-taken _ (a .floats .now) (floats-are s)), outputs (a .o) (a .p) (a .velocity .now) (a .valid .now) (memoryAt s) (s .pre .0))
 
@@ -73,10 +73,13 @@ same-length-3 c = search needs
 same-length-4 : tie.Need-same-length-4
 same-length-4 c = search needs
 
+same-length-5 : tie.Need-same-length-5
+same-length-5 c = search needs
+
 returns : tie.Need-returns
 returns c =
-    let u = c .before .before .before .before .before .before .before .solve in
-    let s = c .before .before .before .before .before .before .before .before .before .before .before .before .before .before .before .before .before in
+    let u = c .before .before .before .before .before .before .before .before .before .solve in
+    let s = c .before .before .before .before .before .before .before .before .before .before .before .before .before .before .before .before .before .before .before .before .before in
     let a = s .args in
     solved-ends (a .o) (a .p) (a .velocity .now) (a .valid .now) (memoryAt s) (s .pre .0) (take (96 * length (a .velocity .now) + 64 - 0) (a .words .now))
     (take (16 * length (a .velocity .now) + 16 - 0) (a .floats .now)) (length-taken _ (a .words .now) (words-are s)) (length-taken _ (a .floats .now) (floats-are s)) _ (u .ensures) _ _
@@ -101,4 +104,5 @@ unfold-sweep-spec =
     same-length-2
     same-length-3
     same-length-4
+    same-length-5
     returns)
