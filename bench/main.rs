@@ -68,9 +68,10 @@ fn staged(s: &Sweep, limits: &[f64], l: &mut Lent) -> [f64; 7] {
         let e = stage_edges(w, words, d, floats, vel, n, n, m, t, c, 2.0 * s.nyquist as f64);
         stage_sizes(w, words, n, n, nodes);
         stage_copy(w, words, n, t + 8 * e + 3 * nodes, nodes);
-        assert_eq!(stage_merges(w.add(t), 8 * e + 8 * nodes, d, floats, e, nodes), 1);
+        assert_eq!(stage_merges(w.add(t), 14 * e + 8 * nodes, d, floats, e, nodes), 1);
         stage_copy(w, words, t + 8 * e + 6 * nodes, n + nodes, nodes);
         stage_copy(w, words, t + 8 * e + 7 * nodes, n + 2 * nodes, nodes);
+        stage_copy(w, words, t + 8 * e + 8 * nodes, n + 3 * nodes, 6 * (k - 1));
         *w.add(n + nodes) = 1000;
         *w.add(n + 2 * nodes) = 0;
         lap(4);

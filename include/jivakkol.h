@@ -1,10 +1,12 @@
-/* The exported entries of Jivakkol: fold counts and marks of a radar sweep, its region map, its unfolded velocities, and sweep files.
+/* The exported entries of Jivakkol: fold counts and marks of a radar sweep, its merge book, its region map, its unfolded velocities, and sweep
+ * files.
  *
  * Every slice is a pointer and a length. What a host must see to: no slice that a call writes overlaps another that it is given; memory is
  * initialised, and no other thread uses it while the call lasts (calls on different memory may run at once); the thread has about 80 KB of stack
  * left; the processor rounds to nearest and does not flush subnormals.
- * For each input the answer and all memory lent are what crates/sweep/specs/Call.antt (`call`), crates/map/specs/Map.antt (`callMap`),
- * crates/sweep/specs/Velocity.antt (`callVelocity`) and crates/files/specs/Calls.antt (`callRead`, `callWrite`, `callSize`) say.
+ * For each input the answer and all memory lent are what crates/sweep/specs/Call.antt (`call`), crates/sweep_book/specs/Book.antt (`callBook`),
+ * crates/map/specs/Map.antt (`callMap`), crates/sweep/specs/Velocity.antt (`callVelocity`) and crates/files/specs/Calls.antt (`callRead`, `callWrite`,
+ * `callSize`) say.
  */
 #ifndef JIVAKKOL_H
 #define JIVAKKOL_H
@@ -23,6 +25,9 @@ extern "C" {
 /* Work memory that a sweep of n gates asks for. */
 #define JIVAKKOL_WORK_WORDS(n) (96 * (size_t)(n) + 64)
 #define JIVAKKOL_WORK_FLOATS(n) (16 * (size_t)(n) + 16)
+
+/* The numbers of a merge book where a sweep has so many regions; it has no more than gates. */
+#define JIVAKKOL_BOOK_NUMBERS(regions) (6 * ((size_t)(regions) - ((regions) > 0)))
 
 /* The length of a sweep file. */
 #define JIVAKKOL_FILE_BYTES(rays, gates) (18 + (size_t)(rays) * (3 + 5 * (size_t)(gates)))
@@ -45,6 +50,26 @@ uint32_t jivakkol_dealias_sweep(
     const float *velocity, size_t velocity_len, const uint8_t *valid, size_t valid_len,
     int32_t *folds, size_t folds_len, uint8_t *doubtful, size_t doubtful_len, uint32_t *pair, size_t pair_len,
     uint32_t *work, size_t work_len, double *work_f64, size_t work_f64_len);
+
+/* jivakkol_dealias_sweep with a merge book: book gets six numbers for each merge, in the order of the merges.
+ *   base           the node that the other was merged into; it keeps its number
+ *   moved node     a node's number is the label of the region that it began as (jivakkol_region_map)
+ *   weight         the pairs of the edge between the two nodes, edges that it took up included
+ *   bridged pairs  how many of these were seen over gates without a label
+ *   folds moved    what the count of every gate of the moved node gains, before centering; may be negative or 0
+ *   gates moved    the gates of the moved node, also where folds moved is 0
+ * The entries, done in order over the region map with all counts 0, give the counts before centering. Elements of book past the last merge's
+ * are unchanged. It must have JIVAKKOL_BOOK_NUMBERS(regions), also where fewer regions merge; with rays * gates in their place it is always long enough.
+ * Answers and leaves what jivakkol_dealias_sweep does, any refusal leaving book unchanged too, but for one more number, after 8 and before 9:
+ *   13 book has room for fewer entries than regions less one
+ * After 13 folds, doubtful and pair are unchanged, and work memory is as after 9. Question 2 does not ask the length of book. */
+uint32_t jivakkol_dealias_sweep_book(
+    uint32_t rays, uint32_t gates, float nyquist,
+    uint32_t interval_splits, uint32_t skip_between_rays, uint32_t skip_along_ray,
+    uint32_t centered, uint32_t rays_wrap_around,
+    const float *velocity, size_t velocity_len, const uint8_t *valid, size_t valid_len,
+    int32_t *folds, size_t folds_len, uint8_t *doubtful, size_t doubtful_len, uint32_t *pair, size_t pair_len,
+    int32_t *book, size_t book_len, uint32_t *work, size_t work_len, double *work_f64, size_t work_f64_len);
 
 /* The region map: the label of each gate, 0 where it has none; regions gets the number of regions.
  *

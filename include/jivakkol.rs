@@ -6,6 +6,12 @@ extern "C" {
         folds: *mut i32, folds_len: usize, doubtful: *mut u8, doubtful_len: usize, pair: *mut u32, pair_len: usize,
         work: *mut u32, work_len: usize, work_f64: *mut f64, work_f64_len: usize,
     ) -> u32;
+    pub fn jivakkol_dealias_sweep_book(
+        rays: u32, gates: u32, nyquist: f32, interval_splits: u32, skip_between_rays: u32, skip_along_ray: u32,
+        centered: u32, rays_wrap_around: u32, velocity: *const f32, velocity_len: usize, valid: *const u8, valid_len: usize,
+        folds: *mut i32, folds_len: usize, doubtful: *mut u8, doubtful_len: usize, pair: *mut u32, pair_len: usize,
+        book: *mut i32, book_len: usize, work: *mut u32, work_len: usize, work_f64: *mut f64, work_f64_len: usize,
+    ) -> u32;
     pub fn jivakkol_region_map(
         rays: u32, gates: u32, nyquist: f32, interval_splits: u32, skip_between_rays: u32, skip_along_ray: u32,
         centered: u32, rays_wrap_around: u32, velocity: *const f32, velocity_len: usize, valid: *const u8, valid_len: usize,

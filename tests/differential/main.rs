@@ -1,6 +1,6 @@
 //! Feeds the same made sweeps to the proved entries (the static library) and to the Rust, in one process, and compares every result: answer
 //! number, counts, marks, pair, labels, number of regions, and every word of lent memory that must or must not change. Sweep files: files.rs.
-//! Edge records, from the stages of a call: records.rs. Merges at and beside a near tie: marks.rs.
+//! Edge records, from the stages of a call: records.rs. Merges at and beside a near tie: marks.rs. The merge book: books.rs.
 extern crate radish_oracle;
 use radish_oracle::make::{sized, small, weather, Rng};
 use radish_oracle::Sweep;
@@ -9,6 +9,7 @@ use std::collections::BTreeMap;
 #[path = "../../include/jivakkol.rs"]
 mod jivakkol;
 use jivakkol::{jivakkol_dealias_sweep, jivakkol_region_map, jivakkol_unfold_velocity};
+mod books;
 mod files;
 mod marks;
 mod records;
@@ -19,17 +20,20 @@ struct Lent {
     folds: Vec<i32>,
     doubtful: Vec<u8>,
     pair: Vec<u32>,
+    book: Vec<i32>,
     labels: Vec<u32>,
     regions: Vec<u32>,
     words: Vec<u32>,
     floats: Vec<f64>,
 }
 
+/// With no merge book.
 fn lent(r: &mut Rng, n: usize) -> Lent {
     Lent {
         folds: (0..n).map(|_| r.next() as i32).collect(),
         doubtful: (0..n).map(|_| r.next() as u8).collect(),
         pair: vec![r.next() as u32, r.next() as u32],
+        book: Vec::new(),
         labels: (0..n).map(|_| r.next() as u32).collect(),
         regions: vec![r.next() as u32],
         words: (0..96 * n + 64 + r.below(3) as usize).map(|_| r.next() as u32).collect(),
@@ -49,6 +53,7 @@ macro_rules! on_sweep {
         }
     };
 }
+pub(crate) use on_sweep;
 
 fn bits(d: &[f64]) -> Vec<u64> {
     d.iter().map(|x| x.to_bits()).collect()
@@ -383,6 +388,7 @@ fn main() {
     marks::run(15 * count);
     files::run(count);
     records::run(count / 2);
+    books::run(count);
     for (name, make) in [("velocities of many exponents", inexact as fn(&mut Rng) -> Sweep), ("tipping sums", tipping)] {
         let mut other = [0u64; 3];
         for _ in 0..count / 10 {

@@ -116,7 +116,7 @@ impl Tally {
 
 /// Patches of a few velocities, with masked gates and valid gates of label 0 strewn in. These lie at Nyquist, where the last interval ends, or
 /// above it, where there is none: a velocity above Nyquist adds intervals below.
-fn gapped(r: &mut Rng) -> Sweep {
+pub fn gapped(r: &mut Rng) -> Sweep {
     let (rays, gates) = (1 + r.below(12) as usize, 1 + r.below(12) as usize);
     let (wide, long) = (1 + r.below(4) as usize, 1 + r.below(6) as usize);
     let nyquist = r.one_of(&[10.0f32, 1.0, 0.125, 27.3]);

@@ -8,6 +8,11 @@ pub(crate) mod access {
         edges.pop_edge().map(|e| ([e.node1 as usize, e.node2 as usize], e.weight, e.diff))
     }
 
+    /// A node's gates.
+    pub(crate) fn gates_in(regions: &RegionTracker, node: usize) -> i64 {
+        regions.get_node_size(node)
+    }
+
     pub(crate) fn regions_in(regions: &RegionTracker, node: usize) -> &[usize] {
         &regions.regions_in_node[node]
     }

@@ -1,6 +1,6 @@
 //! Sweep files, written from the request's text: a reader and a writer of their own, and what the program over them must print.
 
-use crate::Sweep;
+use crate::{book, Answer, Sweep};
 
 /// What a file holds: rays, gates, Nyquist's bits, splits, skip between rays, skip along a ray, centring, wrap; and for each gate its
 /// velocity's bits, so that a NaN keeps its own, and its mask byte.
@@ -116,25 +116,33 @@ impl Content {
     }
 }
 
-/// The Rust's counts of a file's sweep, all memory being as long as it asks; or the number of the refusal, the reader's or the sweep's.
-pub fn counts(file: &[u8]) -> Result<Vec<i32>, u32> {
+/// A file's sweep and the Rust's answer to it, all memory being as long as it asks; or the number of the refusal, the reader's or the sweep's.
+pub fn accepted(file: &[u8]) -> Result<(Sweep, Answer), u32> {
     let [rays, gates] = size(file)?.map(|x| x as usize);
-    let answer = read(file, rays * gates, rays * gates)?.sweep().answer();
-    if answer.number == 0 { Ok(answer.counts) } else { Err(answer.number) }
+    let sweep = read(file, rays * gates, rays * gates)?.sweep();
+    let answer = sweep.answer();
+    if answer.number == 0 { Ok((sweep, answer)) } else { Err(answer.number) }
 }
 
-/// What the program over files prints, after the number of the refusal that it meets or 0: the counts of an accepted sweep, a line a ray. Of
-/// more than 128 gates it reads no more than the header, and prints nothing.
-pub fn printed(file: &[u8]) -> (u32, Vec<String>) {
+/// What a program over files prints, after the number of the refusal that it meets or 0: these lines of an accepted sweep. Of more than 128 gates
+/// it reads no more than the header, and prints nothing.
+fn printed(file: &[u8], lines: impl Fn(&Sweep, &Answer) -> Vec<String>) -> (u32, Vec<String>) {
     let [rays, gates] = size(file).unwrap_or([0, 0]).map(|x| x as usize);
     if rays * gates > 128 {
         return (0, Vec::new());
     }
+    accepted(file).map_or_else(|number| (number, Vec::new()), |(s, a)| (0, lines(&s, &a)))
+}
+
+/// The printed counts, a line a ray.
+pub fn unfolded(file: &[u8]) -> (u32, Vec<String>) {
     let ray = |counts: &[i32]| counts.iter().map(|c| c.to_string()).collect::<Vec<_>>().join(" ");
-    match counts(file) {
-        Ok(c) => (0, (0..rays).map(|i| ray(&c[i * gates..(i + 1) * gates])).collect()),
-        Err(number) => (number, Vec::new()),
-    }
+    printed(file, |s, a| (0..s.rays).map(|i| ray(&a.counts[i * s.gates..(i + 1) * s.gates])).collect())
+}
+
+/// The printed merge book.
+pub fn booked(file: &[u8]) -> (u32, Vec<String>) {
+    printed(file, |s, _| book::lines(&s.book(&s.trace())))
 }
 
 /// The files of a recorded list, each preceded by its length in two bytes.

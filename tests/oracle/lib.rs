@@ -12,11 +12,12 @@ pub type Result<T> = std::result::Result<T, RadishError>;
 
 #[path = "dealias/mod.rs"]
 pub mod dealias;
+pub mod book;
 pub mod file;
 pub mod make;
 
 use dealias::access::{
-    combine_regions, dealias_sweep, edge_sum_and_count, find_regions, find_sweep_interval_splits, next_edge, regions_in,
+    combine_regions, dealias_sweep, edge_sum_and_count, find_regions, find_sweep_interval_splits, gates_in, next_edge, regions_in,
     AggregatedEdge, EdgeTracker, RegionTracker,
 };
 use dealias::DealiasOptions;
@@ -86,6 +87,18 @@ pub fn is_doubtful(d: f64) -> bool {
     (16 * m - 7 * one).rem_euclid(16 * one) <= 2 * one
 }
 
+/// A merge as the Rust's trackers show it: its base and the node that it moves, the weight of its edge, what the moved node's counts gain, and
+/// the gates of either node before it.
+#[derive(Debug, Clone, Copy, PartialEq)]
+pub struct Merge {
+    pub base: usize,
+    pub moved: usize,
+    pub weight: i32,
+    pub folds: i32,
+    pub gates: i64,
+    pub base_gates: i64,
+}
+
 /// The inner values, for looking into a difference. `quotients` has for each merge its edge's difference over its weight, and that weight.
 pub struct Trace {
     pub limits: Vec<f64>,
@@ -95,6 +108,7 @@ pub struct Trace {
     pub uncentred: Vec<i32>,
     pub doubtful: Vec<u8>,
     pub quotients: Vec<(f64, i32)>,
+    pub merged: Vec<Merge>,
     pub merges: u32,
     pub within: bool,
 }
@@ -218,7 +232,7 @@ impl Sweep {
     }
 
     /// The merges one by one, with question 9 put to each. Stops at the first merge that fails it. The difference of a merge, after the division,
-    /// and the regions that it moves are the Rust's own: its trackers are looked at before and after each merge.
+    /// and the regions that it moves are the Rust's own, and so is what `merged` has of it: its trackers are looked at before and after each merge.
     pub fn trace(&self) -> Trace {
         let (velocity, valid) = (self.velocity(), self.valid());
         let limits = find_sweep_interval_splits(self.nyquist, self.splits as usize, &self.valid_velocities()).unwrap();
@@ -237,6 +251,7 @@ impl Sweep {
             uncentred: vec![0; labels.iter().len()],
             doubtful: vec![0; labels.iter().len()],
             quotients: Vec::new(),
+            merged: Vec::new(),
             merges: 0,
             within: true,
         };
@@ -254,7 +269,7 @@ impl Sweep {
         let mut marked = vec![0; regions + 1];
         while let Some((nodes, weight, quotient)) = next_edge(&et) {
             let before = rt.unwrap_number.clone();
-            let members = nodes.map(|node| regions_in(&rt, node).to_vec());
+            let (members, gates) = (nodes.map(|node| regions_in(&rt, node).to_vec()), nodes.map(|node| gates_in(&rt, node)));
             assert!(!combine_regions(&mut rt, &mut et), "an edge is live, but there is no merge");
             out.merges += 1;
             out.quotients.push((quotient, weight));
@@ -263,6 +278,12 @@ impl Sweep {
             if is_doubtful(quotient) {
                 members[moved].iter().for_each(|&region| marked[region] = 1);
             }
+            // Every region of the moved node gains the same.
+            let gain = |region: usize| rt.unwrap_number[region].wrapping_sub(before[region]);
+            let folds = gain(members[moved][0]);
+            assert!(members[moved].iter().all(|&region| gain(region) == folds), "regions of the moved node gain different numbers");
+            let (base, gates, base_gates) = (nodes[1 - moved], gates[moved], gates[1 - moved]);
+            out.merged.push(Merge { base, moved: nodes[moved], weight, folds, gates, base_gates });
             // A region whose count changed was moved, by the rounded difference or its negation.
             for (a, b) in before.iter().zip(&rt.unwrap_number) {
                 if a != b && ((*b as i64 - *a as i64).abs() > 1000 || (*b as i64).abs() > 1000) {

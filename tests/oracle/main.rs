@@ -5,8 +5,11 @@
 //! oracle marks                  read sweeps, one a line; print the number of the answer and, where it is 0, the mark of each gate
 //! oracle map                    read sweeps, one a line; print the number of the first of questions 1 to 8 that gets a no, or 0, regions and the Rust's labels
 //! oracle records                read sweeps, one a line; print the Rust's records that become edges: labels, count, count less that with both skips 0
+//! oracle entries                read sweeps, one a line; print the number of the answer and, where it is 0, eight numbers a merge: the six of its
+//!                               entry in the book, how many records its edge is made of, and the base's gates before it
 //! oracle calls                  read recorded calls, one a line; print the lines of the entries
 //! oracle unfold                 read a recorded list of sweep files; print for each a line with `=` and its number, and what the program over files prints
+//! oracle book                   the same with what the program over files prints of the merge book
 //! oracle numbers                read the same; print for each the number of the first refusal, the reader's or the sweep's, or 0
 //! oracle trace                  read one sweep; print limits, labels, records, merges, uncentred counts and marks
 //! oracle time RAYS GATES ROUGHNESS REPS   time `dealias_region_based` on a made weather sweep
@@ -26,7 +29,7 @@ fn main() {
                 writeln!(out, "{}", s.line()).unwrap();
             }
         }
-        Some(what @ ("answer" | "counts" | "marks" | "map" | "records")) => {
+        Some(what @ ("answer" | "counts" | "marks" | "map" | "records" | "entries")) => {
             for line in std::io::stdin().lock().lines() {
                 let line = line.unwrap();
                 let text = match Sweep::parse(&line) {
@@ -34,6 +37,7 @@ fn main() {
                     Some(s) if what == "marks" => s.marks_line(),
                     Some(s) if what == "map" => s.map_line(None),
                     Some(s) if what == "records" => s.records_line(),
+                    Some(s) if what == "entries" => s.entries_line(),
                     Some(s) => match s.counts_or_none() {
                         Some(counts) => counts.iter().map(|c| c.to_string()).collect::<Vec<_>>().join(" "),
                         None => "error".into(),
@@ -51,15 +55,15 @@ fn main() {
                 }
             }
         }
-        Some(what @ ("unfold" | "numbers")) => {
+        Some(what @ ("unfold" | "book" | "numbers")) => {
             let mut list = Vec::new();
             std::io::stdin().lock().read_to_end(&mut list).unwrap();
             for f in file::files(&list).expect("files, each after its length") {
                 if what == "numbers" {
-                    writeln!(out, "{}", file::counts(f).map_or_else(|number| number, |_| 0)).unwrap();
+                    writeln!(out, "{}", file::accepted(f).map_or_else(|number| number, |_| 0)).unwrap();
                     continue;
                 }
-                let (number, lines) = file::printed(f);
+                let (number, lines) = if what == "book" { file::booked(f) } else { file::unfolded(f) };
                 writeln!(out, "= {number}").unwrap();
                 lines.iter().for_each(|text| writeln!(out, "{text}").unwrap());
             }
@@ -79,8 +83,9 @@ fn main() {
             for e in &t.records {
                 writeln!(out, "record {} {} count {} sums {:?} {:?}", e.0, e.1, e.2, e.3, e.4).unwrap();
             }
-            for (quotient, weight) in &t.quotients {
+            for ((quotient, weight), m) in t.quotients.iter().zip(&t.merged) {
                 writeln!(out, "merge of weight {weight}, difference over it {quotient:?}, doubtful {}", is_doubtful(*quotient)).unwrap();
+                writeln!(out, "  node {} of {} gates into {} of {}, gaining {}", m.moved, m.gates, m.base, m.base_gates, m.folds).unwrap();
             }
             writeln!(out, "merges {} within {} uncentred {:?} marks {:?}", t.merges, t.within, t.uncentred, t.doubtful).unwrap();
             writeln!(out, "counts {:?}", if t.within { s.counts() } else { Vec::new() }).unwrap();
@@ -100,7 +105,8 @@ fn main() {
             writeln!(out, "rays {} gates {} regions {} merges {} seconds {:.4}", s.rays, s.gates, t.regions, t.merges, best).unwrap();
         }
         _ => {
-            eprintln!("usage: oracle make SEED COUNT MOST | doubtful SEED COUNT | answer | calls | counts | marks | map | records | unfold | numbers | trace");
+            eprintln!("usage: oracle make SEED COUNT MOST | doubtful SEED COUNT | answer | calls | counts | marks | map | records | entries");
+            eprintln!("       oracle unfold | book | numbers | trace");
             eprintln!("       oracle time RAYS GATES ROUGHNESS REPS");
             std::process::exit(2);
         }

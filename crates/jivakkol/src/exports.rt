@@ -2,6 +2,7 @@
 ghost use mathlib.Core.Path.{_≡_};
 ghost use Rattle.sweep.specs.Call.{call, memoryOf, answerBy};
 ghost use Rattle.sweep.specs.Entry.{sweepOf};
+ghost use Rattle.sweep_book.specs.Book.{callBook, bookAnswerBy};
 ghost use Rattle.map.specs.Map.{callMap, mapMemoryOf, mapAnswerBy};
 ghost use Rattle.sweep.specs.Velocity.{callVelocity, counted, velocityAnswerBy};
 ghost use Rattle.files.specs.Format.{optionsOf};
@@ -43,6 +44,55 @@ pub extern "C" fn jivakkol_dealias_sweep(
         wrap: rays_wrap_around,
     };
     sweep::entry::dealias_sweep(o, velocity, valid, folds, doubtful, pair, work, work_f64)
+}
+
+// The same with a book of its merges, one entry a merge.
+#[no_mangle]
+pub extern "C" fn jivakkol_dealias_sweep_book(
+    rays: u32,
+    gates: u32,
+    nyquist: f32,
+    interval_splits: u32,
+    skip_between_rays: u32,
+    skip_along_ray: u32,
+    centered: u32,
+    rays_wrap_around: u32,
+    velocity: &[f32],
+    valid: &[u8],
+    folds: &mut [i32],
+    doubtful: &mut [u8],
+    pair: &mut [u32],
+    book: &mut [i32],
+    work: &mut [u32],
+    work_f64: &mut [f64],
+) -> u32
+    ensures { λ r. ⌜ (
+        let s = sweepOf rays gates nyquist «interval_splits» «skip_between_rays» «skip_along_ray» centered «rays_wrap_around» (now (velocity .entry)) (now (valid .entry)) in
+        let m = memoryOf (now (folds .entry)) (now (doubtful .entry)) (now (pair .entry)) (now (work .entry)) (now («work_f64» .entry)) in
+        bookAnswerBy (answerBy r (now (folds .exit)) (now (doubtful .exit)) (now (pair .exit)) (now (work .exit)) (now («work_f64» .exit))) (now (book .exit)) ≡ callBook s m (now (book .entry))
+        ) ⌝ }
+{
+    let o = network::options::Options {
+        rays: rays,
+        gates: gates,
+        nyquist: nyquist,
+        splits: interval_splits,
+        skip_between_rays: skip_between_rays,
+        skip_along_ray: skip_along_ray,
+        centred: centered,
+        wrap: rays_wrap_around,
+    };
+    sweep_book::entry::dealias_sweep_book(
+        o,
+        velocity,
+        valid,
+        folds,
+        doubtful,
+        pair,
+        book,
+        work,
+        work_f64,
+    )
 }
 
 // A sweep's region map: the label of each gate, with the number of regions.

@@ -149,7 +149,7 @@ keep-same s t (x ∷ xs) h = rw (h x, keep-same s t xs h) refl
 
 -- ---- each
 
-each-append : {A B : Type 0} (f : A → List B) (l m : List A) → each f (l ++ m) ≡ each f l ++ each f m
+pub each-append : {A B : Type 0} (f : A → List B) (l m : List A) → each f (l ++ m) ≡ each f l ++ each f m
 unfolding each
 each-append f [] m = refl
 each-append f (x ∷ xs) m = ap (λ (t : List _). f x ++ t) (each-append f xs m) ∙ sym (append-assoc (f x) (each f xs) (each f m))

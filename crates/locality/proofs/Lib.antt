@@ -25,3 +25,4 @@ pub mod EdgesEcho
 pub mod MapPaths
 pub mod MapTheorems
 pub mod SizeTheorems
+pub mod BookTheorems

@@ -1,3 +1,4 @@
 pub mod Demand3
 pub mod Theorems
 pub mod RegionMap
+pub mod BookEntry

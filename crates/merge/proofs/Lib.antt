@@ -13,4 +13,6 @@ pub mod Passing
 pub mod JoinDoes
 pub mod Counts
 pub mod MergeDoes
+pub mod WithTable
 pub mod Marks
+pub mod LogLaws

@@ -1,5 +1,5 @@
 -- Marking: one turn of the walk, over plain values, and what else stays. Assumes nothing.
-use mathlib.Core.Path.{_≡_, refl, sym, ap, _∙_, subst}
+use mathlib.Core.Path.{_≡_, refl, sym, ap, _∙_}
 use mathlib.Core.Logic.{⊎-elim}
 use mathlib.Core.Bool.{Bool, true, false, cond}
 use mathlib.Core.List.{List}
@@ -10,52 +10,14 @@ use lib.ListN.{length, getD, set, length-set}
 use lib.Seq.{getD-set-same, getD-set-other}
 use Rattle.memory.proofs.TreeLaws.{tree-set}
 use Rattle.merge.specs.Inside.Chain.{cur}
-use Rattle.merge.specs.Inside.Table.{Table, rnext, rlen, mark, long, is}
-use Rattle.merge.specs.Inside.Tables.{Tables, view, HoldsTables, Sound, limit, Below, store, withMarks}
+use Rattle.merge.specs.Inside.Table.{rnext, rlen, mark}
+use Rattle.merge.specs.Inside.Tables.{Tables, view, HoldsTables, Sound, store, withTable}
 use Rattle.merge.specs.Inside.Steps.{walkMark, markedAll, markIf}
 use Rattle.merge.specs.Inside.Leaves.{LeavesTables, Fit}
-use Rattle.merge.proofs.TableLaws.{same-table}
+use Rattle.merge.proofs.WithTable.{with-own, store-with, sound-with}
 use Rattle.merge.proofs.View.{read, write}
 use Rattle.merge.proofs.Leaf.{room-of}
 use Rattle.merge.proofs.SoundSet.{eq-or-ne}
-
--- ---- one table of marks for another
-
--- its own marks
-pub with-own : (s : Tables) → withMarks (s .at mark) s ≡ s
-with-own s = λ i. record { at = λ u. go u (is mark u) refl i; diff = s .diff }
-  where
-    go : (u : Table) (b : Bool) → is mark u ≡ b → cond b (s .at mark) (s .at u) ≡ s .at u
-    go u true e = ap (s .at) (same-table mark u e)
-    go u false e = refl
-
--- a mark stored
-store-marks : (l : List ℕ) (s : Tables) (x : ℕ) → store mark (withMarks l s) x 1 ≡ withMarks (set l x 1) s
-unfolding store
-store-marks l s x = λ i. record { at = λ u. go u (is mark u) i; diff = s .diff }
-  where
-    go : (u : Table) (b : Bool) → cond b (set (cond b l (s .at u)) x 1) (cond b l (s .at u)) ≡ cond b (set l x 1) (s .at u)
-    go u true = refl
-    go u false = refl
-
--- marks of any value leave the tables sound
-pub sound-marks : (m n : ℕ) (l : List ℕ) (s : Tables) → length l ≡ n → Sound m n s → Sound m n (withMarks l s)
-sound-marks m n l s e h = record {
-  lengths = λ u. long-of u (is mark u) refl;
-  l-diff = h .l-diff;
-  within = λ u. within-of u (is mark u) refl;
-  single = h .single;
-  light = h .light;
-  spanned = h .spanned;
-}
-  where
-    long-of : (u : Table) (b : Bool) → is mark u ≡ b → length (cond b l (s .at u)) ≡ long u m n
-    long-of u true q = e ∙ ap (λ (t : Table). long t m n) (same-table mark u q)
-    long-of u false q = h .lengths u
-
-    within-of : (u : Table) (b : Bool) → is mark u ≡ b → (j : ℕ) → j < long u m n → Below (limit u m n) (getD (cond b l (s .at u)) j 0)
-    within-of u true q j lt = subst (λ (t : Table). Below (limit t m n) (getD l j 0)) (same-table mark u q) tt
-    within-of u false q j lt = h .within u j lt
 
 -- ---- the walk
 
@@ -94,7 +56,7 @@ pub record MarkWalk (m n : ℕ) (w₀ w : List ℕ) (d : List Float) (l x i : �
   pub room : HoldsTables m n w d
   pub x-in : x < n
   pub marks : List ℕ
-  pub tables : view m n w d ≡ withMarks marks (view m n w₀ d)
+  pub tables : view m n w d ≡ withTable mark marks (view m n w₀ d)
   pub left : walkMark (l - i) (view m n w₀ d .at rnext) marks x ≡ goal
   pub same-w : length w ≡ length w₀
 
@@ -105,7 +67,7 @@ module _ (m n : ℕ) where
     room = r;
     x-in = lt;
     marks = view m n w d .at mark;
-    tables = sym (with-own (view m n w d));
+    tables = sym (with-own mark (view m n w d));
     left = rw (read rlen m n w d v lt) (ap (λ (y : ℕ). walkMark y (view m n w d .at rnext) (view m n w d .at mark) v) (omega arith));
     same-w = refl;
   }
@@ -124,33 +86,33 @@ module _ (m n : ℕ) where
           room = room-of m n w w' d d (k .room) lw refl (tree-set m w (8 * m + 7 * n + x) 1 (omega arith) (k .room .tree));
           x-in = omega (arith, next, h .within rnext x (k .x-in));
           marks = set (k .marks) x 1;
-          tables = write mark m n w d x 1 (k .x-in) (k .room .words) ∙ ap (λ (u : Tables). store mark u x 1) (k .tables) ∙ store-marks (k .marks) (view m n w₀ d) x;
+          tables = write mark m n w d x 1 (k .x-in) (k .room .words) ∙ ap (λ (u : Tables). store mark u x 1) (k .tables) ∙ store-with mark (k .marks) (view m n w₀ d) x 1;
           left = ap (walkMark (l - (i + 1)) (view m n w₀ d .at rnext) (set (k .marks) x 1)) next
               ∙ sym (ap (λ (y : ℕ). walkMark y (view m n w₀ d .at rnext) (k .marks) x) z) ∙ k .left;
           same-w = lw ∙ k .same-w;
         }
 
-    pub mark-end : l ≤ i → LeavesTables m n w d (withMarks goal (view m n w₀ d))
+    pub mark-end : l ≤ i → LeavesTables m n w d (withTable mark goal (view m n w₀ d))
     unfolding walkMark
     mark-end g = let z : l - i ≡ 0 = omega arith in
         record {
-          tables = k .tables ∙ ap (λ (y : List ℕ). withMarks y (view m n w₀ d)) (ap (λ (y : ℕ). walkMark y (view m n w₀ d .at rnext) (k .marks) x) (sym z) ∙ k .left);
+          tables = k .tables ∙ ap (λ (y : List ℕ). withTable mark y (view m n w₀ d)) (ap (λ (y : ℕ). walkMark y (view m n w₀ d .at rnext) (k .marks) x) (sym z) ∙ k .left);
           tree = k .room .tree;
         }
 
 -- ---- marked or not
 
-pub mark-yes : (v : ℕ) (s : Tables) (b : Bool) → b ≡ true → withMarks (markedAll v s) s ≡ markIf b v s
+pub mark-yes : (v : ℕ) (s : Tables) (b : Bool) → b ≡ true → withTable mark (markedAll v s) s ≡ markIf b v s
 unfolding markIf
 mark-yes v s b e = rw e refl
 
 pub mark-no : (v : ℕ) (s : Tables) (b : Bool) → b ≡ false → s ≡ markIf b v s
 unfolding markIf
-mark-no v s b e = rw e (sym (with-own s))
+mark-no v s b e = rw e (sym (with-own mark s))
 
 pub sound-mark-if : (m n : ℕ) (b : Bool) (v : ℕ) (s : Tables) → Sound m n s → Sound m n (markIf b v s)
 unfolding markIf markedAll
-sound-mark-if m n b v s h = sound-marks m n (cond b (markedAll v s) (s .at mark)) s (go b) h
+sound-mark-if m n b v s h = sound-with mark m n (cond b (markedAll v s) (s .at mark)) s refl refl refl (go b) h
   where
     go : (b : Bool) → length (cond b (markedAll v s) (s .at mark)) ≡ n
     go true = length-walk (getD (s .at rlen) v 0) (s .at rnext) (s .at mark) v ∙ h .lengths mark

@@ -60,7 +60,7 @@ ranges-store t m n s h j x p = record { lengths = λ u. length-store t u s j x �
     within-of u true e = each-set (Below (limit u m n)) (s .at u) (long u m n) j x 0 (omega (arith, h .lengths u)) (subst (λ (y : Table). Below (limit y m n) x) (same-table t u e) p) (h .within u)
     within-of u false e = h .within u
 
-stored : (t : Table) (m n : ℕ) (s : Tables) → Sound m n s → (j x : ℕ) → Below (limit t m n) x → sum (store t s j x .at weight) < 2 ^ 32 → sum (store t s j x .at bridged) < 2 ^ 32 → Sound m n (store t s j x)
+stored : (t : Table) (m n : ℕ) (s : Tables) → Sound m n s → (j x : ℕ) → Below (limit t m n) x → sum (store t s j x .at weight) < 2 ^ 31 → sum (store t s j x .at bridged) < 2 ^ 31 → Sound m n (store t s j x)
 stored t m n s h j x p l b =
     let r : Ranges m n (store t s j x) = ranges-store t m n s (ranges-of m n s h) j x p in
     record { lengths = r .lengths; l-diff = unfold store in h .l-diff; within = r .within; single = unfold store in h .single; light = l; spanned = b }
@@ -69,7 +69,7 @@ stored t m n s h j x p l b =
 pub sound-store : (t : Table) (m n : ℕ) (s : Tables) → Sound m n s → (j x : ℕ) → is t weight ≡ false → is t bridged ≡ false → Below (limit t m n) x → Sound m n (store t s j x)
 sound-store t m n s h j x e g p = stored t m n s h j x p (unfold store in rw e (h .light)) (unfold store in rw g (h .spanned))
 
-pub sound-weight : (m n : ℕ) (s : Tables) → Sound m n s → (j x : ℕ) → sum (set (s .at weight) j x) < 2 ^ 32 → Sound m n (store weight s j x)
+pub sound-weight : (m n : ℕ) (s : Tables) → Sound m n s → (j x : ℕ) → sum (set (s .at weight) j x) < 2 ^ 31 → Sound m n (store weight s j x)
 sound-weight m n s h j x q = stored weight m n s h j x tt (unfold store in q) (unfold store in h .spanned)
 
 pub sound-diff : (m n : ℕ) (s : Tables) → Sound m n s → (j : ℕ) (x : Float) → T (fits binary32 x) → Sound m n (diff-set s j x)

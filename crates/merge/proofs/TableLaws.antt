@@ -47,7 +47,7 @@ parts-apart a (p ∷ ps) end h (suc i) (suc k) ne x b c d e = parts-apart (p .fr
 -- ---- the tables
 pub in-turn : (m n : ℕ) → InTurn 0 (tables m n) (tableWords m n)
 unfolding InTurn
-in-turn m n = (omega arith, (omega arith, (omega arith, (omega arith, (omega arith, (omega arith, (omega arith, (omega arith, (omega arith, (omega arith, (omega arith, (omega arith, omega arith))))))))))))
+in-turn m n = (omega arith, (omega arith, (omega arith, (omega arith, (omega arith, (omega arith, (omega arith, (omega arith, (omega arith, (omega arith, (omega arith, (omega arith, (omega arith, omega arith)))))))))))))
 
 pub ends-by : (m n : ℕ) (t : Table) → from t m n + long t m n ≤ tableWords m n
 ends-by m n t = part-end 0 (tables m n) (tableWords m n) (in-turn m n) (number t)

@@ -1,7 +1,8 @@
 // Marks: the regions of the moved node of a doubtful merge, in their table of the lent words.
 use memory::layout;
 ghost use Prim.Native.Nat.{_<_};
-ghost use Rattle.merge.specs.Inside.Tables.{view, HoldsTables, Sound, withMarks};
+ghost use Rattle.merge.specs.Inside.Tables.{view, HoldsTables, Sound, withTable};
+ghost use Rattle.merge.specs.Inside.Table.{mark as markTable};
 ghost use Rattle.merge.specs.Inside.Steps.{markedAll, markIf, merged};
 ghost use Rattle.merge.specs.Inside.Leaves.{LeavesTables, Raised, Gains, Fit};
 
@@ -12,7 +13,7 @@ fn walk_mark(w: &mut [u32], d: &mut [f64], m: usize, n: usize, v: u32)
     requires { ⌜ v < n ⌝ }
     ensures { λ _. ⌜ (
         let s = view m n (now (w .entry)) (now (d .entry)) in
-        LeavesTables m n (now (w .exit)) (now (d .exit)) (withMarks (markedAll v s) s)
+        LeavesTables m n (now (w .exit)) (now (d .exit)) (withTable markTable (markedAll v s) s)
         ) ⌝ }
 {
     let l = w[layout::NODES * m + layout::REGION_LENGTHS * n + v as usize];

@@ -10,7 +10,7 @@ use lib.ListN.{length, getD, set, length-set}
 use lib.Seq.{getD-set-same, getD-set-other}
 use Rattle.network.specs.Network.{Region, gather, raised, bounded}
 use Rattle.merge.specs.Inside.Tables.{Tables, Sound, store}
-use Rattle.merge.specs.Inside.Table.{enext, rnext, stamp, size, elen, rlen, count, mark}
+use Rattle.merge.specs.Inside.Table.{enext, rnext, stamp, size, elen, rlen, count, mark, log}
 use Rattle.merge.specs.Inside.Steps.{turned, splice, grow}
 use Rattle.network.specs.Inside.Net.{edgeOf, edgeNow}
 use Rattle.merge.specs.Inside.Chain.{cur, Chains, own-joined, pos-joined, len-joined}
@@ -69,6 +69,10 @@ module _ (m b v : ℕ) (s : Tables) where
   pub after-mark : after .at mark ≡ s .at mark
   unfolding grow splice store
   after-mark = refl
+
+  pub after-log : after .at log ≡ s .at log
+  unfolding grow splice store
+  after-log = refl
 
   pub after-rnext : after .at rnext ≡ swap (s .at rnext) b v
   unfolding grow splice store swap

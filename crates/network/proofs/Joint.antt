@@ -19,6 +19,7 @@ use Rattle.lists.proofs.SeqLaws.{tab-at, map-upto-same, map-at}
 use Rattle.lists.proofs.SegLaws.{lt-or-le, getD-seg}
 use Rattle.edges.specs.declared.edges.EdgeRecord.{EdgeRecord}
 use Rattle.edges.specs.Edges.{Pair, difference, used}
+use Rattle.network.proofs.SimpleLaws.{joined-back}
 use Rattle.network.specs.Network as Network
 use Rattle.network.specs.Network.{Edge, Region, numbered, sizeIn, gatesOf}
 use Rattle.network.specs.Inside.Simple.{Simple, Joined}
@@ -59,7 +60,7 @@ upto-numbered twoNyquist f (r ∷ rs) k h =
 
 -- ---- the gates of labels i to i + n - 1
 
-gatesFrom : List ℕ → ℕ → ℕ → ℕ
+unfoldable pub gatesFrom : List ℕ → ℕ → ℕ → ℕ
 gatesFrom L i zero = 0
 gatesFrom L i (suc n) = sizeIn L i + gatesFrom L (suc i) n
 
@@ -101,7 +102,7 @@ more-from x L i zero = refl
 more-from x L i (suc n) = omega (arith, size-cons x L i, more-from x L (suc i) n)
 
 -- no gate is counted twice
-gates-most : (L : List ℕ) (i n : ℕ) → gatesFrom L i n ≤ length L
+pub gates-most : (L : List ℕ) (i n : ℕ) → gatesFrom L i n ≤ length L
 gates-most [] i n = omega (arith, none-from i n)
 gates-most (x ∷ L) i n = omega (arith, more-from x L i n, hits-most x i n, gates-most L i n)
 
@@ -153,14 +154,10 @@ module _ (twoNyquist : Float) (k m : ℕ) (L : List ℕ) (ps : List Pair) (s : T
       (rise-place (used k ps) blank (used-rise k ps) i j h (in-rs j l))
   not-joined i j h l (inr e) = omega (arith, e .0, e .1, first-of i (omega arith), first-of j l, second-of i (omega arith), second-of j l, good i (omega arith) .less, good j l .less)
 
-  joined-back : (i j : ℕ) → Joined (edgeOf s i) (edgeOf s j) → Joined (edgeOf s j) (edgeOf s i)
-  joined-back i j (inl e) = inl (sym (e .0), sym (e .1))
-  joined-back i j (inr e) = inr (sym (e .1), sym (e .0))
-
   one-joined : (i j : ℕ) → i < m → j < m → Joined (edgeOf s i) (edgeOf s j) → i ≡ j
   one-joined i j a b e = ⊎-elim
       (λ h. absurd (not-joined i j h b e))
-      (λ h. ⊎-elim (λ g. absurd (not-joined j i g a (joined-back i j e))) (λ g. omega arith) (lt-or-le j i))
+      (λ h. ⊎-elim (λ g. absurd (not-joined j i g a (joined-back (edgeOf s i) (edgeOf s j) e))) (λ g. omega arith) (lt-or-le j i))
       (lt-or-le i j)
 
   tables-simple : Simple (map (edgeOf s) (upto m 0))
@@ -199,7 +196,7 @@ module _ (twoNyquist : Float) (k m : ℕ) (L : List ℕ) (ps : List Pair) (s : T
   gates-few i zero = refl
   gates-few i (suc n) = ap (λ (x : ℕ). sizeIn L i + x) (gates-few (suc i) n)
 
-  pub raw : (n : ℕ) → sum (map (λ r. r .count) (used k ps)) ≤ 4 * n → sum (map (λ r. r .bridged) (used k ps)) ≤ 4 * n → 4 * n < 2 ^ 32 → length L ≡ n → Raw m (k + 1) s
+  pub raw : (n : ℕ) → sum (map (λ r. r .count) (used k ps)) ≤ 4 * n → sum (map (λ r. r .bridged) (used k ps)) ≤ 4 * n → 4 * n < 2 ^ 31 → length L ≡ n → Raw m (k + 1) s
   raw n light spans small long = record {
     first-in = λ j h. omega (arith, first-of j h, good j h .high);
     second-in = λ j h. omega (arith, second-of j h, good j h .high, good j h .less);

@@ -25,12 +25,15 @@ pub mod StepEdges
 pub mod After
 pub mod StepRep
 pub mod Marks
+pub mod LogIs
 pub mod NumberIs
 pub mod Turns
 pub mod Runs
 pub mod Settles
 pub mod Joint
 pub mod Started
+pub mod Standing
+pub mod BookLaws
 pub mod Reduction
 pub mod BeginDoes
 pub mod StartLinks

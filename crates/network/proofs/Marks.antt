@@ -1,4 +1,5 @@
--- The marks in the tables: the invariant does not look at them, and a merge marks the regions of its moved node if it is doubtful. Assumes nothing.
+-- The marks and the log in the tables: the invariant does not look at them, and a merge marks the regions of its moved node if it is doubtful.
+-- Assumes nothing.
 use mathlib.Core.Path.{_≡_, refl, sym, ap, _∙_, subst}
 use mathlib.Core.Logic.{⊎-elim}
 use mathlib.Core.Bool.{Bool, true, false, _&&_, cond}
@@ -12,22 +13,23 @@ use Rattle.lists.proofs.SeqLaws.{eqb-refl}
 use Rattle.merge.specs.Inside.Chain.{cur}
 use Rattle.merge.specs.Inside.Table.{rnext, rlen, mark}
 use Rattle.merge.specs.Inside.Tables.{Tables}
-use Rattle.merge.specs.Inside.Steps.{turned, markedAll, markIf}
+use Rattle.merge.specs.Inside.Steps.{turned, markedAll, markIf, logged}
 use Rattle.merge.proofs.Marks.{met, unmet, sound-mark-if}
+use Rattle.merge.proofs.LogLaws.{sound-logged}
 use Rattle.merge.proofs.SoundSet.{eq-or-ne}
 use Rattle.network.specs.Network.{Region, State, turnIf, gather, members, has}
 use Rattle.network.specs.Inside.Net.{edgeOf, edgeNow, regionOf}
 use Rattle.network.specs.Inside.Rep.{Rep}
 use Rattle.network.proofs.Moved.{same-no, same-yes}
 
--- tables that differ in marks stand for the same network, with the same edges
+-- tables that differ in marks and log stand for the same network, with the same edges
 pub record Remarked (m n : ℕ) (gates : ℕ → ℕ) (k : ℕ) (s u : Tables) (t : State) (R : Rep m n gates k s t) : Type 0 where
   pub rep : Rep m n gates k u t
   pub edge : (j : ℕ) → rep .E j ≡ R .E j
 
-pub remarked : (m n : ℕ) (gates : ℕ → ℕ) (k : ℕ) (s : Tables) (t : State) (R : Rep m n gates k s t) (z : Bool) (v : ℕ) → Remarked m n gates k s (markIf z v s) t R
-unfolding markIf regionOf edgeNow turned turnIf edgeOf
-remarked m n gates k s t R z v = record {
+pub remarked : (m n : ℕ) (gates : ℕ → ℕ) (k : ℕ) (s : Tables) (t : State) (R : Rep m n gates k s t) (z : Bool) (e b v g : ℕ) → Remarked m n gates k s (markIf z v (logged k e b v g s)) t R
+unfolding markIf logged regionOf edgeNow turned turnIf edgeOf
+remarked m n gates k s t R z e b v g = record {
   rep = record {
     E = R .E;
     node = R .node;
@@ -40,7 +42,7 @@ remarked m n gates k s t R z v = record {
     number = R .number;
     simple = R .simple;
     light = R .light;
-    sound = sound-mark-if m n z v s (R .sound);
+    sound = sound-mark-if m n z v (logged k e b v g s) (sound-logged m n k e b v g s (R .sound));
     small = R .small;
     like = R .like;
     sizes = R .sizes;

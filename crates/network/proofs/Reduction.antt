@@ -1,7 +1,7 @@
--- From labels to counts and marks, call by call, over plain values. Assumes nothing.
-use Prim.Native.Nat.{ℕ, _+_, _*_, _≤_}
+-- From labels to counts, marks and log, call by call, over plain values. Assumes nothing.
+use Prim.Native.Nat.{ℕ, _+_, _*_, _-_, _≤_, _<_}
 use native.Mathlib.Omega.{arith}
-use mathlib.Core.Path.{_≡_, refl, sym, ap, _∙_}
+use mathlib.Core.Path.{_≡_, refl, sym, ap, _∙_, subst}
 use mathlib.Core.Logic.{⊎-elim}
 use mathlib.Core.Bool.{true}
 use mathlib.Core.List.{List}
@@ -12,22 +12,26 @@ use lib.Ieee.{Float}
 use borrow.Rule.Slice.PartMut.{putMid}
 use Rattle.lists.specs.Seq.{tabulate}
 use Rattle.lists.proofs.SeqLaws.{tab-length}
-use Rattle.lists.specs.Inside.Seg.{seg, put, Disjoint}
-use Rattle.lists.proofs.SegLaws.{eq-or-ne, length-put, length-seg, getD-seg, getD-put-in, getD-put-below, seg-put-below, seg-put-above, seg-put-same, seg-set-out, seg-part, put-mid, lent-seg}
+use Rattle.lists.specs.Inside.Seg.{seg, put}
+use Rattle.lists.proofs.SegLaws.{eq-or-ne, length-put, length-seg, getD-seg, getD-put-in, getD-put-below, getD-put-above, seg-put-below, seg-put-above, seg-put-same, seg-set-out, seg-part, put-mid, lent-seg}
 use Rattle.edges.specs.Edges.{Pair, pairs, used}
-use Rattle.network.specs.Network.{sizeIn, merges, replay, trace, countOf, markOf, networkBy, mergesInRange}
+use Rattle.network.specs.Book.{book}
+use Rattle.network.specs.Inside.Log.{logIn}
+use Rattle.network.proofs.LogIs.{entries-same}
+use Rattle.network.proofs.BookLaws.{merges-less}
+use Rattle.network.specs.Network.{State, sizeIn, merges, replay, trace, countOf, markOf, networkBy, mergesInRange}
 use Rattle.edges.specs.Inside.Whole.{Edged}
 use Rattle.network.specs.Inside.Sizes.{Sizes}
 use Rattle.merge.specs.Inside.Tables.{view}
 use Rattle.merge.specs.Inside.Table.{count, mark}
 use Rattle.merge.specs.Inside.Steps.{unbias}
 use Rattle.network.specs.Inside.Begin.{Space, Raw, AllIs}
-use Rattle.memory.specs.Inside.Layout.{sizesAt, countsAt, marksAt}
+use Rattle.memory.specs.Inside.Layout.{sizesAt, countsAt, marksAt, bookAt}
 use Rattle.network.specs.Inside.Reduce.{Reduces, Reduced}
 use Rattle.edges.specs.declared.edges.Shape.{Shape}
 use Rattle.network.specs.declared.network.Ran.{Ran}
 use Rattle.network.proofs.Joint.{Filled, raw}
-use Rattle.network.proofs.Started.{network, Left, answer, left, no-region-0}
+use Rattle.network.proofs.Started.{network, Left, few-edges, answer, left, no-region-0}
 
 module _ (f : Shape) (u : List ℕ) (d vel : List Float) (n k : ℕ) (twoNyquist : Float) (q : Reduces f u d vel n k) where
   abbrev ps : List Pair
@@ -72,7 +76,7 @@ module _ (f : Shape) (u : List ℕ) (d vel : List Float) (n k : ℕ) (twoNyquist
             ap (λ (x : List ℕ). seg x a b) e3′ ∙ seg-put-below v2 (13 * n + 8 * e + 3 * (k + 1)) (tabulate (k + 1) (sizeIn (seg u 0 n))) a b (omega arith)
             ∙ ap (λ (x : List ℕ). seg x a b) e2′ ∙ seg-put-above v1 n (tabulate (k + 1) (sizeIn (seg u 0 n))) a b (omega (arith, ls, q .few, q .some))
 
-        module _ (c : ℕ) (ec : c ≡ 8 * e + 8 * (k + 1)) where
+        module _ (c : ℕ) (ec : c ≡ 8 * e + 8 * (k + 1) + 6 * e) where
           abbrev part : List ℕ
           part = seg v3 (13 * n) c
 
@@ -131,37 +135,48 @@ module _ (f : Shape) (u : List ℕ) (d vel : List Float) (n k : ℕ) (twoNyquist
               l5 : length v5 ≡ length u
               l5 = ap length e5 ∙ length-put v4 (n + (k + 1)) (seg v4 (13 * n + 8 * e + 6 * (k + 1)) (k + 1)) ∙ l4
 
-              pub marks-ask : (13 * n + 8 * e + 7 * (k + 1) + (k + 1) ≤ length v5) × (n + (k + 1) + (k + 1) + (k + 1) ≤ length v5) × Disjoint (13 * n + 8 * e + 7 * (k + 1)) (k + 1) (n + (k + 1) + (k + 1)) (k + 1)
-              marks-ask = (omega (arith, l5, q .words, q .few, E .few), omega (arith, l5, q .words, q .few), λ j a b g h. omega (arith, q .few, q .some))
-
               module _ (v6 : List ℕ) (e6 : v6 ≡ put v5 (n + (k + 1) + (k + 1)) (seg v5 (13 * n + 8 * e + 7 * (k + 1)) (k + 1))) where
                 lM : length (seg v5 (13 * n + 8 * e + 7 * (k + 1)) (k + 1)) ≡ k + 1
-                lM = length-seg v5 (13 * n + 8 * e + 7 * (k + 1)) (k + 1) (marks-ask .0)
+                lM = length-seg v5 (13 * n + 8 * e + 7 * (k + 1)) (k + 1) (omega (arith, l5, q .words, q .few, E .few))
 
-                pub l6 : length v6 ≡ length u
+                l6 : length v6 ≡ length u
                 l6 = ap length e6 ∙ length-put v5 (n + (k + 1) + (k + 1)) (seg v5 (13 * n + 8 * e + 7 * (k + 1)) (k + 1)) ∙ l5
 
-                module _ (v7 v8 : List ℕ) (e7 : v7 ≡ set v6 (n + (k + 1)) 1000) (e8 : v8 ≡ set v7 (n + (k + 1) + (k + 1)) 0) where
+                abbrev kept : List ℕ
+                kept = seg v6 (13 * n + 8 * e + 8 * (k + 1)) (6 * (k - 1))
+
+                lK : length kept ≡ 6 * (k - 1)
+                lK = length-seg v6 (13 * n + 8 * e + 8 * (k + 1)) (6 * (k - 1)) (omega (arith, l6, q .words, q .few, E .few))
+
+                module _ (v v7 v8 : List ℕ) (eb : v ≡ put v6 (n + (k + 1) + (k + 1) + (k + 1)) kept) (e7 : v7 ≡ set v (n + (k + 1)) 1000) (e8 : v8 ≡ set v7 (n + (k + 1) + (k + 1)) 0) where
+                  lv : length v ≡ length u
+                  lv = ap length eb ∙ length-put v6 (n + (k + 1) + (k + 1) + (k + 1)) kept ∙ l6
+
                   -- what lies below the counts is as it was
                   low : (a b : ℕ) → a + b ≤ n + (k + 1) → seg v8 a b ≡ seg v3 a b
                   low a b h =
                       ap (λ (x : List ℕ). seg x a b) e8 ∙ seg-set-out v7 (n + (k + 1) + (k + 1)) 0 a b (λ p g. omega arith)
-                      ∙ ap (λ (x : List ℕ). seg x a b) e7 ∙ seg-set-out v6 (n + (k + 1)) 1000 a b (λ p g. omega arith)
+                      ∙ ap (λ (x : List ℕ). seg x a b) e7 ∙ seg-set-out v (n + (k + 1)) 1000 a b (λ p g. omega arith)
+                      ∙ ap (λ (x : List ℕ). seg x a b) eb ∙ seg-put-below v6 (n + (k + 1) + (k + 1) + (k + 1)) kept a b (omega arith)
                       ∙ ap (λ (x : List ℕ). seg x a b) e6 ∙ seg-put-below v5 (n + (k + 1) + (k + 1)) (seg v5 (13 * n + 8 * e + 7 * (k + 1)) (k + 1)) a b (omega arith)
                       ∙ ap (λ (x : List ℕ). seg x a b) e5 ∙ seg-put-below v4 (n + (k + 1)) (seg v4 (13 * n + 8 * e + 6 * (k + 1)) (k + 1)) a b h
                       ∙ ap (λ (x : List ℕ). seg x a b) e4′ ∙ seg-put-below v3 (13 * n) y a b (omega (arith, q .few, q .some))
 
                   -- the words that are not label 0's are as they were copied
-                  copied : (i : ℕ) → (i ≡ n + (k + 1) → ⊥) → (i ≡ n + (k + 1) + (k + 1) → ⊥) → getD v8 i 0 ≡ getD v6 i 0
+                  copied : (i : ℕ) → (i ≡ n + (k + 1) → ⊥) → (i ≡ n + (k + 1) + (k + 1) → ⊥) → getD v8 i 0 ≡ getD v i 0
                   copied i a b =
                       ap (λ (x : List ℕ). getD x i 0) e8 ∙ getD-set-other v7 (n + (k + 1) + (k + 1)) i 0 0 b
-                      ∙ ap (λ (x : List ℕ). getD x i 0) e7 ∙ getD-set-other v6 (n + (k + 1)) i 1000 0 a
+                      ∙ ap (λ (x : List ℕ). getD x i 0) e7 ∙ getD-set-other v (n + (k + 1)) i 1000 0 a
+
+                  -- what lies below the log is as it was when the marks were copied
+                  under : (i : ℕ) → i < n + (k + 1) + (k + 1) + (k + 1) → getD v i 0 ≡ getD v6 i 0
+                  under i h = ap (λ (x : List ℕ). getD x i 0) eb ∙ getD-put-below v6 (n + (k + 1) + (k + 1) + (k + 1)) kept i 0 h
 
                   -- the count and the mark of label l
                   count-of : (l : ℕ) → 1 ≤ l → l ≤ k → getD v8 (n + (k + 1) + l) 0 ≡ getD (view e (k + 1) y d2 .at count) l 0
                   unfolding view
                   count-of l a b =
-                      copied (n + (k + 1) + l) (λ p. omega arith) (λ p. omega arith)
+                      copied (n + (k + 1) + l) (λ p. omega arith) (λ p. omega arith) ∙ under (n + (k + 1) + l) (omega arith)
                       ∙ ap (λ (x : List ℕ). getD x (n + (k + 1) + l) 0) e6 ∙ getD-put-below v5 (n + (k + 1) + (k + 1)) (seg v5 (13 * n + 8 * e + 7 * (k + 1)) (k + 1)) (n + (k + 1) + l) 0 (omega arith)
                       ∙ ap (λ (x : List ℕ). getD x (n + (k + 1) + l) 0) e5
                       ∙ getD-put-in v4 (n + (k + 1)) (seg v4 (13 * n + 8 * e + 6 * (k + 1)) (k + 1)) l 0 (omega (arith, lC)) (omega (arith, l4, q .words, q .few))
@@ -170,23 +185,39 @@ module _ (f : Shape) (u : List ℕ) (d vel : List Float) (n k : ℕ) (twoNyquist
                   mark-of : (l : ℕ) → 1 ≤ l → l ≤ k → getD v8 (n + (k + 1) + (k + 1) + l) 0 ≡ getD (view e (k + 1) y d2 .at mark) l 0
                   unfolding view
                   mark-of l a b =
-                      copied (n + (k + 1) + (k + 1) + l) (λ p. omega arith) (λ p. omega arith)
+                      copied (n + (k + 1) + (k + 1) + l) (λ p. omega arith) (λ p. omega arith) ∙ under (n + (k + 1) + (k + 1) + l) (omega arith)
                       ∙ ap (λ (x : List ℕ). getD x (n + (k + 1) + (k + 1) + l) 0) e6
                       ∙ getD-put-in v5 (n + (k + 1) + (k + 1)) (seg v5 (13 * n + 8 * e + 7 * (k + 1)) (k + 1)) l 0 (omega (arith, lM)) (omega (arith, l5, q .words, q .few))
                       ∙ ap (λ (x : List ℕ). getD x l 0) (ap (λ (x : List ℕ). seg x (13 * n + 8 * e + 7 * (k + 1)) (k + 1)) e5
                       ∙ seg-put-above v4 (n + (k + 1)) (seg v4 (13 * n + 8 * e + 6 * (k + 1)) (k + 1)) (13 * n + 8 * e + 7 * (k + 1)) (k + 1) (omega (arith, lC, q .few, q .some)) ∙ left-4 (7 * (k + 1)) (omega arith))
 
+                  -- a word of the log
+                  log-of : (j : ℕ) → j < 6 * (k - 1) → j < 6 * e → getD v8 (n + (k + 1) + (k + 1) + (k + 1) + j) 0 ≡ logIn (view e (k + 1) y d2) j
+                  unfolding view
+                  log-of j a b =
+                      let at : ℕ = 13 * n + 8 * e + 8 * (k + 1) + j in
+                      let z : at ≡ 13 * n + (8 * e + 8 * (k + 1) + j) = omega arith in
+                      copied (n + (k + 1) + (k + 1) + (k + 1) + j) (λ p. omega arith) (λ p. omega arith)
+                      ∙ ap (λ (x : List ℕ). getD x (n + (k + 1) + (k + 1) + (k + 1) + j) 0) eb
+                      ∙ getD-put-in v6 (n + (k + 1) + (k + 1) + (k + 1)) kept j 0 (omega (arith, lK)) (omega (arith, l6, q .words, q .few))
+                      ∙ getD-seg v6 (13 * n + 8 * e + 8 * (k + 1)) (6 * (k - 1)) j 0 a
+                      ∙ ap (λ (x : List ℕ). getD x at 0) e6 ∙ getD-put-above v5 (n + (k + 1) + (k + 1)) (seg v5 (13 * n + 8 * e + 7 * (k + 1)) (k + 1)) at 0 (omega (arith, lM, q .few, q .some))
+                      ∙ ap (λ (x : List ℕ). getD x at 0) e5 ∙ getD-put-above v4 (n + (k + 1)) (seg v4 (13 * n + 8 * e + 6 * (k + 1)) (k + 1)) at 0 (omega (arith, lC, q .few, q .some))
+                      ∙ ap (λ (x : List ℕ). getD x at 0) e4′ ∙ ap (λ (i : ℕ). getD (put v3 (13 * n) y) i 0) z
+                      ∙ getD-put-in v3 (13 * n) y (8 * e + 8 * (k + 1) + j) 0 (omega (arith, lc)) (omega (arith, room))
+                      ∙ sym (getD-seg y (8 * e + 8 * (k + 1)) (6 * e) j 0 b)
+
                   count-0 : getD v8 (n + (k + 1) + 0) 0 ≡ 1000
                   count-0 =
                       ap (λ (i : ℕ). getD v8 i 0) {x = n + (k + 1) + 0} {y = n + (k + 1)} (omega arith)
                       ∙ ap (λ (x : List ℕ). getD x (n + (k + 1)) 0) e8 ∙ getD-set-other v7 (n + (k + 1) + (k + 1)) (n + (k + 1)) 0 0 (λ p. omega arith)
-                      ∙ ap (λ (x : List ℕ). getD x (n + (k + 1)) 0) e7 ∙ getD-set-same v6 (n + (k + 1)) 1000 0 (omega (arith, l6, q .words, q .few))
+                      ∙ ap (λ (x : List ℕ). getD x (n + (k + 1)) 0) e7 ∙ getD-set-same v (n + (k + 1)) 1000 0 (omega (arith, lv, q .words, q .few))
 
                   mark-0 : getD v8 (n + (k + 1) + (k + 1) + 0) 0 ≡ 0
                   mark-0 =
                       ap (λ (i : ℕ). getD v8 i 0) {x = n + (k + 1) + (k + 1) + 0} {y = n + (k + 1) + (k + 1)} (omega arith)
                       ∙ ap (λ (x : List ℕ). getD x (n + (k + 1) + (k + 1)) 0) e8
-                      ∙ getD-set-same v7 (n + (k + 1) + (k + 1)) 0 0 (omega (arith, ap length e7, length-set v6 (n + (k + 1)) 1000, l6, q .words, q .few))
+                      ∙ getD-set-same v7 (n + (k + 1) + (k + 1)) 0 0 (omega (arith, ap length e7, length-set v (n + (k + 1)) 1000, lv, q .words, q .few))
 
                   net : networkBy twoNyquist f k (seg u 0 n) vel ≡ network twoNyquist k e (seg u 0 n) ps (view e (k + 1) (seg v3 (13 * n) c) d1) filled
                   net = unfold networkBy network in refl
@@ -207,6 +238,7 @@ module _ (f : Shape) (u : List ℕ) (d vel : List Float) (n k : ℕ) (twoNyquist
                           (λ z. ap (λ (i : ℕ). getD v8 (marksAt n k + i) 0) z ∙ mark-0′ ∙ sym zero-mark ∙ ap (markOf _) (sym z))
                           (λ z. mark-of′ l (omega arith) h ∙ leaves g .marks l (omega arith) h)
                           (eq-or-ne l 0);
+                      entries = λ g. entries-same _ (λ j. getD v8 (bookAt n k + j) 0) (length (merges net-is)) (book net-is (merges net-is)) (λ j h. log-of′ j (omega (arith, few-merges, h)) (omega (arith, merges-in, h))) (leaves g .entries);
                       sizes = unfold sizesAt in low n (k + 1) (omega arith) ∙ sizes-3;
                       labels = low 0 n (omega arith) ∙ labels-3;
                     };
@@ -214,6 +246,18 @@ module _ (f : Shape) (u : List ℕ) (d vel : List Float) (n k : ℕ) (twoNyquist
                     where
                       leaves : mergesInRange (network twoNyquist k e (seg u 0 n) ps (view e (k + 1) (seg v3 (13 * n) c) d1) filled) ≡ true → Left twoNyquist k e (seg u 0 n) ps (view e (k + 1) (seg v3 (13 * n) c) d1) filled y d2
                       leaves g = unfold mergesInRange in left twoNyquist k e (seg u 0 n) ps (view e (k + 1) (seg v3 (13 * n) c) d1) filled y d2 r A g
+
+                      net-is : State
+                      net-is = network twoNyquist k e (seg u 0 n) ps (view e (k + 1) (seg v3 (13 * n) c) d1) filled
+
+                      few-merges : length (merges net-is) ≤ k - 1
+                      few-merges = subst (λ (t : State). length (merges t) ≤ k - 1) net (merges-less twoNyquist f k (seg u 0 n) vel)
+
+                      merges-in : length (merges net-is) ≤ e
+                      merges-in = few-edges twoNyquist k e (seg u 0 n) ps (view e (k + 1) (seg v3 (13 * n) c) d1) filled
+
+                      log-of′ : (j : ℕ) → j < 6 * (k - 1) → j < 6 * e → getD v8 (bookAt n k + j) 0 ≡ logIn (view e (k + 1) y d2) j
+                      log-of′ j a b = unfold bookAt in log-of j a b
 
                       no-turn : unbias 1000 ≡ pos 0
                       no-turn = unfold unbias in refl

@@ -11,6 +11,7 @@ use lib.IntN.{ℤ, _+ℤ_}
 use borrow.Author.Tests.{eqb-true}
 use Rattle.lists.specs.Seq.{keep, All}
 use Rattle.lists.proofs.AllLaws.{all-map}
+use Rattle.network.specs.Book.{entryOf, entry, book}
 use Rattle.network.specs.Network.{isZero, Edge, Region, State, Plan, Link, Event, sizeOf, gather, members, raised, at, planFor, plan, kill, shifted, adjust, turnIf, turn, find, absorb, hand, combine, prepare, joinAll, mergeEdges, move, merge, stepTo, step, eventOf, event, trace, replay}
 use Rattle.network.proofs.Lists.{keep-map, keep-fixed, apart, apart′, at-all}
 
@@ -350,3 +351,20 @@ module _ (p q : ℕ → Bool) where
       go : (b : Bool) → q i ≡ b → cond b (event s i ∷ trace (restrict (step s i)) (keep q l)) (trace (restrict (step s i)) (keep q l)) ≡ trace (restrict s) (cond (q i) (i ∷ keep q l) (keep q l))
       go true h = rw (h, event-in s c i h, step-in s c i h) refl
       go false h = rw (h, step-out s c i h) refl
+
+  entry-in : (s : State) → Closed s → (i : ℕ) → q i ≡ true → entry (restrict s) i ≡ entry s i
+  unfolding entry entryOf restrict
+  entry-in s c i qi = rw (at-in i qi (s .edges)) (go (at (s .edges) i) refl)
+    where
+      go : (o : Option Edge) → at (s .edges) i ≡ o → entryOf (keep regionIn (s .regions)) o ≡ entryOf (s .regions) o
+      go none h = refl
+      go (some e) h =
+          let t : (e .num ≡ i) × OkE e = at-all OkE i (s .edges) (c .edges-ok) e h in
+          let n : q (e .num) ≡ true = ap q (t .0) ∙ qi in
+          rw (plan-in (s .regions) (c .regions-ok) e (t .1) n, size-in (plan (s .regions) e .moved) (moved-side (s .regions) e (t .1) ∙ n) (s .regions) (c .regions-ok)) refl
+
+  -- A book, where every edge is on the side.
+  pub book-in : ((i : ℕ) → q i ≡ true) → (l : List ℕ) (s : State) → Closed s → book s l ≡ book (restrict s) l
+  unfolding book
+  book-in every [] s c = refl
+  book-in every (i ∷ l) s c = rw (book-in every l (step s i) (closed-step s c i), entry-in s c i (every i), step-in s c i (every i)) refl

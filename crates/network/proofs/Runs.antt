@@ -2,7 +2,7 @@
 use mathlib.Core.Path.{_≡_, refl, sym, ap, _∙_, subst}
 use mathlib.Core.Logic.{_⊎_, inl, inr}
 use mathlib.Core.Bool.{Bool, true, false, _||_, cond}
-use mathlib.Core.List.{List, map}
+use mathlib.Core.List.{List, [], _∷_, _++_, map, append-assoc, append-nil}
 use mathlib.Core.Option.{Option, none, some}
 use Prim.Native.Nat.{ℕ, zero, suc, _+_, _-_, _≤_, _<_}
 use native.Mathlib.Omega.{arith}
@@ -11,6 +11,9 @@ use lib.ListN.{length, getD}
 use Rattle.network.specs.Network.{Edge, State, Event, at, event, step, choose, inRange, marks, marked, follow, run, trace}
 use Rattle.merge.specs.Inside.Tables.{Tables, view, HoldsTables}
 use Rattle.merge.specs.Inside.Table.{count, mark}
+use Rattle.network.specs.Book.{Entry, entry, book}
+use Rattle.network.specs.Inside.Log.{Entries, logIn}
+use Rattle.network.proofs.LogIs.{entries-none, entries-more}
 use Rattle.network.specs.Inside.Net.{regionOf}
 use Rattle.network.specs.Inside.Rep.{Rep}
 use Rattle.network.specs.Inside.Settle.{Done, onward, settle, ranOf, mergedBy, turnedBy}
@@ -42,6 +45,10 @@ turn-case m n gates k s t w d r h = go (choose (t .edges)) refl (h .answer) (h .
 abbrev later : ℕ → State → List Event
 later f t = trace t (run f t)
 
+-- the entries of a run with f turns left
+abbrev entries-later : ℕ → State → List Entry
+entries-later f t = book t (run f t)
+
 -- whether region x is marked in the end, from the tables s of the network t
 abbrev AtEnd : ℕ → Tables → State → ℕ → ℕ
 AtEnd f s t x = cond (marked (later f t) x) 1 (getD (s .at mark) x 0)
@@ -52,6 +59,9 @@ pub record Running (m n : ℕ) (w₀ : List ℕ) (d₀ : List Float) (w : List �
   pub rep : Rep m n (gatesIn (view m n w₀ d₀)) k (view m n w d) net
   pub left : settle (m - k) net k ≡ settle m (firstOf m n (view m n w₀ d₀)) 0
   pub marks : (x : ℕ) → x < n → AtEnd (m - k) (view m n w d) net x ≡ cond (marked (later m (firstOf m n (view m n w₀ d₀))) x) 1 0
+  pub done : List Entry
+  pub entries : Entries (logIn (view m n w d)) k done
+  pub book : done ++ entries-later (m - k) net ≡ entries-later m (firstOf m n (view m n w₀ d₀))
   pub most : k ≤ m
   pub same-w : length w ≡ length w₀
   pub same-d : length d ≡ length d₀
@@ -64,6 +74,9 @@ run-start m n w d r R u = let z : m - 0 ≡ m = omega arith in
       rep = R;
       left = ap (λ (x : ℕ). settle x (firstOf m n (view m n w d)) 0) z;
       marks = λ x h. ap (λ (f : ℕ). AtEnd f (view m n w d) (firstOf m n (view m n w d)) x) z ∙ ap (λ (y : ℕ). cond (marked (later m (firstOf m n (view m n w d))) x) 1 y) (u x h);
+      done = [];
+      entries = entries-none (logIn (view m n w d));
+      book = ap (λ (f : ℕ). entries-later f (firstOf m n (view m n w d))) z;
       most = omega arith;
       same-w = refl;
       same-d = refl;
@@ -86,6 +99,17 @@ at-end-last zero s t x h = refl
 at-end-last (suc f) s t x (inl h) = absurd (omega arith)
 at-end-last (suc f) s t x (inr h) = rw h refl
 
+-- the entries when a merge more is done, and when none is
+entries-step : (f : ℕ) (vs : List Entry) (t : State) (e : Edge) → choose (t .edges) ≡ some e → (vs ++ (entry t (e .num) ∷ [])) ++ entries-later f (step t (e .num)) ≡ vs ++ entries-later (suc f) t
+unfolding run follow book
+entries-step f vs t e c = append-assoc vs (entry t (e .num) ∷ []) (entries-later f (step t (e .num))) ∙ (rw c refl)
+
+entries-last : (f : ℕ) (vs : List Entry) (t : State) → (f ≡ 0) ⊎ (choose (t .edges) ≡ none) → vs ++ entries-later f t ≡ vs
+unfolding run follow book
+entries-last zero vs t h = append-nil vs
+entries-last (suc f) vs t (inl h) = absurd (omega arith)
+entries-last (suc f) vs t (inr h) = rw h (append-nil vs)
+
 module _ (m n : ℕ) (w₀ : List ℕ) (d₀ : List Float) (w : List ℕ) (d : List Float) (k : ℕ) (I : Running m n w₀ d₀ w d k) where
   abbrev gates : ℕ → ℕ
   gates = gatesIn (view m n w₀ d₀)
@@ -95,14 +119,15 @@ module _ (m n : ℕ) (w₀ : List ℕ) (d₀ : List Float) (w : List ℕ) (d : L
 
   finished : settle m t₀ 0 ≡ some (record { last = I .net; merges = k }) → ((m - k ≡ 0) ⊎ (choose (I .net .edges) ≡ none)) → (w' : List ℕ) (d' : List Float) → view m n w' d' ≡ view m n w d → RunIs m n gates t₀ w' d' (Settled k)
   unfolding RunLeaves ranOf
-  finished e o w' d' q = subst (λ (o : Option Done). RanIs m n gates (later m t₀) o w' d' (Settled k)) (sym e) (record { answer = refl; leaves = left })
+  finished e o w' d' q = subst (λ (o : Option Done). RanIs m n gates (later m t₀) (entries-later m t₀) o w' d' (Settled k)) (sym e) (record { answer = refl; leaves = left })
     where
-      left : EndLeaves m n gates (later m t₀) (record { last = I .net; merges = k }) w' d'
+      left : EndLeaves m n gates (later m t₀) (entries-later m t₀) (record { last = I .net; merges = k }) w' d'
       left = record {
         node = I .rep .node;
         regions = subst (λ (u : Tables). I .net .regions ≡ map (regionOf gates (I .rep .node) u) (upto n 0)) (sym q) (I .rep .regions);
         most = λ j h. subst (λ (u : Tables). getD (u .at count) j 0 ≤ 2000) (sym q) (omega (arith, I .rep .sound .within count j h));
         marks = λ j h. ap (λ (u : Tables). getD (u .at mark) j 0) q ∙ sym (at-end-last (m - k) (view m n w d) (I .net) j o) ∙ I .marks j h;
+        entries = subst (λ (u : Tables). Entries (logIn u) k (entries-later m t₀)) (sym q) (subst (Entries (logIn (view m n w d)) k) (sym (entries-last (m - k) (I .done) (I .net) o) ∙ I .book) (I .entries));
       }
 
   pub run-out : m ≤ k → RunIs m n gates t₀ w d (Settled k)
@@ -132,6 +157,9 @@ module _ (m n : ℕ) (w₀ : List ℕ) (d₀ : List Float) (w : List ℕ) (d : L
           left = ap (settle (m - (k + 1)) (step (I .net) (u .0 .num))) z
               ∙ sym (step-is ∙ ap (λ (o : Option Edge). onward o (I .net) k (settle (m - (k + 1)))) (u .1) ∙ ap (λ (x : Bool). cond x (settle (m - (k + 1)) (step (I .net) (u .0 .num)) (suc k)) none) (u .2));
           marks = λ x h. at-end-step (m - (k + 1)) s (view m n w' d') (I .net) (u .0) n x h (u .1) (u .3 .marking) ∙ ap (λ (f : ℕ). AtEnd f s (I .net) x) (sym more) ∙ I .marks x h;
+          done = I .done ++ (entry (I .net) (u .0 .num) ∷ []);
+          entries = entries-more s (view m n w' d') k (I .done) (entry (I .net) (u .0 .num)) (I .entries) (u .3 .logging);
+          book = entries-step (m - (k + 1)) (I .done) (I .net) (u .0) (u .1) ∙ ap (λ (f : ℕ). I .done ++ entries-later f (I .net)) (sym more) ∙ I .book;
           most = omega arith;
           same-w = lw ∙ I .same-w;
           same-d = ld ∙ I .same-d;
@@ -142,7 +170,7 @@ module _ (m n : ℕ) (w₀ : List ℕ) (d₀ : List Float) (w : List ℕ) (d : L
     run-refused r e h =
         let u : (f : Edge) × (choose (I .net .edges) ≡ some f) × (inRange (event (I .net) (f .num)) ≡ false) = subst (TurnCase m n gates k s (I .net) w' d') e (turn-case m n gates k s (I .net) w' d' r h) in
         let no : settle m t₀ 0 ≡ none = step-is ∙ ap (λ (o : Option Edge). onward o (I .net) k (settle (m - (k + 1)))) (u .1) ∙ ap (λ (x : Bool). cond x (settle (m - (k + 1)) (step (I .net) (u .0 .num)) (suc k)) none) (u .2) in
-        subst (λ (o : Option Done). RanIs m n gates (later m t₀) o w' d' RunRefused) (sym no) (record { answer = refl; leaves = tt })
+        subst (λ (o : Option Done). RanIs m n gates (later m t₀) (entries-later m t₀) o w' d' RunRefused) (sym no) (record { answer = refl; leaves = tt })
 
     pub run-ended : (r : Turned) → r ≡ Ended → TurnIs m n gates k s (I .net) w' d' r → RunIs m n gates t₀ w' d' (Settled k)
     unfolding TurnCase onward

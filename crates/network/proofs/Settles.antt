@@ -3,7 +3,7 @@ use mathlib.Core.Path.{_≡_, refl, ap, _∙_}
 use mathlib.Core.Bool.{Bool, true, false, _&&_, cond}
 use mathlib.Core.List.{_∷_}
 use mathlib.Core.Option.{Option, none, some}
-use Prim.Native.Nat.{ℕ, zero, suc, _+_}
+use Prim.Native.Nat.{ℕ, zero, suc, _+_, _≤_}
 use native.Mathlib.Omega.{arith}
 use lib.ListN.{length}
 use Rattle.network.specs.Network.{Edge, State, event, step, choose, follow, run, merges, mergesInRange, trace, replay, inRange}
@@ -30,6 +30,22 @@ settle-run (suc f) t k = go (choose (t .edges)) (settle-run f)
         test false h = refl
         test true h = let z : suc k + length (run f u) ≡ k + suc (length (run f u)) = omega arith in
             h ∙ ap (λ (x : ℕ). cond (all inRange (trace u (run f u))) (some (record { last = replay u (run f u); merges = x })) none) z
+
+-- there are no more merges than turns
+pub run-most : (m : ℕ) (s : State) → length (run m s) ≤ m
+unfolding run
+run-most zero s = omega arith
+run-most (suc m) s = go (choose (s .edges)) (run-most m)
+  where
+    next : (e : Edge) → length (run m (step s (e .num))) ≤ m → length (follow (some e) s (run m)) ≤ suc m
+    next e h = unfold follow in omega arith
+
+    none-chosen : length (follow none s (run m)) ≤ suc m
+    none-chosen = unfold follow in omega arith
+
+    go : (o : Option Edge) → ((u : State) → length (run m u) ≤ m) → length (follow o s (run m)) ≤ suc m
+    go none h = none-chosen
+    go (some e) h = next e (h (step s (e .num)))
 
 -- the answer by question 9
 module _ (t : State) where

@@ -17,8 +17,8 @@ use Rattle.lists.proofs.SeqLaws.{eqb-refl}
 use Rattle.lists.specs.Seq.{Member}
 use Rattle.lists.proofs.AllLaws.{and-left}
 
-module _ {A : Type 0} where
-  mem-map : (g : A → A) (b : A) (l : List A) → Member b (map g l) → (a : A) × Member a l × (g a ≡ b)
+module _ {A B : Type 0} where
+  pub mem-map : (g : A → B) (b : B) (l : List A) → Member b (map g l) → (a : A) × Member a l × (g a ≡ b)
   mem-map g b [] h = absurd h
   mem-map g b (x ∷ xs) (inl e) = (x, inl refl, e)
   mem-map g b (x ∷ xs) (inr h) = let w : (a : A) × Member a xs × (g a ≡ b) = mem-map g b xs h in (w .0, inr (w .1), w .2)
@@ -32,6 +32,10 @@ simple-map g es h k = record {
       let v : (a : Edge) × Member a es × (g a ≡ f) = mem-map g f es n in
       sym (ap (λ (x : Edge). x .num) (w .2)) ∙ k (w .0) (v .0) (w .1) (v .1) (ap (λ (x : Edge). x .live) (w .2) ∙ l₁) (ap (λ (x : Edge). x .live) (v .2) ∙ l₂) (rw (w .2, v .2) j) ∙ ap (λ (x : Edge). x .num) (v .2);
 }
+
+pub joined-back : (e f : Edge) → Joined e f → Joined f e
+joined-back e f (inl h) = inl (sym (h .0), sym (h .1))
+joined-back e f (inr h) = inr (sym (h .1), sym (h .0))
 
 -- Turning keeps which nodes an edge joins
 joined-turn : (x : ℕ) (e f : Edge) → Joined (turn x e) (turn x f) → Joined e f
@@ -150,7 +154,7 @@ module _ (es : List Edge) (b m : ℕ) (simple : Simple es) (turn-ok : (e : Edge)
       (λ e n l w. combine-proper e (combine es b m e) (view es b m e) n (combine-live es b m e l) w)
       (λ e f n o l k j. combine-num es b m e ∙ combine-single e (combine es b m e) f (combine es b m f) (view es b m e) (view es b m f) n o (combine-live es b m e l) (combine-live es b m f k) l k j ∙ sym (combine-num es b m f))
 
-at-mem : (i : ℕ) (es : List Edge) (e : Edge) → at es i ≡ some e → Member e es × (e .live ≡ true)
+pub at-mem : (i : ℕ) (es : List Edge) (e : Edge) → at es i ≡ some e → Member e es × (e .live ≡ true)
 unfolding at
 at-mem i [] e h = absurd (Option·none-ne-some e h)
 at-mem i (f ∷ es) e h = go (f .live && eqb i (f .num)) refl h (at-mem i es e)

@@ -64,7 +64,7 @@ pub record Lengths (m n : ℕ) (s : Tables) : Type 0 where
   pub l-diff : m ≤ length (s .diff)
 
 -- ---- all together
-module _ (m n : ℕ) (s : Tables) (lens₀ : Lengths m n s) (raw : Raw m n s) (small : 2 * m + n < 2 ^ 32) where
+module _ (m n : ℕ) (s : Tables) (lens₀ : Lengths m n s) (raw : Raw m n s) (small : 2 * m + n < 2 ^ 31) where
   abbrev s₁ : Tables
   s₁ = slots m n s
 
@@ -181,8 +181,8 @@ module _ (m n : ℕ) (s : Tables) (lens₀ : Lengths m n s) (raw : Raw m n s) (s
         (λ j h. omega (arith, rnext₃ j h))
         (λ j h. omega (arith, count₃ j h));
     single = subst (λ (l : List Float). (j : ℕ) → j < m → lib.Dec.T (lib.Ieee.fits lib.Ieee.binary32 (getD l j nan))) (sym (given₃ .diff)) (raw .single);
-    light = subst (λ (l : List ℕ). sum l < 2 ^ 32) (sym (given₃ .tables .at weight)) (raw .light);
-    spanned = subst (λ (l : List ℕ). sum l < 2 ^ 32) (sym (given₃ .tables .at bridged)) (raw .spanned);
+    light = subst (λ (l : List ℕ). sum l < 2 ^ 31) (sym (given₃ .tables .at weight)) (raw .light);
+    spanned = subst (λ (l : List ℕ). sum l < 2 ^ 31) (sym (given₃ .tables .at bridged)) (raw .spanned);
   }
 
   rep₃ : Rep m n (gatesIn s₃) 0 s₃ (firstOf m n s₃)
@@ -198,7 +198,7 @@ module _ (m n : ℕ) (s : Tables) (lens₀ : Lengths m n s) (raw : Raw m n s) (s
     regions = refl;
     number = λ j. unfold edgeOf in refl;
     simple = subst (λ (l : List Edge). Simple l) (sym edges₃) (raw .simple);
-    light = subst (λ (l : List Region). gatesOf l < 2 ^ 32) (sym regions₃) (raw .gates);
+    light = subst (λ (l : List Region). gatesOf l < 2 ^ 31) (sym regions₃) (raw .gates);
     sound = sound₃;
     small = small;
     like = λ j h. like-of _ _ (now-straight s₃ j (straight j h));

@@ -17,6 +17,8 @@ use Rattle.lists.proofs.SeqLaws.{map-upto-length, keep-every}
 use Rattle.lists.specs.Seq.{All, upto, keep, all}
 use Rattle.edges.specs.Edges.{Pair, used}
 use Rattle.network.specs.Network.{Region, State, Event, alone, start, sizeIn, merges, run, trace, replay, inRange, countOf, marked, markOf}
+use Rattle.network.specs.Book.{Entry, book}
+use Rattle.network.specs.Inside.Log.{Entries, logIn}
 use Rattle.merge.specs.Inside.Tables.{Tables, view}
 use Rattle.merge.specs.Inside.Table.{count, mark, first, second}
 use Rattle.merge.specs.Inside.Steps.{unbias}
@@ -26,9 +28,9 @@ use Rattle.network.specs.Inside.TurnIs.{gatesIn, RunLeaves, RanIs}
 use Rattle.network.specs.Inside.Begin.{rawRegion, rawNet, AllIs}
 use Rattle.network.specs.declared.network.Ran.{Ran}
 use Rattle.network.specs.declared.network.Ran.the-variants.{Settled}
-use Rattle.network.proofs.Restrict.{edgeIn, regionIn, restrict, OkE, OkR, Closed, eventIn, trace-in}
+use Rattle.network.proofs.Restrict.{edgeIn, regionIn, restrict, OkE, OkR, Closed, eventIn, trace-in, book-in}
 use Rattle.network.proofs.Own.{merges-in, final-in}
-use Rattle.network.proofs.Settles.{settle-run}
+use Rattle.network.proofs.Settles.{run-most, settle-run}
 use Rattle.network.proofs.Joint.{Filled, good, first-of, second-of, edges-are, region, regions-are}
 
 -- the count of region l
@@ -135,6 +137,18 @@ module _ (twoNyquist : Float) (k m : ℕ) (L : List ℕ) (ps : List Pair) (s : T
   unfolding merges
   run-is = ap (λ (x : ℕ). trace tables (run x tables)) (sym edge-number) ∙ trace-is
 
+  pub few-edges : length (merges network) ≤ m
+  unfolding merges
+  few-edges = omega (arith, ap length merges-are, run-most (length (tables .edges)) tables, edge-number)
+
+  book-is : book tables (run m tables) ≡ book network (merges network)
+  unfolding merges
+  book-is =
+      ap (λ (x : ℕ). book tables (run x tables)) (sym edge-number)
+      ∙ book-in some-label any-edge (λ i. refl) (merges tables) tables closed
+      ∙ ap (λ (t : State). book t (merges tables)) restricted
+      ∙ ap (book network) merges-are
+
   -- the tables' run, said of the definition's network
   unfoldable ending : Bool → Option Done
   ending b = cond b (some (record { last = replay tables (merges tables); merges = length (merges network) })) none
@@ -153,12 +167,14 @@ module _ (twoNyquist : Float) (k m : ℕ) (L : List ℕ) (ps : List Pair) (s : T
     pub counts : (l : ℕ) → 1 ≤ l → l ≤ k → unbias (getD (view m (k + 1) w d .at count) l 0) ≡ countOf (replay network (merges network) .regions) l
     pub most : (l : ℕ) → l ≤ k → getD (view m (k + 1) w d .at count) l 0 ≤ 2000
     pub marks : (l : ℕ) → 1 ≤ l → l ≤ k → getD (view m (k + 1) w d .at mark) l 0 ≡ markOf (trace network (merges network)) l
+    pub entries : Entries (logIn (view m (k + 1) w d)) (length (merges network)) (book network (merges network))
 
   module _ (w : List ℕ) (d : List Float) (r : Ran) (h : AllIs m (k + 1) s w d r) where
-    ran : (b : Bool) → all inRange (trace network (merges network)) ≡ b → RanIs m (k + 1) (gatesIn s) (trace network (merges network)) (ending b) w d r
+    ran : (b : Bool) → all inRange (trace network (merges network)) ≡ b → RanIs m (k + 1) (gatesIn s) (trace network (merges network)) (book network (merges network)) (ending b) w d r
     unfolding AllIs tables
-    ran b e = subst (λ (o : Option Done). RanIs m (k + 1) (gatesIn s) (trace network (merges network)) o w d r) (settle-is ∙ ap ending e)
-        (subst (λ (vs : List Event). RanIs m (k + 1) (gatesIn s) vs (settle m tables 0) w d r) run-is h)
+    ran b e = subst (λ (o : Option Done). RanIs m (k + 1) (gatesIn s) (trace network (merges network)) (book network (merges network)) o w d r) (settle-is ∙ ap ending e)
+        (subst (λ (bs : List Entry). RanIs m (k + 1) (gatesIn s) (trace network (merges network)) bs (settle m tables 0) w d r) book-is
+        (subst (λ (vs : List Event). RanIs m (k + 1) (gatesIn s) vs (book tables (run m tables)) (settle m tables 0) w d r) run-is h))
 
     pub answer : r ≡ ranOf (outcome network (merges network) 0)
     unfolding AllIs tables outcome
@@ -206,4 +222,5 @@ module _ (twoNyquist : Float) (k m : ℕ) (L : List ℕ) (ps : List Pair) (s : T
               ∙ count-of (R .node) l);
           most = λ l b. R .most l (omega arith);
           marks = λ l a b. R .marks l (omega arith) ∙ mark-of l a;
+          entries = R .entries;
         }

@@ -12,7 +12,7 @@ use Rattle.lists.proofs.AllLaws.{mem-upto}
 use Rattle.lists.specs.Seq.{upto}
 use Rattle.network.specs.Network.{Edge, Region, State, Plan, sizeOf, plan, planFor, kill, turn, turnIf, adjust, prepare, combine}
 use Rattle.merge.specs.Inside.Tables.{Tables, Sound, store}
-use Rattle.merge.specs.Inside.Table.{is, weight, first, second, bridged, enext, rnext, stamp, size, elen, rlen, count, mark}
+use Rattle.merge.specs.Inside.Table.{is, weight, first, second, bridged, enext, rnext, stamp, size, elen, rlen, count, mark, log}
 use Rattle.merge.specs.Inside.Steps.{unbias, turned, pruned, takeEdge, walkMoved, movedAll}
 use Rattle.merge.specs.Inside.Leaves.{Gains}
 use Rattle.network.specs.Inside.Net.{edgeOf, edgeNow, regionOf, Like}
@@ -152,9 +152,9 @@ module _ (m n : ℕ) (gates : ℕ → ℕ) (past : ℕ) (s : Tables) (t : State)
     unfolding edgeNow turned edgeOf store
     kept₁ j w = rw (getD-set-other (s .at weight) e j 0 0 w) refl
 
-    pub same₁ : (s₁ .at stamp ≡ s .at stamp) × (s₁ .at enext ≡ s .at enext) × (s₁ .at elen ≡ s .at elen) × (s₁ .at rnext ≡ s .at rnext) × (s₁ .at rlen ≡ s .at rlen) × (s₁ .at size ≡ s .at size) × (s₁ .at count ≡ s .at count) × (s₁ .at mark ≡ s .at mark)
+    pub same₁ : (s₁ .at stamp ≡ s .at stamp) × (s₁ .at enext ≡ s .at enext) × (s₁ .at elen ≡ s .at elen) × (s₁ .at rnext ≡ s .at rnext) × (s₁ .at rlen ≡ s .at rlen) × (s₁ .at size ≡ s .at size) × (s₁ .at count ≡ s .at count) × (s₁ .at mark ≡ s .at mark) × (s₁ .at log ≡ s .at log)
     unfolding store
-    same₁ = (refl, refl, refl, refl, refl, refl, refl, refl)
+    same₁ = (refl, refl, refl, refl, refl, refl, refl, refl, refl)
 
     like₁ : (j : ℕ) → j < m → Like (edgeNow s₁ j) (killed j)
     like₁ j h = ⊎-elim
@@ -247,8 +247,8 @@ module _ (m n : ℕ) (gates : ℕ → ℕ) (past : ℕ) (s : Tables) (t : State)
       frame₄ = frame-moved-all m (pl .base) (pl .moved) g sₚ
 
       -- the tables of regions
-      pub beside₄ : (s₄ .at rnext ≡ s₃ .at rnext) × (s₄ .at size ≡ s₃ .at size) × (s₄ .at rlen ≡ s₃ .at rlen) × (s₄ .at count ≡ s₃ .at count) × (s₄ .at mark ≡ s₃ .at mark)
-      beside₄ = let p = prunedₚ .same .beside in (frame₄ .at rnext ∙ p .at rnext, frame₄ .at size ∙ p .at size, frame₄ .at rlen ∙ p .at rlen, frame₄ .at count ∙ p .at count, frame₄ .at mark ∙ p .at mark)
+      pub beside₄ : (s₄ .at rnext ≡ s₃ .at rnext) × (s₄ .at size ≡ s₃ .at size) × (s₄ .at rlen ≡ s₃ .at rlen) × (s₄ .at count ≡ s₃ .at count) × (s₄ .at mark ≡ s₃ .at mark) × (s₄ .at log ≡ s₃ .at log)
+      beside₄ = let p = prunedₚ .same .beside in (frame₄ .at rnext ∙ p .at rnext, frame₄ .at size ∙ p .at size, frame₄ .at rlen ∙ p .at rlen, frame₄ .at count ∙ p .at count, frame₄ .at mark ∙ p .at mark, frame₄ .at log ∙ p .at log)
 
       -- owners, places and lengths in the chains of slots
       abbrev pub o₄ : ℕ → ℕ

@@ -14,7 +14,7 @@ use Rattle.network.proofs.Ends.{combine-live}
 use Rattle.network.proofs.Choice.{size-base}
 use Rattle.network.proofs.SimpleLaws.{OtherEnds, step-simple}
 use Rattle.merge.specs.Inside.Tables.{Tables, Sound, store}
-use Rattle.merge.specs.Inside.Table.{weight, enext, rnext, stamp, size, elen, rlen, count, mark}
+use Rattle.merge.specs.Inside.Table.{weight, enext, rnext, stamp, size, elen, rlen, count, mark, log}
 use Rattle.merge.specs.Inside.Steps.{unbias, countInRange, walkRaise, pruned, movedAll, handed, then, merged}
 use Rattle.network.specs.Inside.Net.{regionOf}
 use Rattle.merge.specs.Inside.Chain.{cur, Chains, own-joined, pos-joined, len-joined}
@@ -24,7 +24,7 @@ use Rattle.network.proofs.TableEdges.{like-at}
 use Rattle.network.proofs.Moved.{same-no, same-yes}
 use Rattle.merge.proofs.Counts.{Gained, Gives, raise}
 use Rattle.network.proofs.Sums.{accepts-is, accepted-sum, size-else, gates-move}
-use Rattle.network.proofs.After.{swap, swapped, chains-len, after, after-edges, after-stamp, after-count, after-mark, after-rnext, after-enext, after-size, after-elen, after-rlen, sound-after, sum-there, all-yes, all-no}
+use Rattle.network.proofs.After.{swap, swapped, chains-len, after, after-edges, after-stamp, after-count, after-mark, after-log, after-rnext, after-enext, after-size, after-elen, after-rlen, sound-after, sum-there, all-yes, all-no}
 use Rattle.network.proofs.Prepared.{at-upto, setting}
 use Rattle.network.proofs.StepEdges.{prep-ends, prep-live, base-in, moved-in, base-leads, moved-leads, apart, beside₂, sound₂, same₁, beside₄, o₄, q₄, l₄, circled₄, sound₄, like₄, stamps₄}
 use lib.Dec.{eqb}
@@ -139,7 +139,7 @@ module _ (m n : ℕ) (gates : ℕ → ℕ) (past : ℕ) (s : Tables) (t : State)
     sound₃ : Sound m n s₃
     sound₃ = G .sound m (sound₂ m n gates past s t R e lt l)
 
-    still₄ : (s₄ .at rnext ≡ s₃ .at rnext) × (s₄ .at size ≡ s₃ .at size) × (s₄ .at rlen ≡ s₃ .at rlen) × (s₄ .at count ≡ s₃ .at count) × (s₄ .at mark ≡ s₃ .at mark)
+    still₄ : (s₄ .at rnext ≡ s₃ .at rnext) × (s₄ .at size ≡ s₃ .at size) × (s₄ .at rlen ≡ s₃ .at rlen) × (s₄ .at count ≡ s₃ .at count) × (s₄ .at mark ≡ s₃ .at mark) × (s₄ .at log ≡ s₃ .at log)
     still₄ = beside₄ m n gates past s t R e lt l g gain g-in s₃ (G .else) sound₃
 
     rnext₄ : s₄ .at rnext ≡ s .at rnext
@@ -154,9 +154,12 @@ module _ (m n : ℕ) (gates : ℕ → ℕ) (past : ℕ) (s : Tables) (t : State)
     count₆ : s₆ .at count ≡ s₃ .at count
     count₆ = after-count m b v s₄ ∙ still₄ .3
 
-    -- the merge itself leaves the marks
+    -- the merge itself leaves the marks and the log
     mark₆ : s₆ .at mark ≡ s .at mark
     mark₆ = after-mark m b v s₄ ∙ still₄ .4 ∙ G .else .tables .at mark ∙ beside₂ m n gates past s t R e lt l .at mark ∙ same₁ m n gates past s t R e lt l .7
+
+    log₆ : s₆ .at log ≡ s .at log
+    log₆ = after-log m b v s₄ ∙ still₄ .5 ∙ G .else .tables .at log ∙ beside₂ m n gates past s t R e lt l .at log ∙ same₁ m n gates past s t R e lt l .8
 
     -- a region of the moved node stands in its chain
     moved-count : (r : ℕ) → r < n → R .node r ≡ v → (countInRange (getD (s .at count) r 0 + g) ≡ true) × (getD (s₃ .at count) r 0 ≡ getD (s .at count) r 0 + g - 1000)
@@ -347,7 +350,7 @@ module _ (m n : ℕ) (gates : ℕ → ℕ) (past : ℕ) (s : Tables) (t : State)
       regions = regions';
       number = λ j. combine-num (map prep (upto m 0)) b v (prep j) ∙ prepare-num pl (R .E j) ∙ R .number j;
       simple = subst (λ (x : List Edge). Simple x) edges' (step-simple t e (subst (λ (x : List Edge). Simple x) (sym (R .edges)) (R .simple)));
-      light = subst (λ (x : ℕ). x < 2 ^ 32) (sym (gates-move pl rs) ∙ ap gatesOf moved-regions) (R .light);
+      light = subst (λ (x : ℕ). x < 2 ^ 31) (sym (gates-move pl rs) ∙ ap gatesOf moved-regions) (R .light);
       sound = sound-after m b v s₄ n hb hv (sound₄ m n gates past s t R e lt l g gain g-in s₃ (G .else) sound₃);
       small = R .small;
       like = λ j h. like-at _ _ _ (after-edges m b v s₄ j) (like₄ m n gates past s t R e lt l g gain g-in s₃ (G .else) sound₃ j h);
@@ -366,7 +369,7 @@ module _ (m n : ℕ) (gates : ℕ → ℕ) (past : ℕ) (s : Tables) (t : State)
   -- ---- the whole merge
   unfoldable pub MergeIs : Option Tables → Type 0
   MergeIs none = all (bounded 1000) (raised (pl .gain) rs v) ≡ false
-  MergeIs (some s') = (all (bounded 1000) (raised (pl .gain) rs v) ≡ true) × Rep m n gates (past + 1) s' (step t e) × (s' .at mark ≡ s .at mark)
+  MergeIs (some s') = (all (bounded 1000) (raised (pl .gain) rs v) ≡ true) × Rep m n gates (past + 1) s' (step t e) × (s' .at mark ≡ s .at mark) × (s' .at log ≡ s .at log)
 
   pub merge-is : (g : ℕ) → unbias g ≡ pl .gain → g ≤ 2000 → MergeIs (merged m (past + 1) e b v g s)
   unfolding MergeIs merged then handed Gives
@@ -379,4 +382,4 @@ module _ (m n : ℕ) (gates : ℕ → ℕ) (past : ℕ) (s : Tables) (t : State)
           let r : ℕ = cur (s .at rnext) v (w .0) in
           all-no (regionOf gates (R .node) s) (pl .gain) v 0 n r (omega arith) (omega (arith, R .rchains .inside v (w .0) hv lv (w .1))) (unfold regionOf in R .rchains .owned v (w .0) hv lv (w .1))
           (ap (λ (z : ℤ). bounded 1000 (regionOf gates (R .node) s r .count +ℤ z)) (sym gain) ∙ (unfold regionOf in sym (accepts-is (getD (s .at count) r 0) g) ∙ ap (λ (x : List ℕ). countInRange (getD x r 0 + g)) (sym count₂) ∙ w .2))
-      go (some s₃) w = (yes' g gain g-in s₃ w, rep' g gain g-in s₃ w, mark₆ g gain g-in s₃ w)
+      go (some s₃) w = (yes' g gain g-in s₃ w, rep' g gain g-in s₃ w, mark₆ g gain g-in s₃ w, log₆ g gain g-in s₃ w)

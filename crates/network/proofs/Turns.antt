@@ -11,15 +11,17 @@ use lib.Ieee.{nan, Float, neg, binary64, div}
 use lib.ListN.{getD}
 use borrow.Author.Tests.{lt-ltb, le-ltb}
 use Rattle.lists.proofs.AllLaws.{mem-upto}
-use Rattle.lists.proofs.SeqLaws.{map-upto-length, map-upto-at}
+use Rattle.lists.proofs.SeqLaws.{map-upto-length, map-upto-at, sum-one}
+use Rattle.network.specs.Book.{entryOf, entry}
 use Rattle.network.specs.Network.{Edge, Region, State, Plan, Event, sizeOf, at, turnIf, plan, planFor, has, eventOf, event, step, raised, better, choose, quotient, quot, bounded, inRange, whole, popped, marks, marked}
 use Rattle.network.proofs.Choice.{Best as Heaviest, best-chosen}
 use Rattle.memory.specs.Inside.Tree.{Best}
 use Rattle.merge.specs.Inside.Tables.{Tables, view, HoldsTables, Sound}
-use Rattle.merge.specs.Inside.Table.{mark, weight, first, second, enext, rnext, size, rlen}
-use Rattle.merge.specs.Inside.Steps.{unbias, turned, markIf, merged, numberOf}
+use Rattle.merge.specs.Inside.Table.{mark, log, weight, bridged, first, second, enext, rnext, size, rlen}
+use Rattle.merge.specs.Inside.Steps.{unbias, turned, markedAll, markIf, entryWords, logged, merged, numberOf}
 use Rattle.merge.specs.Inside.Leaves.{LeavesTables, Raised, Gains, Fit}
 use Rattle.network.specs.Inside.Net.{edgeOf, edgeNow, regionOf}
+use Rattle.network.specs.Inside.Log.{Logging}
 use Rattle.network.specs.Inside.Rep.{Rep}
 use Rattle.network.specs.Inside.Settle.{mergedBy, turnedBy}
 use Rattle.network.specs.Inside.TurnIs.{Marking, MergeLeaves, TurnLeaves, TurnIs, Chosen, PickIs}
@@ -34,6 +36,7 @@ use Rattle.network.proofs.Sums.{size-two}
 use Rattle.network.proofs.Prepared.{at-upto}
 use Rattle.network.proofs.StepEdges.{ends-in}
 use Rattle.network.proofs.StepRep.{MergeIs, merge-is}
+use Rattle.network.proofs.LogIs.{logging-is}
 use Rattle.network.proofs.Marks.{Remarked, remarked, has-member, marked-if}
 use Rattle.merge.proofs.MergeDoes.{raised-true, raised-false}
 use Rattle.network.proofs.NumberIs.{Numbered, number-in, number-out, opposite}
@@ -105,6 +108,10 @@ module _ (m n : ℕ) (gates : ℕ → ℕ) (past : ℕ) (w : List ℕ) (d : List
     unfolding event
     event-is = ap (eventOf (t .regions) e) found ∙ ap (λ (x : List Region). eventOf x e (some (R .E e))) (R .regions)
 
+    entry-is : entry t e ≡ entryOf rs (some (R .E e))
+    unfolding entry
+    entry-is = ap (entryOf (t .regions)) found ∙ ap (λ (x : List Region). entryOf x (some (R .E e))) (R .regions)
+
     range-is : inRange (event t e) ≡ (bounded 1000 (quot (R .E e .link .diff) (R .E e .link .weight)) && all (bounded 1000) (raised (plan rs (R .E e) .gain) rs (plan rs (R .E e) .moved)))
     unfolding eventOf inRange
     range-is = ap inRange event-is
@@ -115,7 +122,7 @@ module _ (m n : ℕ) (gates : ℕ → ℕ) (past : ℕ) (w : List ℕ) (d : List
 
     -- the ends as the code has them
     module _ (p q : ℕ) (is-p : p ≡ R .E e .first) (is-q : q ≡ R .E e .second) where
-      pub ends-words : (p ≡ R .E e .first) × (q ≡ R .E e .second) × (R .E e .first < n) × (R .E e .second < n)
+      ends-words : (p ≡ R .E e .first) × (q ≡ R .E e .second) × (R .E e .first < n) × (R .E e .second < n)
       ends-words = (is-p, is-q, ends-in m n gates past s t R e lt l .0, ends-in m n gates past s t R e lt l .1)
 
       proper : R .E e .first ≡ R .E e .second → ⊥
@@ -139,6 +146,9 @@ module _ (m n : ℕ) (gates : ℕ → ℕ) (past : ℕ) (w : List ℕ) (d : List
       leads-q : R .node q ≡ q
       leads-q = rw is-q leads-second
 
+      apart : p ≡ q → ⊥
+      apart x = proper (sym is-p ∙ x ∙ is-q)
+
       fit-of : (b v : ℕ) → b < n → v < n → R .node b ≡ b → R .node v ≡ v → (b ≡ v → ⊥) → Fit n b v s
       fit-of b v hb hv lb lv ne =
           record {
@@ -151,11 +161,11 @@ module _ (m n : ℕ) (gates : ℕ → ℕ) (past : ℕ) (w : List ℕ) (d : List
 
       module _ (g : ℕ) (N : Numbered (quot (R .E e .link .diff) (R .E e .link .weight)) g) where
         -- what `merge` asks, one way round and the other
-        pub asks-first : Sound m n s × (Gains n p q g × (Fit n p q s × (e < m)))
+        asks-first : Sound m n s × (Gains n p q g × (Fit n p q s × (e < m)))
         asks-first = rw (ends-words .0, ends-words .1)
             (R .sound, (record { b-in = ends-words .2; v-in = ends-words .3; apart = proper; g-in = N .most }, (fit-of (R .E e .first) (R .E e .second) (ends-words .2) (ends-words .3) leads-first leads-second proper, lt)))
 
-        pub asks-second : Sound m n s × (Gains n q p (2000 - g) × (Fit n q p s × (e < m)))
+        asks-second : Sound m n s × (Gains n q p (2000 - g) × (Fit n q p s × (e < m)))
         asks-second = rw (ends-words .0, ends-words .1)
             (R .sound, (record { b-in = ends-words .3; v-in = ends-words .2; apart = λ q. proper (sym q); g-in = omega arith }, (fit-of (R .E e .second) (R .E e .first) (ends-words .3) (ends-words .2) leads-second leads-first (λ q. proper (sym q)), lt)))
 
@@ -165,14 +175,14 @@ module _ (m n : ℕ) (gates : ℕ → ℕ) (past : ℕ) (w : List ℕ) (d : List
         size-second : getD w (8 * m + 3 * n + q) 0 ≡ sizeOf rs (R .E e .second)
         size-second = rw (ends-words .1) (sym (read size m n w d (R .E e .second) (ends-words .3)) ∙ R .sizes (R .E e .second) (ends-words .3) leads-second)
 
-        -- what the merge comes to, the moved node's regions being marked if it is doubtful
+        -- what the merge comes to, entered in the log, the moved node's regions being marked if it is doubtful
         module _ (z : Bool) (doubt : z ≡ doubtful (quotient (R .E e .link .diff) (R .E e .link .weight))) (b v g' : ℕ) (is-b : plan rs (R .E e) .base ≡ b) (is-v : plan rs (R .E e) .moved ≡ v)
-            (is-g : unbias g' ≡ plan rs (R .E e) .gain) (most' : g' ≤ 2000) (hv : v < n) (lv : R .node v ≡ v) where
+            (is-g : unbias g' ≡ plan rs (R .E e) .gain) (most' : g' ≤ 2000) (hb : b < n) (hv : v < n) (lv : R .node v ≡ v) (ne : b ≡ v → ⊥) (k-in : past < m) where
           abbrev s' : Tables
-          s' = markIf z v s
+          s' = markIf z v (logged past e b v g' s)
 
           remark : Remarked m n gates past s s' t R
-          remark = remarked m n gates past s t R z v
+          remark = remarked m n gates past s t R z e b v g'
 
           abbrev R' : Rep m n gates past s' t
           R' = remark .rep
@@ -203,19 +213,42 @@ module _ (m n : ℕ) (gates : ℕ → ℕ) (past : ℕ) (w : List ℕ) (d : List
           unfolding marks eventOf
           marks-are x h = ap (λ (y : Event). marks y x) event-is ∙ (rw (← doubt, is-v, has-member gates (R .node) s n v x h) refl)
 
+          -- the entry is not a mark
+          same-marks : s' .at mark ≡ markIf z v s .at mark
+          unfolding markIf markedAll logged
+          same-marks = refl
+
           marking : (u : Tables) → u .at mark ≡ s' .at mark → Marking n (event t e) s u
-          marking u q x h = ap (λ (y : List ℕ). getD y x 0) q ∙ marked-if m n gates past s t R v hv lv z x h ∙ sym (ap (λ (y : Bool). cond y 1 (getD (s .at mark) x 0)) (marks-are x h))
+          marking u q x h = ap (λ (y : List ℕ). getD y x 0) (q ∙ same-marks) ∙ marked-if m n gates past s t R v hv lv z x h ∙ sym (ap (λ (y : Bool). cond y 1 (getD (s .at mark) x 0)) (marks-are x h))
+
+          logging : (u : Tables) → u .at log ≡ s' .at log → Logging past (entry t e) s u
+          unfolding markIf logged entryWords
+          logging u q =
+              logging-is m past s u b v (getD (s .at weight) e 0) (getD (s .at bridged) e 0) g' (getD (s .at size) v 0) q (R .sound .lengths log) k-in
+              (omega (arith, R .small)) (omega (arith, R .small)) (omega (arith, sum-one (s .at weight) e, R .sound .light)) (omega (arith, sum-one (s .at bridged) e, R .sound .spanned)) most'
+              (omega (arith, R .sizes v hv lv, size-two b v ne rs, R .light)) (entry t e) (words-are ∙ sym entry-is)
+            where
+              words-are : record { base = b; moved = v; weight = getD (s .at weight) e 0; bridged = getD (s .at bridged) e 0; folds = unbias g'; gates = getD (s .at size) v 0 } ≡ entryOf rs (some (R .E e))
+              words-are = let S = stands s e (R .E e) (R .like e lt .whole l) l in unfold entryOf in λ i. record {
+                base = sym is-b i;
+                moved = sym is-v i;
+                weight = S .weight-is i;
+                bridged = S .bridged-is i;
+                folds = is-g i;
+                gates = (R .sizes v hv lv ∙ sym (ap (sizeOf rs) is-v)) i;
+              }
 
           merged-yes : (w' : List ℕ) (d' : List Float) (y : Bool) → Raised m n w' d' (merged m (past + 1) e b v g' s') y → y ≡ true → PickIs m n gates past s t e w' d' Merged
           unfolding MergeIs mergedBy
           merged-yes w' d' y h f =
               let r : (u : Tables) × (merged m (past + 1) e b v g' s' ≡ some u) × LeavesTables m n w' d' u = raised-true m n w' d' _ y h f in
-              let o : (all (bounded 1000) (raised (plan rs' (R' .E e) .gain) rs' (plan rs' (R' .E e) .moved)) ≡ true) × Rep m n gates (past + 1) (r .0) (step t e) × (r .0 .at mark ≡ s' .at mark) = subst (MergeIs m n gates past s' t R' e lt l') (r .1) outcome in
+              let o : (all (bounded 1000) (raised (plan rs' (R' .E e) .gain) rs' (plan rs' (R' .E e) .moved)) ≡ true) × Rep m n gates (past + 1) (r .0) (step t e) × (r .0 .at mark ≡ s' .at mark) × (r .0 .at log ≡ s' .at log) = subst (MergeIs m n gates past s' t R' e lt l') (r .1) outcome in
               let in-range : inRange (event t e) ≡ true = range-is ∙ (rw (N .bound, ← same-test, o .0) refl) in
               let left : MergeLeaves m n gates past s t e w' d' = record {
                 rep = subst (λ (u : Tables). Rep m n gates (past + 1) u (step t e)) (sym (r .2 .tables)) (o .1);
                 tree = r .2 .tree;
                 marking = subst (Marking n (event t e) s) (sym (r .2 .tables)) (marking (r .0) (o .2));
+                logging = subst (Logging past (entry t e) s) (sym (r .2 .tables)) (logging (r .0) (o .3));
               } in
               record { answer = sym (ap mergedBy in-range); leaves = λ q. left }
 
@@ -227,7 +260,7 @@ module _ (m n : ℕ) (gates : ℕ → ℕ) (past : ℕ) (w : List ℕ) (d : List
               record { answer = sym (ap mergedBy out); leaves = λ h. absurd (true≢false (sym h ∙ out)) }
 
         -- the first end is the base
-        module _ (more : getD w (8 * m + 3 * n + q) 0 < getD w (8 * m + 3 * n + p) 0) where
+        module _ (k-in : past < m) (more : getD w (8 * m + 3 * n + q) 0 < getD w (8 * m + 3 * n + p) 0) where
           plan-first : plan rs (R .E e) ≡ planFor true (R .E e)
           unfolding plan
           plan-first = ap (λ (x : Bool). planFor x (R .E e)) (lt-ltb (sizeOf rs (R .E e .second)) (sizeOf rs (R .E e .first)) (omega (arith, size-first, size-second)))
@@ -244,14 +277,14 @@ module _ (m n : ℕ) (gates : ℕ → ℕ) (past : ℕ) (w : List ℕ) (d : List
           unfolding planFor
           gain₁ = N .means ∙ sym (ap (λ (x : Plan). x .gain) plan-first)
 
-          pub first-yes : (z : Bool) → z ≡ doubtful (quotient (R .E e .link .diff) (R .E e .link .weight)) → (w' : List ℕ) (d' : List Float) (y : Bool) → Raised m n w' d' (merged m (past + 1) e p q g (markIf z q s)) y → y ≡ true → PickIs m n gates past s t e w' d' Merged
-          first-yes z doubt = merged-yes z doubt p q g base₁ moved₁ gain₁ (N .most) q-in leads-q
+          first-yes : (z : Bool) → z ≡ doubtful (quotient (R .E e .link .diff) (R .E e .link .weight)) → (w' : List ℕ) (d' : List Float) (y : Bool) → Raised m n w' d' (merged m (past + 1) e p q g (markIf z q (logged past e p q g s))) y → y ≡ true → PickIs m n gates past s t e w' d' Merged
+          first-yes z doubt = merged-yes z doubt p q g base₁ moved₁ gain₁ (N .most) p-in q-in leads-q apart k-in
 
-          pub first-no : (z : Bool) → z ≡ doubtful (quotient (R .E e .link .diff) (R .E e .link .weight)) → (w' : List ℕ) (d' : List Float) (y : Bool) → Raised m n w' d' (merged m (past + 1) e p q g (markIf z q s)) y → y ≡ false → (w'' : List ℕ) (d'' : List Float) → PickIs m n gates past s t e w'' d'' Refused
-          first-no z doubt = merged-no z doubt p q g base₁ moved₁ gain₁ (N .most) q-in leads-q
+          first-no : (z : Bool) → z ≡ doubtful (quotient (R .E e .link .diff) (R .E e .link .weight)) → (w' : List ℕ) (d' : List Float) (y : Bool) → Raised m n w' d' (merged m (past + 1) e p q g (markIf z q (logged past e p q g s))) y → y ≡ false → (w'' : List ℕ) (d'' : List Float) → PickIs m n gates past s t e w'' d'' Refused
+          first-no z doubt = merged-no z doubt p q g base₁ moved₁ gain₁ (N .most) p-in q-in leads-q apart k-in
 
         -- the second end is
-        module _ (less : getD w (8 * m + 3 * n + p) 0 ≤ getD w (8 * m + 3 * n + q) 0) where
+        module _ (k-in : past < m) (less : getD w (8 * m + 3 * n + p) 0 ≤ getD w (8 * m + 3 * n + q) 0) where
           plan-second : plan rs (R .E e) ≡ planFor false (R .E e)
           unfolding plan
           plan-second = ap (λ (x : Bool). planFor x (R .E e)) (le-ltb (sizeOf rs (R .E e .second)) (sizeOf rs (R .E e .first)) (omega (arith, size-first, size-second)))
@@ -268,29 +301,63 @@ module _ (m n : ℕ) (gates : ℕ → ℕ) (past : ℕ) (w : List ℕ) (d : List
           unfolding planFor
           gain₂ = opposite g (N .most) ∙ ap negℤ (N .means) ∙ sym (ap (λ (x : Plan). x .gain) plan-second)
 
-          pub second-yes : (z : Bool) → z ≡ doubtful (quotient (R .E e .link .diff) (R .E e .link .weight)) → (w' : List ℕ) (d' : List Float) (y : Bool) → Raised m n w' d' (merged m (past + 1) e q p (2000 - g) (markIf z p s)) y → y ≡ true → PickIs m n gates past s t e w' d' Merged
-          second-yes z doubt = merged-yes z doubt q p (2000 - g) base₂ moved₂ gain₂ (omega arith) p-in leads-p
+          second-yes : (z : Bool) → z ≡ doubtful (quotient (R .E e .link .diff) (R .E e .link .weight)) → (w' : List ℕ) (d' : List Float) (y : Bool) → Raised m n w' d' (merged m (past + 1) e q p (2000 - g) (markIf z p (logged past e q p (2000 - g) s))) y → y ≡ true → PickIs m n gates past s t e w' d' Merged
+          second-yes z doubt = merged-yes z doubt q p (2000 - g) base₂ moved₂ gain₂ (omega arith) q-in p-in leads-p (λ x. apart (sym x)) k-in
 
-          pub second-no : (z : Bool) → z ≡ doubtful (quotient (R .E e .link .diff) (R .E e .link .weight)) → (w' : List ℕ) (d' : List Float) (y : Bool) → Raised m n w' d' (merged m (past + 1) e q p (2000 - g) (markIf z p s)) y → y ≡ false → (w'' : List ℕ) (d'' : List Float) → PickIs m n gates past s t e w'' d'' Refused
-          second-no z doubt = merged-no z doubt q p (2000 - g) base₂ moved₂ gain₂ (omega arith) p-in leads-p
+          second-no : (z : Bool) → z ≡ doubtful (quotient (R .E e .link .diff) (R .E e .link .weight)) → (w' : List ℕ) (d' : List Float) (y : Bool) → Raised m n w' d' (merged m (past + 1) e q p (2000 - g) (markIf z p (logged past e q p (2000 - g) s))) y → y ≡ false → (w'' : List ℕ) (d'' : List Float) → PickIs m n gates past s t e w'' d'' Refused
+          second-no z doubt = merged-no z doubt q p (2000 - g) base₂ moved₂ gain₂ (omega arith) q-in p-in leads-p (λ x. apart (sym x)) k-in
 
   -- ---- from what the code knows of the chosen edge
   module _ (e p q g : ℕ) (z : Bool) (c : Chosen m s e p q g z) where
-    pub chosen-live : R .E e .live ≡ true
+    chosen-live : R .E e .live ≡ true
     chosen-live = sym (R .like e (c .e-in) .live) ∙ now-live s e ∙ word-live s e (c .live)
 
     chosen-is : edgeNow s e ≡ R .E e
     chosen-is = R .like e (c .e-in) .whole chosen-live
 
-    pub chosen-ends : (p ≡ R .E e .first) × (q ≡ R .E e .second)
+    chosen-ends : (p ≡ R .E e .first) × (q ≡ R .E e .second)
     chosen-ends = (c .first ∙ ap (λ (x : Edge). x .first) chosen-is, c .second ∙ ap (λ (x : Edge). x .second) chosen-is)
 
-    pub chosen-number : Numbered (quot (R .E e .link .diff) (R .E e .link .weight)) g
+    chosen-number : Numbered (quot (R .E e .link .diff) (R .E e .link .weight)) g
     chosen-number = number-in (quot (R .E e .link .diff) (R .E e .link .weight)) g
         (c .number ∙ ap (λ (x : Edge). numberOf (quot (x .link .diff) (getD (s .at weight) e 0))) chosen-is ∙ ap (λ (x : ℕ). numberOf (quot (R .E e .link .diff) x)) (stands s e (R .E e) chosen-is chosen-live .weight-is)) (c .most)
 
-    pub chosen-doubt : z ≡ doubtful (quotient (R .E e .link .diff) (R .E e .link .weight))
+    chosen-doubt : z ≡ doubtful (quotient (R .E e .link .diff) (R .E e .link .weight))
     chosen-doubt = c .doubt ∙ ap (λ (x : Edge). doubtful (quotient (x .link .diff) (getD (s .at weight) e 0))) chosen-is ∙ ap (λ (x : ℕ). doubtful (quotient (R .E e .link .diff) x)) (stands s e (R .E e) chosen-is chosen-live .weight-is)
+
+    pub chosen-in : (p < n) × (q < n)
+    chosen-in =
+        let u = ends-words e (c .e-in) chosen-live p q (chosen-ends .0) (chosen-ends .1) in
+        (omega (arith, u .0, u .2), omega (arith, u .1, u .3))
+
+    pub first-asks : Sound m n s × (Gains n p q g × (Fit n p q s × (e < m)))
+    first-asks = asks-first e (c .e-in) chosen-live p q (chosen-ends .0) (chosen-ends .1) g chosen-number
+
+    pub second-asks : Sound m n s × (Gains n q p (2000 - g) × (Fit n q p s × (e < m)))
+    second-asks = asks-second e (c .e-in) chosen-live p q (chosen-ends .0) (chosen-ends .1) g chosen-number
+
+    -- the merge by its answer y, once it is entered in the log, which gave w₁
+    module _ (k-in : past < m) (w₁ w' : List ℕ) (d' : List Float) (y : Bool) where
+      module _ (more : getD w (8 * m + 3 * n + q) 0 < getD w (8 * m + 3 * n + p) 0) (h : LeavesTables m n w₁ d (logged past e p q g s)) (r : Raised m n w' d' (merged m (past + 1) e p q g (markIf z q (view m n w₁ d))) y) where
+        first-raised : Raised m n w' d' (merged m (past + 1) e p q g (markIf z q (logged past e p q g s))) y
+        first-raised = subst (λ (u : Tables). Raised m n w' d' (merged m (past + 1) e p q g (markIf z q u)) y) (h .tables) r
+
+        pub first-merged : y ≡ true → PickIs m n gates past s t e w' d' Merged
+        first-merged = first-yes e (c .e-in) chosen-live p q (chosen-ends .0) (chosen-ends .1) g chosen-number k-in more z chosen-doubt w' d' y first-raised
+
+        pub first-refused : y ≡ false → (w'' : List ℕ) (d'' : List Float) → PickIs m n gates past s t e w'' d'' Refused
+        first-refused = first-no e (c .e-in) chosen-live p q (chosen-ends .0) (chosen-ends .1) g chosen-number k-in more z chosen-doubt w' d' y first-raised
+
+      module _ (less : getD w (8 * m + 3 * n + p) 0 ≤ getD w (8 * m + 3 * n + q) 0) (h : LeavesTables m n w₁ d (logged past e q p (2000 - g) s))
+          (r : Raised m n w' d' (merged m (past + 1) e q p (2000 - g) (markIf z p (view m n w₁ d))) y) where
+        second-raised : Raised m n w' d' (merged m (past + 1) e q p (2000 - g) (markIf z p (logged past e q p (2000 - g) s))) y
+        second-raised = subst (λ (u : Tables). Raised m n w' d' (merged m (past + 1) e q p (2000 - g) (markIf z p u)) y) (h .tables) r
+
+        pub second-merged : y ≡ true → PickIs m n gates past s t e w' d' Merged
+        second-merged = second-yes e (c .e-in) chosen-live p q (chosen-ends .0) (chosen-ends .1) g chosen-number k-in less z chosen-doubt w' d' y second-raised
+
+        pub second-refused : y ≡ false → (w'' : List ℕ) (d'' : List Float) → PickIs m n gates past s t e w'' d'' Refused
+        second-refused = second-no e (c .e-in) chosen-live p q (chosen-ends .0) (chosen-ends .1) g chosen-number k-in less z chosen-doubt w' d' y second-raised
 
   -- ---- the answer of choosing
   pub pop-none : (e : ℕ) → Best m w e → getD w e 0 ≡ 0 → Nothing ≡ popped (choose (t .edges))

@@ -1,6 +1,7 @@
 -- What internal contracts need: representation, invariants, and the records that a `requires` names.
 pub mod Begin
 pub mod Find
+pub mod Log
 pub mod Net
 pub mod Popped
 pub mod Reduce

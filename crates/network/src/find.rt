@@ -1,4 +1,5 @@
-// Finding: from a sweep's limits to its merged regions. Labels, sizes, counts and marks are left in the work memory; nothing else is written.
+// Finding: from a sweep's limits to its merged regions. Labels, sizes, counts, marks and the log of merges are left in the work memory; nothing
+// else is written.
 use memory::layout;
 ghost use mathlib.Core.Path.{_≡_};
 ghost use Prim.Native.Nat.{_+_, _*_, _≤_};
@@ -8,7 +9,7 @@ ghost use Rattle.arithmetic.specs.Intervals.{atLeast0};
 ghost use Rattle.lists.specs.Inside.Seg.{seg, put};
 ghost use Rattle.lists.specs.Seq.{tabulate};
 ghost use Rattle.network.specs.Network.{sizeIn};
-ghost use Rattle.network.specs.Inside.Find.{limitsBy, regionsBy, networkFor, Planned, Limited, Labelled, Few, Finds, Leaves};
+ghost use Rattle.network.specs.Inside.Find.{limitsBy, regionsBy, foundIn, networkFor, Planned, Limited, Labelled, Few, Merges, Finds, Leaves};
 
 // How many regions there are, and how many merges there were.
 pub struct Run {
@@ -94,23 +95,21 @@ fn leave_alone(w: &mut [u32], n: usize, k: usize)
     memory::words::fill(w, n + nodes + nodes, nodes, 0);
 }
 
-// The regions of a sweep by the limits of a plan, merged: labels, sizes, counts and marks lie in the words afterwards.
-pub fn find(
+// The k regions of labelled gates, merged: the labels are the first words; sizes, counts, marks and the log of merges lie behind them afterwards.
+pub fn merge_regions(
     o: crate::options::Options,
-    p: arithmetic::intervals::Plan,
     velocity: &[f32],
-    valid: &[u8],
     words: &mut [u32],
     floats: &mut [f64],
+    k: usize,
 ) -> Finding
-    requires { ⌜ Finds o p (now velocity) (now valid) (now words) (now floats) ⌝ }
+    requires { ⌜ Merges o (now velocity) (now words) (now floats) k ⌝ }
     ensures { λ r. ⌜ (
-        let f = regionsBy o p (now (velocity .entry)) (now (valid .entry)) in
+        let f = foundIn (now (words .entry)) (length (now (velocity .entry))) k in
         Leaves f (networkFor o f (now (velocity .entry))) (length (now (velocity .entry))) (now (words .exit)) r
         ) ⌝ }
 {
     let n = velocity.len();
-    let k = label(o, p, velocity, valid, words) as usize;
     if k < 2 {
         leave_alone(words, n, k);
         return Finding::Regions(Run {
@@ -126,4 +125,23 @@ pub fn find(
         }),
         crate::network::Ran::Refused => Finding::Refused,
     }
+}
+
+// The regions of a sweep by the limits of a plan, merged.
+pub fn find(
+    o: crate::options::Options,
+    p: arithmetic::intervals::Plan,
+    velocity: &[f32],
+    valid: &[u8],
+    words: &mut [u32],
+    floats: &mut [f64],
+) -> Finding
+    requires { ⌜ Finds o p (now velocity) (now valid) (now words) (now floats) ⌝ }
+    ensures { λ r. ⌜ (
+        let f = regionsBy o p (now (velocity .entry)) (now (valid .entry)) in
+        Leaves f (networkFor o f (now (velocity .entry))) (length (now (velocity .entry))) (now (words .exit)) r
+        ) ⌝ }
+{
+    let k = label(o, p, velocity, valid, words) as usize;
+    merge_regions(o, velocity, words, floats, k)
 }

@@ -93,7 +93,7 @@ pub enum Turned {
 }
 
 // The merge of edge e, which stands from p to q and whose number, with 1000 added, is g, doubtful or not, after k merges: the larger node is
-// the base, the second end's at equal sizes.
+// the base, the second end's at equal sizes. It is entered in the log before it is done.
 fn choose_base(
     w: &mut [u32],
     d: &mut [f64],
@@ -116,13 +116,16 @@ fn choose_base(
     let sp = w[layout::NODES * m + layout::SIZES * n + p as usize];
     let sq = w[layout::NODES * m + layout::SIZES * n + q as usize];
     if sp > sq {
+        merge::log::log_merge(w, d, m, n, e, p, q, g, k);
         let ok = merge::mark::merge_and_mark(w, d, m, n, e, p, q, g, i, doubtful);
         if ok {
             return Turned::Merged;
         }
         return Turned::Refused;
     }
-    let yes = merge::mark::merge_and_mark(w, d, m, n, e, q, p, layout::MOST - g, i, doubtful);
+    let back = layout::MOST - g;
+    merge::log::log_merge(w, d, m, n, e, q, p, back, k);
+    let yes = merge::mark::merge_and_mark(w, d, m, n, e, q, p, back, i, doubtful);
     if yes {
         return Turned::Merged;
     }
@@ -237,7 +240,8 @@ fn begin(w: &mut [u32], d: &mut [f64], m: usize, n: usize)
     link_all(w, d, m, n);
 }
 
-// All merges from the edges (ends, weights, differences) and the regions' sizes: how many, with counts and marks in their tables, or a refusal.
+// All merges from the edges (ends, weights, differences) and the regions' sizes: how many, with counts, marks and log in their tables, or a
+// refusal.
 pub fn merge_all(w: &mut [u32], d: &mut [f64], m: usize, n: usize) -> Ran
     requires { ⌜ Space m n (now w) (now d) ⌝ }
     requires { ⌜ Raw m n (view m n (now w) (now d)) ⌝ }

@@ -1,8 +1,31 @@
-// From labels to the counts and marks of all regions: edges, sizes and all merges, over the layout of the work memory (Layout, of the crate memory).
+// From labels to the counts and marks of all regions and the log of merges: edges, sizes and all merges, over the layout of the work memory
+// (Layout, of the crate memory).
 use memory::layout;
 ghost use Rattle.lists.specs.Inside.Seg.{seg};
 ghost use Rattle.network.specs.Network.{networkBy};
-ghost use Rattle.network.specs.Inside.Reduce.{Reduces, Reduced};
+ghost use mathlib.Core.Path.{_≡_};
+ghost use Rattle.network.specs.Inside.Reduce.{Reduces, Reduced, Keeps, keptTables};
+
+// Counts, marks and log of k regions, merged over e edges of n gates, go from the tables to the places where callers look for them.
+fn keep_tables(w: &mut [u32], n: usize, e: usize, k: usize)
+    requires { ⌜ Keeps n e k (now w) ⌝ }
+    ensures { λ _. ⌜ now (w .exit) ≡ keptTables n e k (now (w .entry)) ⌝ }
+{
+    let nodes = k + 1;
+    let from = layout::TABLES * n + layout::NODES * e;
+    let at = n + nodes;
+    memory::words::copy(w, from + layout::COUNTS * nodes, at, nodes);
+    memory::words::copy(w, from + layout::MARKS * nodes, at + nodes, nodes);
+    memory::words::copy(
+        w,
+        from + layout::NODE_TABLES * nodes,
+        at + nodes + nodes,
+        layout::ENTRY * (k - 1),
+    );
+    // label 0 is no region: its count is 0, and it is not marked
+    w[at] = layout::ZERO;
+    w[at + nodes] = 0;
+}
 
 // The labels of n gates are the first n words, k the number of regions.
 pub fn reduce(
@@ -22,22 +45,8 @@ pub fn reduce(
     let e = edges::edges::find_edges(w, d, vel, f, n, k, t, two_nyquist);
     crate::sizes::count_sizes(w, n, n, nodes);
     memory::words::copy(w, n, t + layout::NODES * e + layout::SIZES * nodes, nodes);
-    let end = t + layout::NODES * e + layout::NODE_TABLES * nodes;
+    let end = t + layout::NODES * e + layout::NODE_TABLES * nodes + layout::ENTRY * e;
     let r = crate::network::merge_all(&mut w[t..end], d, e, nodes);
-    memory::words::copy(
-        w,
-        t + layout::NODES * e + layout::COUNTS * nodes,
-        n + nodes,
-        nodes,
-    );
-    memory::words::copy(
-        w,
-        t + layout::NODES * e + layout::MARKS * nodes,
-        n + nodes + nodes,
-        nodes,
-    );
-    // label 0 is no region: its count is 0, and it is not marked
-    w[n + nodes] = layout::ZERO;
-    w[n + nodes + nodes] = 0;
+    keep_tables(w, n, e, k);
     r
 }

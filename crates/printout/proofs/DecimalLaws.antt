@@ -7,6 +7,8 @@ use mathlib.Core.Bool.{Bool, true, false, cond}
 use mathlib.Core.List.{List, [], _∷_, _++_}
 use lib.Dec.{ltb}
 use lib.ListN.{length, take, length-append}
+use mir.Syntax.{w64}
+use mir.Val.{Fits}
 use borrow.Author.Tests.{ltb-false, lt-ltb, le-ltb}
 use Rattle.io.specs.Digits.{digits, glyph, Fewest}
 use Rattle.printout.specs.Text.{decimalBy, decimal}
@@ -84,16 +86,19 @@ pub decimal-room : (n : ℕ) → n ≤ 2147483648 → length (decimal n) ≤ 10
 unfolding decimal
 decimal-room n h = room-by n 9 n (omega arith)
 
--- what `io::decimal` gives of such a number: k digits at the start of a text
-pub record Ten (n k : ℕ) (out : List ℕ) : Type 0 where
+-- and any number that the code holds at most twenty
+pub decimal-most : (n : ℕ) → Fits w64 n → length (decimal n) ≤ 20
+unfolding decimal
+decimal-most n h = let l : n < 2 ^ 64 = h .fits in room-by n 19 n (omega arith)
+
+-- what `io::decimal` gives: k digits at the start of a text
+pub record Digits (n k : ℕ) (out : List ℕ) : Type 0 where
   pub same : take k out ≡ decimal n
   pub long : length (take k out) ≡ k
   pub size : k ≡ length (decimal n)
-  pub few : k ≤ 10
 
-pub ten : (n k : ℕ) (out : List ℕ) → n ≤ 2147483648 → Fewest 10 1 n k → take k out ≡ digits 10 k n → Ten n k out
-ten n k out h f e =
+pub digits-given : (n k : ℕ) (out : List ℕ) → Fewest 10 1 n k → take k out ≡ digits 10 k n → Digits n k out
+digits-given n k out f e =
     let d = fewest-decimal n k f in
     let l = digits-length 10 k n in
-    let z : k ≡ length (decimal n) = sym l ∙ ap length d in
-    record { same = e ∙ d; long = ap length e ∙ l; size = z; few = omega (arith, decimal-room n h) }
+    record { same = e ∙ d; long = ap length e ∙ l; size = sym l ∙ ap length d }

@@ -1,7 +1,7 @@
 -- What the proofs of `unfold` cite: the answer to a file, and what is printed of it. Assumes nothing.
 use Prim.Native.Nat.{ℕ, _*_, _≤_, _<_}
 use native.Mathlib.Omega.{arith}
-use mathlib.Core.Path.{_≡_, refl, sym, ap, _∙_, subst}
+use mathlib.Core.Path.{_≡_, refl, sym, ap, _∙_}
 use mathlib.Core.Bool.{true, cond}
 use mathlib.Core.List.{List, [], map}
 use mathlib.Core.Option.{Option, none, some}
@@ -16,7 +16,7 @@ use Rattle.lists.proofs.SegLaws.{seg-put-same}
 use Rattle.network.specs.declared.options.Options.{Options}
 use Rattle.sweep.specs.Sweep.{Sweep, unfolded}
 use Rattle.sweep.specs.Entry.{sweepBy, answerOf}
-use Rattle.sweep.specs.Questions.{Outcome, refused, accepted, Lent, firstNo, wordsFor, floatsFor, seven, nineOf, ownLimits, asked, firstMissed, answered, outcome}
+use Rattle.sweep.specs.Questions.{Outcome, refused, accepted, Lent, firstNo, wordsFor, floatsFor, seven, nineOf, gatesIn, ownLimits, asked, firstMissed, answered, outcome}
 use Rattle.sweep.specs.Call.{Memory, Answer, answerBy, lengths, clearedFor, workedOn, ending, call}
 use Rattle.sweep.proofs.QuestionLaws.{zero-none, no-meets}
 use Rattle.files.specs.declared.format.Header.{Header}
@@ -26,19 +26,23 @@ use Rattle.files.specs.Calls.{Read, read, readBy}
 use Rattle.files.proofs.AskLaws.{answer-some}
 use Rattle.files.proofs.CodeLaws.{header-named}
 use Rattle.files.proofs.CallLaws.{read-number, read-named, read-whole}
-use Rattle.printout.specs.Text.{rayLines}
-use Rattle.printout.specs.Unfold.{fileGates, lentFor, fileOutcome, Printed, printedBy, printedOf, printed}
+use Rattle.printout.specs.Unfold.{fileGates, lentFor, fileOutcome, Printed, printedBy, printedOf, printedWith}
 use Rattle.printout.specs.Inside.Folds.{Folds, foldsBy, foldsOf}
 
 -- ---- the sweep entry's answer, of counts alone
 
-kept-counts : (s : Sweep) (m : Memory) → workedOn s m .counts ≡ m .counts
-unfolding workedOn clearedFor
-kept-counts s m = go (asked s (lengths m)) refl
+-- what clearing the work memory leaves as it is
+pub kept-over : {A : Type 0} (g : Memory → A) (s : Sweep) (m : Memory) → ((n : ℕ) → g (clearedFor n m) ≡ g m) → g (workedOn s m) ≡ g m
+unfolding workedOn
+kept-over g s m h = go (asked s (lengths m)) refl
   where
-    go : (o : Option ℕ) → asked s (lengths m) ≡ o → workedOn s m .counts ≡ m .counts
-    go none e = rw (e, workedOn) refl
+    go : (o : Option ℕ) → asked s (lengths m) ≡ o → g (workedOn s m) ≡ g m
+    go none e = rw (e, workedOn) (h (gatesIn s))
     go (some k) e = rw (e, workedOn) refl
+
+kept-counts : (s : Sweep) (m : Memory) → workedOn s m .counts ≡ m .counts
+unfolding clearedFor
+kept-counts s m = kept-over (λ (x : Memory). x .counts) s m (λ n. refl)
 
 call-folds : (s : Sweep) (m : Memory) → foldsBy (call s m .number) (call s m .memory .counts) ≡ foldsOf (outcome s (lengths m)) (m .counts)
 unfolding call
@@ -54,7 +58,7 @@ pub outcome-some : (f : List ℕ) (k : ℕ) → firstNo (readQuestions f (fileGa
 unfolding fileOutcome
 outcome-some f k h = rw (h, fileOutcome) refl
 
-outcome-none : (f : List ℕ) → firstNo (readQuestions f (fileGates f) (fileGates f)) ≡ none → fileOutcome f ≡ outcome (asSweep (sweepIn f)) (lentFor (fileGates f))
+pub outcome-none : (f : List ℕ) → firstNo (readQuestions f (fileGates f) (fileGates f)) ≡ none → fileOutcome f ≡ outcome (asSweep (sweepIn f)) (lentFor (fileGates f))
 unfolding fileOutcome
 outcome-none f h = rw (h, fileOutcome) refl
 
@@ -65,9 +69,8 @@ module _ (f vel mask : List ℕ) (a : length vel ≡ fileGates f) (b : length ma
   number-is = ap (λ (r : Read). r .number) e ∙ read-number f vel mask ∙ (λ i. answerOf (firstNo (readQuestions f (a i) (b i))))
 
   -- a refusal
-  pub file-refused : (counts : List ℤ) → (k ≡ 0 → ⊥) → foldsBy k counts ≡ foldsOf (fileOutcome f) counts
-  unfolding foldsOf
-  file-refused counts n = ap (λ (o : Outcome). foldsOf o counts) (sym (outcome-some f k (answer-some (firstNo (readQuestions f (fileGates f) (fileGates f))) k number-is n)))
+  pub file-refused : (k ≡ 0 → ⊥) → fileOutcome f ≡ refused k
+  file-refused n = outcome-some f k (answer-some (firstNo (readQuestions f (fileGates f) (fileGates f))) k number-is n)
 
   module _ (z : k ≡ 0) where
     whole : firstNo (readQuestions f (fileGates f) (fileGates f)) ≡ none
@@ -76,9 +79,13 @@ module _ (f vel mask : List ℕ) (a : length vel ≡ fileGates f) (b : length ma
     same-sweep : stored hd vs ms ≡ sweepIn f
     same-sweep = ap (λ (r : Read). r .sweep) (e ∙ read-whole f vel mask ((λ i. firstNo (readQuestions f (a i) (b i))) ∙ whole))
 
-    same-input : (o : Options) (us : List Float) → o ≡ optionsBy hd → us ≡ map (ofBits binary32) vs → sweepBy o us ms ≡ asSweep (sweepIn f)
+    -- what the sweep entry is handed
+    pub same-input : (o : Options) (us : List Float) → o ≡ optionsBy hd → us ≡ map (ofBits binary32) vs → sweepBy o us ms ≡ asSweep (sweepIn f)
     unfolding asSweep
     same-input o us p q = (λ i. sweepBy (p i) (q i) ms) ∙ ap asSweep same-sweep
+
+    pub file-answered : fileOutcome f ≡ outcome (asSweep (sweepIn f)) (lentFor (fileGates f))
+    file-answered = outcome-none f whole
 
     -- the sweep entry's answer
     pub file-unfolded : (o : Options) (us : List Float) (m : Memory) (r : ℕ) (cs : List ℤ) (ds p w : List ℕ) (d : List Float) → o ≡ optionsBy hd → us ≡ map (ofBits binary32) vs
@@ -87,7 +94,7 @@ module _ (f vel mask : List ℕ) (a : length vel ≡ fileGates f) (b : length ma
         ap (λ (x : Answer). foldsBy (x .number) (x .memory .counts)) t
         ∙ call-folds (sweepBy o us ms) m
         ∙ (λ i. foldsOf (outcome (same-input o us g h i) (l i)) (m .counts))
-        ∙ sym (ap (λ (x : Outcome). foldsOf x (m .counts)) (outcome-none f whole))
+        ∙ sym (ap (λ (x : Outcome). foldsOf x (m .counts)) file-answered)
 
 -- ---- what is printed of an answer
 
@@ -119,24 +126,46 @@ file-zero f h = go (firstNo (readQuestions f (fileGates f) (fileGates f))) refl
     go none e = sweep-zero (asSweep (sweepIn f)) (lentFor (fileGates f)) (sym (ap refusalIn (outcome-none f e)) ∙ h)
     go (some k) e = above k (ltb-true 0 k (no-meets (ltb 0) (readQuestions f (fileGates f) (fileGates f)) k (read-named f (fileGates f) (fileGates f)) e)) (sym (ap refusalIn (outcome-some f k e)) ∙ h)
 
-module _ (f : List ℕ) (rays gates k : ℕ) (lent counts : List ℤ) (e : foldsBy k counts ≡ foldsOf (fileOutcome f) lent) where
+-- the number of an answer
+abbrev pub numberOf : Outcome → ℕ
+numberOf (refused k) = k
+numberOf (accepted counts doubtful regions merges) = 0
+
+pub folds-number : (o : Outcome) (lent : List ℤ) → foldsOf o lent .number ≡ numberOf o
+unfolding foldsOf
+folds-number (refused k) lent = refl
+folds-number (accepted cs ds r m) lent = refl
+
+-- whether an answer is an acceptance; that to a file is one where its number is 0
+abbrev pub Accepted : Outcome → Type 0
+Accepted (refused k) = ⊥
+Accepted (accepted counts doubtful regions merges) = Unit {0}
+
+pub file-accepted : (f : List ℕ) → numberOf (fileOutcome f) ≡ 0 → Accepted (fileOutcome f)
+file-accepted f z = go (fileOutcome f) (file-zero f) z
+  where
+    go : (o : Outcome) → (refusalIn o ≡ 0 → ⊥) → numberOf o ≡ 0 → Accepted o
+    go (refused k) n z = n z
+    go (accepted cs ds r m) n z = tt
+
+module _ (f : List ℕ) (text : List ℤ → List ℕ) (k : ℕ) where
   -- a refusal prints nothing
-  pub refused-prints : (k ≡ 0 → ⊥) → printedBy k [] ≡ printedOf rays gates (fileOutcome f)
-  unfolding printedOf foldsOf
-  refused-prints n = go (fileOutcome f) e
+  pub refused-prints : k ≡ numberOf (fileOutcome f) → (k ≡ 0 → ⊥) → printedBy k [] ≡ printedOf text (fileOutcome f)
+  unfolding printedOf
+  refused-prints e n = go (fileOutcome f) e
     where
-      go : (o : Outcome) → foldsBy k counts ≡ foldsOf o lent → printedBy k [] ≡ printedOf rays gates o
-      go (refused j) e = ap (λ (x : Folds). printedBy (x .number) []) e
-      go (accepted cs ds r m) e = absurd (n (ap (λ (x : Folds). x .number) e))
+      go : (o : Outcome) → k ≡ numberOf o → printedBy k [] ≡ printedOf text o
+      go (refused j) e = ap (λ (x : ℕ). printedBy x []) e
+      go (accepted cs ds r m) e = absurd (n e)
 
   -- and an answer of 0 the counts
-  pub counts-print : k ≡ 0 → printedBy 0 (rayLines rays gates counts) ≡ printedOf rays gates (fileOutcome f)
+  pub counts-print : (lent counts : List ℤ) → foldsBy k counts ≡ foldsOf (fileOutcome f) lent → k ≡ 0 → printedBy 0 (text counts) ≡ printedOf text (fileOutcome f)
   unfolding printedOf foldsOf
-  counts-print z = go (fileOutcome f) (file-zero f) e
+  counts-print lent counts e z = go (fileOutcome f) (file-accepted f (sym (ap (λ (x : Folds). x .number) e ∙ folds-number (fileOutcome f) lent) ∙ z)) e
     where
-      go : (o : Outcome) → (refusalIn o ≡ 0 → ⊥) → foldsBy k counts ≡ foldsOf o lent → printedBy 0 (rayLines rays gates counts) ≡ printedOf rays gates o
-      go (refused j) n e = absurd (n (sym (ap (λ (x : Folds). x .number) e) ∙ z))
-      go (accepted cs ds r m) n e = ap (λ (x : Folds). printedBy 0 (rayLines rays gates (x .counts))) e
+      go : (o : Outcome) → Accepted o → foldsBy k counts ≡ foldsOf o lent → printedBy 0 (text counts) ≡ printedOf text o
+      go (refused j) a e = absurd a
+      go (accepted cs ds r m) a e = ap (λ (x : Folds). printedBy 0 (text (x .counts))) e
 
 -- ---- what is printed for a file
 
@@ -145,28 +174,24 @@ pub text-front : (w v t : List ℕ) (k : ℕ) → v ≡ put w 0 t → k ≡ leng
 unfolding seg
 text-front w v t k e h l = (λ i. take (h i) (e i)) ∙ seg-put-same w 0 t (omega arith)
 
-module _ (f : List ℕ) (k : ℕ) (e : k ≡ answerOf (firstNo (headerQuestions f))) where
-  pub fault-prints : (k ≡ 0 → ⊥) → printedBy k [] ≡ printed f
-  unfolding printed
-  fault-prints n = sym (rw (answer-some (firstNo (headerQuestions f)) k e n, printed) refl)
+module _ (f : List ℕ) (text : List ℤ → List ℕ) (k : ℕ) (e : k ≡ answerOf (firstNo (headerQuestions f))) where
+  pub fault-prints : (k ≡ 0 → ⊥) → printedBy k [] ≡ printedWith text f
+  unfolding printedWith
+  fault-prints n = sym (rw (answer-some (firstNo (headerQuestions f)) k e n, printedWith) refl)
 
-  module _ (z : k ≡ 0) (rays gates : ℕ) (r : rays ≡ u16At f 3) (g : gates ≡ u16At f 5) where
+  module _ (z : k ≡ 0) (n : ℕ) (g : n ≡ fileGates f) where
     begun : firstNo (headerQuestions f) ≡ none
     begun = zero-none (headerQuestions f) (header-named f) (sym e ∙ z)
 
-    by-gates : printed f ≡ cond (leb (fileGates f) 128) (printedOf (u16At f 3) (u16At f 5) (fileOutcome f)) (printedBy 0 [])
-    unfolding printed
-    by-gates = rw (begun, printed) refl
+    by-gates : printedWith text f ≡ cond (leb (fileGates f) 128) (printedOf text (fileOutcome f)) (printedBy 0 [])
+    unfolding printedWith
+    by-gates = rw (begun, printedWith) refl
 
-    same-gates : rays * gates ≡ fileGates f
-    unfolding fileGates
-    same-gates i = r i * g i
+    pub many-print : 128 < n → printedBy 0 [] ≡ printedWith text f
+    many-print h = sym (by-gates ∙ rw (lt-leb (fileGates f) 128 (omega (arith, g))) refl)
 
-    pub many-print : 128 < rays * gates → printedBy 0 [] ≡ printed f
-    many-print h = sym (by-gates ∙ rw (lt-leb (fileGates f) 128 (subst (λ (n : ℕ). 128 < n) same-gates h)) refl)
-
-    pub few-print : (p : Printed) → rays * gates ≤ 128 → p ≡ printedOf rays gates (fileOutcome f) → p ≡ printed f
-    few-print p h q = q ∙ (λ i. printedOf (r i) (g i) (fileOutcome f)) ∙ sym (by-gates ∙ rw (le-leb (fileGates f) 128 (subst (λ (n : ℕ). n ≤ 128) same-gates h)) refl)
+    pub few-print : n ≤ 128 → printedOf text (fileOutcome f) ≡ printedWith text f
+    few-print h = sym (by-gates ∙ rw (le-leb (fileGates f) 128 (omega (arith, g))) refl)
 
 -- a text of no bytes
 pub nothing-printed : (p : Printed) (k x b : ℕ) (t : List ℕ) → x ≡ k → b ≡ 0 → printedBy k [] ≡ p → (printedBy x (take b t) ≡ p) × (b ≤ length t)

@@ -1,3 +1,4 @@
 -- What internal contracts need.
 pub mod Gap
 pub mod Folds
+pub mod Booked

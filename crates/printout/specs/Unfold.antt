@@ -5,6 +5,7 @@ use mathlib.Core.Bool.{cond}
 use mathlib.Core.List.{List, []}
 use mathlib.Core.Option.{none, some}
 use lib.Dec.{leb}
+use lib.IntN.{ℤ}
 use Rattle.sweep.specs.Questions.{Lent, Outcome, refused, accepted, firstNo, wordsFor, floatsFor, outcome}
 use Rattle.files.specs.Format.{u16At, sweepIn}
 use Rattle.files.specs.Questions.{asSweep, headerQuestions, readQuestions}
@@ -34,14 +35,18 @@ pub record Printed : Type 0 where
 abbrev pub printedBy : ℕ → List ℕ → Printed
 printedBy number text = record { number = number; text = text }
 
--- what is printed of an answer
-unfoldable pub printedOf : ℕ → ℕ → Outcome → Printed
-printedOf rays gates (refused k) = printedBy k []
-printedOf rays gates (accepted counts doubtful regions merges) = printedBy 0 (rayLines rays gates counts)
+-- what is printed of an answer, `text` being the text of an accepted sweep's counts
+unfoldable pub printedOf : (List ℤ → List ℕ) → Outcome → Printed
+printedOf text (refused k) = printedBy k []
+printedOf text (accepted counts doubtful regions merges) = printedBy 0 (text counts)
 
--- what is printed for a file
-unfoldable pub printed : List ℕ → Printed
-printed f = elim (firstNo (headerQuestions f)) [
-  | none ↦ cond (leb (fileGates f) 128) (printedOf (u16At f 3) (u16At f 5) (fileOutcome f)) (printedBy 0 [])
+-- what is printed for a file, with such a text
+unfoldable pub printedWith : (List ℤ → List ℕ) → List ℕ → Printed
+printedWith text f = elim (firstNo (headerQuestions f)) [
+  | none ↦ cond (leb (fileGates f) 128) (printedOf text (fileOutcome f)) (printedBy 0 [])
   | some k ↦ printedBy k []
 ]
+
+-- what `unfold` prints for a file
+unfoldable pub printed : List ℕ → Printed
+printed f = printedWith (rayLines (u16At f 3) (u16At f 5)) f

@@ -40,9 +40,23 @@ pub fn floats() -> [f64; 2064]
     [0.0; 2064]
 }
 
-// Twelve bytes a count, and one a ray.
+// Six numbers an entry: 128 gates have at most 128 regions, and those at most 127 merges.
+pub fn book() -> [i32; 762]
+    ensures { λ r. ⌜ 762 ≡ length r ⌝ }
+{
+    [0; 762]
+}
+
+// The text of 128 counts, twelve bytes each, and one for each of 720 rays.
 pub fn text() -> [u8; 2256]
     ensures { λ r. ⌜ 2256 ≡ length r ⌝ }
 {
     [0; 2256]
+}
+
+// The text of 127 entries, twelve bytes a number and one a line, and of a last line of three numbers of twenty digits.
+pub fn book_text() -> [u8; 9334]
+    ensures { λ r. ⌜ 9334 ≡ length r ⌝ }
+{
+    [0; 9334]
 }

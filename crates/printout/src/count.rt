@@ -1,4 +1,5 @@
-// A count's text, in decimal. It assumes nothing of a count; the caller sees that the text has room for eleven bytes.
+// Numbers and counts as text, in decimal. It assumes nothing of them; the caller sees that the text has room: eleven bytes for a count, twenty for any
+// number.
 ghost use mathlib.Core.Path.{_≡_};
 ghost use Prim.Native.Nat.{_+_, _≤_};
 ghost use lib.ListN.{length};
@@ -28,9 +29,9 @@ fn put_bytes(text: &mut [u8], at: usize, bytes: &[u8])
     }
 }
 
-// Stores a number in decimal and answers the place after it. No count's size is above 2147483648, so ten bytes hold it.
-fn put_decimal(text: &mut [u8], at: usize, n: u64) -> usize
-    requires { ⌜ (at + 10 ≤ length (now text)) × (n ≤ 2147483648) ⌝ }
+// Stores a number in decimal and answers the place after it.
+pub fn put_decimal(text: &mut [u8], at: usize, n: u64) -> usize
+    requires { ⌜ at + length (decimal n) ≤ length (now text) ⌝ }
     ensures { λ r. ⌜ (now (text .exit) ≡ put (now (text .entry)) at (decimal n)) × (r ≡ at + length (decimal n)) ⌝ }
 {
     let mut digits = [0u8; 20];

@@ -24,6 +24,7 @@ ghost use Rattle.edges.specs.Inside.Sorts.{Sorts, Sorted};
 ghost use Rattle.edges.specs.Inside.Gather.{later, Legible, Gathers, Gathered};
 ghost use Rattle.edges.specs.Inside.Order.{runs};
 ghost use Rattle.merge.specs.Inside.Tables.{view};
+ghost use Rattle.network.specs.Book.{book};
 ghost use Rattle.network.specs.Network.{sizeIn, run, trace};
 ghost use Rattle.network.specs.Inside.Sizes.{Sizes};
 ghost use Rattle.network.specs.Inside.Begin.{rawNet, Space, Raw};
@@ -227,7 +228,7 @@ pub extern "C" fn stage_merges(tables: &mut [u32], floats: &mut [f64], e: usize,
     ensures { λ r. ⌜ r ≡ ranNumber (ranOf (settle e (rawNet e v (view e v (now (tables .entry)) (now (floats .entry)))) 0)) ⌝ }
     ensures { λ _. ⌜ (
         let s = view e v (now (tables .entry)) (now (floats .entry)) in
-        RunLeaves e v (gatesIn s) (trace (rawNet e v s) (run e (rawNet e v s))) (settle e (rawNet e v s) 0) (now (tables .exit)) (now (floats .exit))
+        RunLeaves e v (gatesIn s) (trace (rawNet e v s) (run e (rawNet e v s))) (book (rawNet e v s) (run e (rawNet e v s))) (settle e (rawNet e v s) 0) (now (tables .exit)) (now (floats .exit))
         ) ⌝ }
 {
     match network::network::merge_all(tables, floats, e, v) {

@@ -31,7 +31,10 @@ module _ (s : Sweep) (m : Memory) where
   unfolding endBy
   call-missed k = call-by (some k)
 
+  pub call-on : firstNo (eightOf s (lengths m)) ≡ none → ending (asked9 (unfolded s (ownLimits s))) (clearedFor (gatesIn s) m) ≡ call s m
+  unfolding endBy
+  call-on = call-by none
+
   pub call-goes-on : (p : Plan) → p ≡ ownPlan s → firstNo (eightOf s (lengths m)) ≡ none
       → ending (asked9 (unfolded s (limitsOf (s .nyquist) (s .splits) (p .«add_start») (p .«add_end») (p .number)))) (clearedFor (gatesIn s) m) ≡ call s m
-  unfolding endBy
-  call-goes-on p e h = ap (λ (x : List Float). ending (asked9 (unfolded s x)) (clearedFor (gatesIn s) m)) (limits-are s p e) ∙ call-by none h
+  call-goes-on p e h = ap (λ (x : List Float). ending (asked9 (unfolded s x)) (clearedFor (gatesIn s) m)) (limits-are s p e) ∙ call-on h

@@ -18,7 +18,7 @@ use Rattle.arithmetic.specs.Evaluating.{evaluating}
 use Rattle.lists.proofs.SeqLaws.{tab-same}
 use Rattle.labels.specs.Label.{Found}
 use Rattle.network.specs.Network.{alone, start, merges, replay, trace, countOf, gatesOf, markOf, networkBy, mergesInRange}
-use Rattle.sweep.specs.Sweep.{Sweep, orZero, sizes, networkOf, final, early, weighed, meanOf, offsetOf, gateCount, ended, finished, unfoldedBy}
+use Rattle.sweep.specs.Sweep.{Sweep, orZero, sizes, networkOf, final, early, weighed, meanOf, offsetOf, gateCount, ended, finished, unfoldedBy, Unfolded}
 use Rattle.sweep.specs.Questions.{firstNo, answered, asked9}
 use Rattle.sweep.proofs.Early.{early-merges, early-counts, early-marks}
 
@@ -78,7 +78,7 @@ alone-mean i ns =
     ap (λ (z : ℤ). orZero (roundEven (div binary64 (real z) (real (pos (gatesOf (alone i ns))))))) (alone-weighed i ns)
     ∙ ap (λ (x : Float). orZero (roundEven (div binary64 x (real (pos (gatesOf (alone i ns))))))) real-zero ∙ zero-over (real (pos (gatesOf (alone i ns))))
 
-no-count : (m : ℕ) → gateCount (pos 0) m (pos 0) ≡ pos 0
+pub no-count : (m : ℕ) → gateCount (pos 0) m (pos 0) ≡ pos 0
 unfolding gateCount
 no-count m = go (eqb m 1)
   where
@@ -115,6 +115,18 @@ module _ (s : Sweep) (f : Found) (h : early s f ≡ true) where
   early-same : asked9 (finished s f (networkOf s f)) ≡ asked9 (ended s f)
   unfolding finished ended asked9 answered firstNo
   early-same = rw (early-good, early-none, early-merges s f h, early-gates) refl
+
+-- question 9 of a sweep is that of its network
+pub range-same : (s : Sweep) (f : Found) → unfoldedBy s f .mergesInRange ≡ mergesInRange (networkOf s f)
+unfolding unfoldedBy ended finished
+range-same s f = go (early s f) refl
+  where
+    by : Bool → Unfolded
+    by b = elim b [ true ↦ ended s f | false ↦ finished s f (networkOf s f) ]
+
+    go : (b : Bool) → early s f ≡ b → by b .mergesInRange ≡ mergesInRange (networkOf s f)
+    go true e = sym (early-good s f e)
+    go false e = refl
 
 pub ends-same : (s : Sweep) (f : Found) → asked9 (finished s f (networkOf s f)) ≡ asked9 (unfoldedBy s f)
 unfolding unfoldedBy

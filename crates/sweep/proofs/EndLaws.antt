@@ -10,10 +10,10 @@ use lib.Ieee.{Float}
 use Rattle.memory.specs.Size.{gatesOfLargest}
 use Rattle.arithmetic.specs.Rounding.{real}
 use Rattle.arithmetic.specs.declared.intervals.Plan.{Plan}
-use Rattle.network.specs.Inside.Find.{limitsBy, Finds}
+use Rattle.network.specs.Inside.Find.{Finds}
 use Rattle.network.specs.declared.options.Options.{Options}
-use Rattle.sweep.specs.Sweep.{Sweep, unfolded}
-use Rattle.sweep.specs.Questions.{Outcome, refused, accepted, firstNo, room, sevenOf, gatesIn, wordsFor, floatsFor, asked9}
+use Rattle.sweep.specs.Sweep.{Sweep}
+use Rattle.sweep.specs.Questions.{Outcome, refused, accepted, firstNo, room, sevenOf, gatesIn, wordsFor, floatsFor}
 use Rattle.sweep.specs.Call.{Memory, Answer, memoryOf, answerBy, lengths, clearedFor, ending}
 use Rattle.sweep.specs.Entry.{sweepBy}
 use Rattle.sweep.specs.Inside.Finish.{allZero}
@@ -69,13 +69,13 @@ module _ (o : Options) (p : Plan) (vel : List Float) (mask : List ℕ) (m : Memo
       let q = three-are (length (m .counts)) (gatesIn s) (length (m .doubtful)) (gatesIn s) (length (m .pair)) 2 (known s m h .own) in
       (q .0 ∙ sym (known s m h .vel), q .1 ∙ sym (known s m h .vel), q .2)
 
-  pub solved-ends : (w : List ℕ) (d : List Float) → length w ≡ 96 * length vel + 64 → length d ≡ 16 * length vel + 16 → (x : Answer)
-      → x ≡ ending (asked9 (unfolded s (limitsBy o p))) (allZero (memoryOf (m .counts) (m .doubtful) (m .pair) w d))
+  -- by whatever outcome
+  pub solved-ends : (y : Outcome) (w : List ℕ) (d : List Float) → length w ≡ 96 * length vel + 64 → length d ≡ 16 * length vel + 16 → (x : Answer)
+      → x ≡ ending y (allZero (memoryOf (m .counts) (m .doubtful) (m .pair) w d))
       → (W : List ℕ) (D : List Float) → W ≡ drop (96 * length vel + 64) (m .words) → D ≡ drop (16 * length vel + 16) (m .floats)
-      → behind W D x ≡ ending (asked9 (unfolded s (limitsBy o p))) (clearedFor (gatesIn s) m)
+      → behind W D x ≡ ending y (clearedFor (gatesIn s) m)
   unfolding clearedFor
-  solved-ends w d ew ed x e W D eW eD =
-      let y : Outcome = asked9 (unfolded s (limitsBy o p)) in
+  solved-ends y w d ew ed x e W D eW eD =
       let cw = Work.cleared-is 0 (96 * length vel + 64) (wordsFor (gatesIn s)) (replicate (length w) 0) W (m .words) (Work.words-asked s (lentRoom s m h) (known s m h)) (ap (λ (n : ℕ). replicate n 0) ew) eW in
       let cd = Work.cleared-is (real (pos 0)) (16 * length vel + 16) (floatsFor (gatesIn s)) (replicate (length d) (real (pos 0))) D (m .floats) (Work.floats-asked s (lentRoom s m h) (known s m h)) (ap (λ (n : ℕ). replicate n (real (pos 0))) ed) eD in
       ap (behind W D) e

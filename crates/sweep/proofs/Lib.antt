@@ -2,7 +2,6 @@ pub mod SignedLaws
 pub mod SumLaws
 pub mod MeanLaws
 pub mod FinishLaws
-pub mod MergeNumber
 pub mod MergeLaws
 pub mod FillLaws
 pub mod VelocityLaws

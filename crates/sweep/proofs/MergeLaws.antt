@@ -8,11 +8,10 @@ use lib.Dec.{eqb}
 use lib.IntN.{ℤ, pos, subℕ}
 use lib.ListN.{length, getD}
 use lib.Ieee.{Float, binary64, div}
-use borrow.Author.Tests.{eq-eqb, eqb-true, ne-eqb}
 use Rattle.arithmetic.specs.Rounding.{roundEven, real}
-use Rattle.lists.specs.Seq.{tabulate, keep}
+use Rattle.lists.specs.Seq.{tabulate}
 use Rattle.arithmetic.specs.Intervals.{twoNyquist}
-use Rattle.lists.proofs.SeqLaws.{tab-at, tab-same, keep-same}
+use Rattle.lists.proofs.SeqLaws.{tab-at, tab-same}
 use Rattle.lists.proofs.SegLaws.{getD-seg}
 use Rattle.labels.specs.Label.{Found}
 use Rattle.network.specs.Network.{State, Event, sizeIn, replay, merges, trace, countOf, gatesOf, marked, markOf, networkBy, mergesInRange}
@@ -21,7 +20,9 @@ use Rattle.merge.specs.Inside.Steps.{unbias}
 use Rattle.memory.specs.Inside.Layout.{sizesAt, countsAt, marksAt}
 use Rattle.memory.specs.Size.{gatesOfLargest}
 use Rattle.network.specs.Inside.Find.{shapeOf, networkFor, findingOf, Leaves}
+use Rattle.network.proofs.Joint.{gatesFrom, gates-most}
 use Rattle.network.proofs.Settles.{ran-no, ran-yes}
+use Rattle.network.proofs.BookLaws.{merges-less}
 use Rattle.network.specs.declared.options.Options.{Options}
 use Rattle.network.specs.declared.find.Run.{Run}
 use Rattle.network.specs.declared.find.Finding.{Finding}
@@ -32,7 +33,6 @@ use Rattle.sweep.specs.Call.{ending}
 use Rattle.sweep.specs.Entry.{sweepBy}
 use Rattle.sweep.specs.Inside.Mean.{sumFrom, sizeAt, heldAt}
 use Rattle.sweep.specs.Inside.Finish.{offsetBy, countsBy, marksBy, WritesMarks, Finishes, WritesFound, lent, written}
-use Rattle.sweep.proofs.MergeNumber.{merges-most, parts-few}
 use Rattle.sweep.proofs.MeanLaws.{weighed-is, gates-is, last-labels, last-sizes}
 use Rattle.sweep.proofs.EarlyEnd.{ends-same}
 
@@ -44,15 +44,13 @@ sum-same f g i zero h = refl
 sum-same f g i (suc k) h = ap (λ (x : ℕ). x + sumFrom f (suc i) k) (h i (omega arith) (omega arith)) ∙ ap (λ (x : ℕ). g i + x) (sum-same f g (suc i) k (λ j p q. h j (omega arith) (omega arith)))
 
 -- regions hold no more gates than there are
-sizes-few : (L : List ℕ) (i k : ℕ) → sumFrom (sizeIn L) i k ≤ length L
-sizes-few L i k = omega (arith, sum-same (sizeIn L) (λ l. length (keep (λ (x : ℕ). eqb x l) L)) i k (λ j p q. size-is j), parts-few (λ (x : ℕ). x) L i k)
-  where
-    turned : (l x : ℕ) (b : Bool) → eqb x l ≡ b → eqb l x ≡ b
-    turned l x true e = eq-eqb l x (sym (eqb-true x l e))
-    turned l x false e = ne-eqb l x (λ q. true≢false (sym (eq-eqb x l (sym q)) ∙ e))
+sizes-sum-up : (L : List ℕ) (i k : ℕ) → gatesFrom L i k ≡ sumFrom (sizeIn L) i k
+unfolding gatesFrom sumFrom
+sizes-sum-up L i zero = refl
+sizes-sum-up L i (suc k) = ap (λ (x : ℕ). sizeIn L i + x) (sizes-sum-up L (suc i) k)
 
-    size-is : (l : ℕ) → sizeIn L l ≡ length (keep (λ (x : ℕ). eqb x l) L)
-    size-is l = unfold sizeIn in ap length (keep-same (eqb l) (λ (x : ℕ). eqb x l) L (λ x. turned l x (eqb x l) refl))
+sizes-few : (L : List ℕ) (i k : ℕ) → sumFrom (sizeIn L) i k ≤ length L
+sizes-few L i k = omega (arith, gates-most L i k, sizes-sum-up L i k)
 
 -- a mark is 0 or 1
 mark-most : (vs : List Event) (l : ℕ) → markOf vs l ≤ 1
@@ -106,22 +104,22 @@ module _ (o : Options) (vel : List Float) (mask : List ℕ) (F : Found) (n : ℕ
 
   -- ---- what was found, by question 9
 
-  found-no : mergesInRange t ≡ false → x ≡ Refused
+  pub found-no : mergesInRange t ≡ false → x ≡ Refused
   found-no g = R .answer ∙ ap (findingOf k) (ran-no t g)
 
-  found-yes : mergesInRange t ≡ true → x ≡ Regions (record { regions = k; merges = length (merges t) })
+  pub found-yes : mergesInRange t ≡ true → x ≡ Regions (record { regions = k; merges = length (merges t) })
   found-yes g = R .answer ∙ ap (findingOf k) (ran-yes t g)
 
   -- ---- what writing asks
 
-  good-if : (r : Run) → x ≡ Regions r → mergesInRange t ≡ true
+  pub good-if : (r : Run) → x ≡ Regions r → mergesInRange t ≡ true
   good-if r e = go (mergesInRange t) refl
     where
       go : (b : Bool) → mergesInRange t ≡ b → mergesInRange t ≡ true
       go true g = g
       go false g = absurd (true≢false (ap accepts (sym e ∙ found-no g)))
 
-  run-is : (r : Run) → x ≡ Regions r → r ≡ record { regions = k; merges = length (merges t) }
+  pub run-is : (r : Run) → x ≡ Regions r → r ≡ record { regions = k; merges = length (merges t) }
   run-is r e = ap runOf (sym e ∙ found-yes (good-if r e))
 
   finishes : mergesInRange t ≡ true → (m : ℕ) → m ≡ n → (c : ℕ) → c ≡ n → Finishes v m k mask c
@@ -150,7 +148,7 @@ module _ (o : Options) (vel : List Float) (mask : List ℕ) (F : Found) (n : ℕ
     marks = λ r e. subst (λ (z : ℕ). WritesMarks v (length mask) z b) (sym (ap (λ (y : Run). y .regions) (run-is r e))) (marks-ask (good-if r e) (length mask) masks b eb);
     few = λ r e. (
       omega (arith, ap (λ (y : Run). y .regions) (run-is r e), few, small),
-      omega (arith, ap (λ (y : Run). y .merges) (run-is r e), merges-most (twoNyquist (o .nyquist)) (shapeOf o) k L vel, long, small),
+      omega (arith, ap (λ (y : Run). y .merges) (run-is r e), merges-less (twoNyquist (o .nyquist)) (shapeOf o) k L vel, few, small),
     );
     pair = et;
   }

@@ -34,16 +34,24 @@ mag-neg (negsuc n) = omega arith
 unbias-mag : (c : ℕ) → c ≤ 2000 → mag (unbias c) ≤ 1000
 unbias-mag c h = ⊎-elim (λ p. subst (λ (z : ℤ). mag z ≤ 1000) (sym (unbias-down c p)) (omega arith)) (λ p. subst (λ (z : ℤ). mag z ≤ 1000) (sym (unbias-up c p)) (omega arith)) (lt-or-le c 1000)
 
-module _ (m c : ℕ) (off : ℤ) (few : c ≤ 2000) (near : natAbs off ≤ 2 ^ 30) where
+-- a word with 1,000 taken away
+module _ (c : ℕ) (few : c ≤ 2000) where
   first-is : toZ w32 c -ℤ pos 1000 ≡ unbias c
   unfolding unbias
   first-is = ap (λ (z : ℤ). z -ℤ pos 1000) (toZ-pos w32 c (omega arith))
 
-  pub first-fits : SFits w32 (toZ w32 c -ℤ pos 1000)
-  first-fits = subst (SFits w32) (sym first-is) (record { sfits = omega (arith, unbias-mag c few) })
+  pub unbias-fits : SFits w32 (unbias c)
+  unbias-fits = record { sfits = omega (arith, unbias-mag c few) }
 
+  pub first-fits : SFits w32 (toZ w32 c -ℤ pos 1000)
+  first-fits = subst (SFits w32) (sym first-is) unbias-fits
+
+  pub unbiased : toZ w32 (ofZ w32 (toZ w32 c -ℤ pos 1000)) ≡ unbias c
+  unbiased = toZ-ofZ w32 (toZ w32 c -ℤ pos 1000) first-fits ∙ first-is
+
+module _ (m c : ℕ) (off : ℤ) (few : c ≤ 2000) (near : natAbs off ≤ 2 ^ 30) where
   second-is : toZ w32 (ofZ w32 (toZ w32 c -ℤ pos 1000)) -ℤ off ≡ unbias c -ℤ off
-  second-is = ap (λ (z : ℤ). z -ℤ off) (toZ-ofZ w32 (toZ w32 c -ℤ pos 1000) first-fits ∙ first-is)
+  second-is = ap (λ (z : ℤ). z -ℤ off) (unbiased c few)
 
   pub second-fits : SFits w32 (toZ w32 (ofZ w32 (toZ w32 c -ℤ pos 1000)) -ℤ off)
   second-fits = subst (SFits w32) (sym second-is) (record { sfits = omega (arith, mag-add (unbias c) (negℤ off) 1000 (2 ^ 30) (unbias-mag c few) (most (mag-neg off) near)) })

@@ -131,7 +131,7 @@ pub fn write_marks(w: &[u32], n: usize, k: usize, doubtful: &mut [u8])
 }
 
 // What was found, written: counts, marks and pair, or nothing where question 9 refused. The answer's number.
-fn write(
+pub fn write(
     f: network::find::Finding,
     centred: u32,
     valid: &[u8],

@@ -1,51 +1,17 @@
-// Prints for every file of a recorded list a line with `=` and its number, and then what the program `unfold` prints. An entry is the file's length
-// in two bytes, high byte first, and the file.
-ghost use mathlib.Core.Path.{_≡_};
-ghost use Prim.Native.Nat.{_≤_};
-ghost use lib.ListN.{length};
+// Prints for every file of a recorded list a line with `=` and its number, and then what the program `unfold` prints (printout: list, `print_file`).
 
-// The contract gives the length, which a part that is lent needs.
-fn memory() -> [u8; 4096]
-    ensures { λ r. ⌜ 4096 ≡ length r ⌝ }
-{
-    [0; 4096]
-}
-
-// A file's number and its text.
-fn print_file(file: &[u8]) {
-    let mut text = printout::arrays::text();
-    let p = printout::unfold::print_file(file, &mut text);
-    let number = p.number;
-    let bytes = p.bytes;
-    io::write_all(1, b"= ");
-    io::print_decimal(1, number as u64);
-    io::write_all(1, b"\n");
-    io::write_all(1, &text[..bytes]);
-}
-
-// A file of n bytes, read and printed; false where the list is cut short.
-fn print_entry(n: usize) -> bool
-    requires { ⌜ n ≤ 4096 ⌝ }
-{
-    let mut file = memory();
-    if io::read_full(0, &mut file[..n]) < n {
-        return false;
-    }
-    print_file(&file[..n]);
-    true
-}
-
-// The next file of the list; false where the list ends or is cut short, or its entry is longer than the memory.
+// The next file of the list, read and printed; false where there is none.
 fn print_next() -> bool {
-    let mut head = [0u8; 2];
-    if io::read_full(0, &mut head) < 2 {
+    let mut file = printout::list::memory();
+    let n = printout::list::read_file(&mut file);
+    if n > printout::list::LONGEST {
         return false;
     }
-    let n = files::format::read_u16(&head, 0) as usize;
-    if n > 4096 {
-        return false;
-    }
-    print_entry(n)
+    let mut text = printout::arrays::text();
+    let p = printout::unfold::print_file(&file[..n], &mut text);
+    let bytes = p.bytes;
+    printout::list::write_answer(p.number, &text[..bytes]);
+    true
 }
 
 // A loop has to end: it counts its turns down, from a number that no list uses up.

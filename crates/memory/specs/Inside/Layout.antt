@@ -5,9 +5,9 @@
 --   pairing            labels n, gates of the pairs 4n, gates that these see 4n, whether the look was bridged in the lowest bit of either
 --   sorting            the same, then from 9n: order m, spare m, first labels m, second labels m, tallies v
 --   gathering          the same pairs and order, then from 13n: the edges' weights, ends and bridged pairs, in their tables
---   merging            labels n, sizes v, counts v, marks v, then from 13n the tables of edges and nodes
+--   merging            labels n, sizes v, counts v, marks v, log of merges 6(k - 1), then from 13n the tables of edges and nodes
 -- The floats: the edges' differences, from 0 on.
-use Prim.Native.Nat.{ℕ, _+_, _*_, _≤_}
+use Prim.Native.Nat.{ℕ, _+_, _*_, _-_, _≤_}
 use mathlib.Core.List.{List, [], _∷_}
 
 -- ---- pairing and sorting
@@ -50,6 +50,10 @@ countsAt n k = n + (k + 1)
 -- where their marks begin
 unfoldable pub marksAt : ℕ → ℕ → ℕ
 marksAt n k = n + (k + 1) + (k + 1)
+
+-- where the log of merges begins, once they are done
+unfoldable pub bookAt : ℕ → ℕ → ℕ
+bookAt n k = n + (k + 1) + (k + 1) + (k + 1)
 
 -- where the tables of edges and nodes begin
 unfoldable pub tablesAt : ℕ → ℕ
@@ -100,9 +104,13 @@ nodeCountAt e v = 8 * e + 6 * v
 abbrev pub nodeMarkAt : ℕ → ℕ → ℕ
 nodeMarkAt e v = 8 * e + 7 * v
 
+-- the log of merges, six words an entry; a merge consumes an edge, so there are no more entries than edges
+abbrev pub logAt : ℕ → ℕ → ℕ
+logAt e v = 8 * e + 8 * v
+
 -- all of them
 abbrev pub tableWords : ℕ → ℕ → ℕ
-tableWords e v = 8 * e + 8 * v
+tableWords e v = 14 * e + 8 * v
 
 -- ---- the parts of each stage, in order of place
 
@@ -133,16 +141,16 @@ gatherParts n m e =
 
 abbrev pub mergeParts : ℕ → ℕ → ℕ → List Part
 mergeParts n k e =
-    part 0 n ∷ part (sizesAt n) (k + 1) ∷ part (countsAt n k) (k + 1) ∷ part (marksAt n k) (k + 1)
+    part 0 n ∷ part (sizesAt n) (k + 1) ∷ part (countsAt n k) (k + 1) ∷ part (marksAt n k) (k + 1) ∷ part (bookAt n k) (6 * (k - 1))
     ∷ part (tablesAt n + weightAt) e ∷ part (tablesAt n + treeAt e) (2 * e) ∷ part (tablesAt n + firstAt e) e ∷ part (tablesAt n + secondAt e) e
     ∷ part (tablesAt n + bridgedAt e) e ∷ part (tablesAt n + enextAt e) (2 * e + (k + 1)) ∷ part (tablesAt n + rnextAt e (k + 1)) (k + 1) ∷ part (tablesAt n + stampAt e (k + 1)) (k + 1)
     ∷ part (tablesAt n + nodeSizeAt e (k + 1)) (k + 1) ∷ part (tablesAt n + elenAt e (k + 1)) (k + 1) ∷ part (tablesAt n + rlenAt e (k + 1)) (k + 1)
-    ∷ part (tablesAt n + nodeCountAt e (k + 1)) (k + 1) ∷ part (tablesAt n + nodeMarkAt e (k + 1)) (k + 1) ∷ []
+    ∷ part (tablesAt n + nodeCountAt e (k + 1)) (k + 1) ∷ part (tablesAt n + nodeMarkAt e (k + 1)) (k + 1) ∷ part (tablesAt n + logAt e (k + 1)) (6 * e) ∷ []
 
--- the parts of every stage lie apart, and fit into 53n + 32 of the 96n + 64 words that question 4 asks for, and a quarter of the floats
+-- the parts of every stage lie apart, and fit into 77n + 32 of the 96n + 64 words that question 4 asks for, and a quarter of the floats
 pub record Laid (n k m e : ℕ) : Type 0 where
-  pub regions : InTurn 0 (regionParts n) (53 * n + 32)
-  pub sort : InTurn 0 (sortParts n k m) (53 * n + 32)
-  pub gather : InTurn 0 (gatherParts n m e) (53 * n + 32)
-  pub merge : InTurn 0 (mergeParts n k e) (53 * n + 32)
+  pub regions : InTurn 0 (regionParts n) (77 * n + 32)
+  pub sort : InTurn 0 (sortParts n k m) (77 * n + 32)
+  pub gather : InTurn 0 (gatherParts n m e) (77 * n + 32)
+  pub merge : InTurn 0 (mergeParts n k e) (77 * n + 32)
   pub differences : InTurn 0 (part 0 e ∷ []) (4 * n)

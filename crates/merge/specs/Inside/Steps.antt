@@ -1,14 +1,15 @@
 -- What each function of the merging code does to the tables, step by step as the code goes.
 use mathlib.Core.Bool.{Bool, true, false, _&&_, cond}
-use mathlib.Core.List.{List}
+use mathlib.Core.List.{List, [], _∷_}
 use mathlib.Core.Option.{Option, none, some}
 use Prim.Native.Nat.{ℕ, zero, suc, _+_, _*_, _-_, _/_}
 use lib.Dec.{eqb, ltb, leb}
 use lib.IntN.{ℤ, pos, negsuc, _+ℤ_}
 use lib.ListN.{getD, set}
 use lib.Ieee.{nan, Float, neg, binary32, add}
-use Rattle.merge.specs.Inside.Tables.{Tables, store, withMarks, diff-set}
-use Rattle.merge.specs.Inside.Table.{Table, weight, first, second, bridged, enext, rnext, stamp, size, elen, rlen, count, mark}
+use Rattle.merge.specs.Inside.Tables.{Tables, store, withTable, diff-set}
+use Rattle.merge.specs.Inside.Table.{Table, weight, first, second, bridged, enext, rnext, stamp, size, elen, rlen, count, mark, log}
+use Rattle.lists.specs.Inside.Seg.{put}
 use Rattle.arithmetic.specs.Rounding.{scale}
 
 -- numbers from -1000 to 1000 are kept as words from 0 to 2000
@@ -135,7 +136,15 @@ markedAll v s = walkMark (getD (s .at rlen) v 0) (s .at rnext) (s .at mark) v
 
 -- the regions of v, the moved node, are marked if its merge is doubtful
 unfoldable pub markIf : Bool → ℕ → Tables → Tables
-markIf doubtful v s = withMarks (cond doubtful (markedAll v s) (s .at mark)) s
+markIf doubtful v s = withTable mark (cond doubtful (markedAll v s) (s .at mark)) s
+
+-- the words of a merge's entry: base, moved node, weight and bridged pairs of edge e, the gain with 1,000 added, the moved node's gates
+unfoldable pub entryWords : ℕ → ℕ → ℕ → ℕ → Tables → List ℕ
+entryWords e b v g s = b ∷ v ∷ getD (s .at weight) e 0 ∷ getD (s .at bridged) e 0 ∷ g ∷ getD (s .at size) v 0 ∷ []
+
+-- the merge of edge e entered in the log, after k others
+unfoldable pub logged : ℕ → ℕ → ℕ → ℕ → ℕ → Tables → Tables
+logged k e b v g s = withTable log (put (s .at log) (6 * k) (entryWords e b v g s)) s
 
 -- the chains of v are joined to those of b
 unfoldable pub splice : ℕ → ℕ → ℕ → Tables → Tables

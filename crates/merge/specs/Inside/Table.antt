@@ -6,7 +6,7 @@ use mathlib.Core.List.{List, [], _∷_}
 use Prim.Native.Nat.{ℕ, _+_, _*_}
 use lib.Dec.{eqb}
 use lib.ListN.{getD}
-use Rattle.memory.specs.Inside.Layout.{Part, part, weightAt, firstAt, secondAt, bridgedAt, enextAt, rnextAt, stampAt, nodeSizeAt, elenAt, rlenAt, nodeCountAt, nodeMarkAt}
+use Rattle.memory.specs.Inside.Layout.{Part, part, weightAt, firstAt, secondAt, bridgedAt, enextAt, rnextAt, stampAt, nodeSizeAt, elenAt, rlenAt, nodeCountAt, nodeMarkAt, logAt}
 
 -- a table is its number in the list of them
 pub data Table : Type 0 where
@@ -30,6 +30,7 @@ tables m n =
     ∷ part (rlenAt m n) n
     ∷ part (nodeCountAt m n) n
     ∷ part (nodeMarkAt m n) n
+    ∷ part (logAt m n) (6 * m)
     ∷ []
 
 -- of each edge: its weight, 0 where it is dead, its two ends, and how many of its pairs are bridged
@@ -75,6 +76,10 @@ count = table 10
 -- 1 if it was moved by a doubtful merge, else 0
 abbrev pub mark : Table
 mark = table 11
+
+-- of each merge: the six words of its entry
+abbrev pub log : Table
+log = table 12
 
 -- where a table begins, and how many words it has
 abbrev pub from : Table → ℕ → ℕ → ℕ

@@ -11,7 +11,7 @@ use Rattle.lists.specs.Inside.Seg.{seg}
 use Rattle.lists.specs.Seq.{sum}
 use Rattle.memory.specs.Inside.Tree.{Tree}
 use Rattle.memory.specs.Inside.Layout.{tableWords}
-use Rattle.merge.specs.Inside.Table.{Table, weight, first, second, bridged, enext, rnext, count, mark, from, long, is}
+use Rattle.merge.specs.Inside.Table.{Table, weight, first, second, bridged, enext, rnext, count, from, long, is}
 
 -- the tables of words by name, and the edges' differences
 pub record Tables : Type 0 where
@@ -26,7 +26,7 @@ view m n w d = record { at = λ t. seg w (from t m n) (long t m n); diff = d }
 pub record HoldsTables (m n : ℕ) (w : List ℕ) (d : List Float) : Type 0 where
   pub words : tableWords m n ≤ length w
   pub diffs : m ≤ length d
-  pub small : 2 * m + n < 2 ^ 32
+  pub small : 2 * m + n < 2 ^ 31
   pub tree : Tree m w
 
 -- what the words of a table stay below: numbers of nodes, numbers of slots, counts
@@ -43,16 +43,16 @@ pub record Sound (m n : ℕ) (s : Tables) : Type 0 where
   pub l-diff : m ≤ length (s .diff)
   pub within : (t : Table) (j : ℕ) → j < long t m n → Below (limit t m n) (getD (s .at t) j 0)
   pub single : (j : ℕ) → j < m → T (fits binary32 (getD (s .diff) j nan))
-  pub light : sum (s .at weight) < 2 ^ 32
-  pub spanned : sum (s .at bridged) < 2 ^ 32
+  pub light : sum (s .at weight) < 2 ^ 31
+  pub spanned : sum (s .at bridged) < 2 ^ 31
 
 -- table t with x at j
 unfoldable pub store : Table → Tables → ℕ → ℕ → Tables
 store t s j x = record { at = λ u. cond (is t u) (set (s .at u) j x) (s .at u); diff = s .diff }
 
--- the tables with this one of marks
-abbrev pub withMarks : List ℕ → Tables → Tables
-withMarks l s = record { at = λ u. cond (is mark u) l (s .at u); diff = s .diff }
+-- the tables with this one for t
+abbrev pub withTable : Table → List ℕ → Tables → Tables
+withTable t l s = record { at = λ u. cond (is t u) l (s .at u); diff = s .diff }
 
 -- the differences with x at j
 unfoldable pub diff-set : Tables → ℕ → Float → Tables

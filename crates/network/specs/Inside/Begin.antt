@@ -50,16 +50,16 @@ rawNet m n s = record { edges = map (edgeOf s) (upto m 0); regions = map (rawReg
 pub record Space (m n : ℕ) (w : List ℕ) (d : List Float) : Type 0 where
   pub words : tableWords m n ≤ length w
   pub diffs : m ≤ length d
-  pub small : 2 * m + n < 2 ^ 32
+  pub small : 2 * m + n < 2 ^ 31
 
 -- what is asked of the edges and sizes
 pub record Raw (m n : ℕ) (s : Tables) : Type 0 where
   pub first-in : (j : ℕ) → j < m → getD (s .at first) j 0 < n
   pub second-in : (j : ℕ) → j < m → getD (s .at second) j 0 < n
   pub single : (j : ℕ) → j < m → T (fits binary32 (getD (s .diff) j nan))
-  pub light : sum (s .at weight) < 2 ^ 32
-  pub spanned : sum (s .at bridged) < 2 ^ 32
-  pub gates : gatesOf (map (rawRegion s) (upto n 0)) < 2 ^ 32
+  pub light : sum (s .at weight) < 2 ^ 31
+  pub spanned : sum (s .at bridged) < 2 ^ 31
+  pub gates : gatesOf (map (rawRegion s) (upto n 0)) < 2 ^ 31
   pub simple : Simple (map (edgeOf s) (upto m 0))
 
 -- what is then known of the words

@@ -65,6 +65,20 @@ pub record Few (w : List ℕ) (n k : ℕ) : Type 0 where
   pub small : n ≤ gatesOfLargest
   pub label : (g : ℕ) → g < n → getD w g 0 ≤ k
 
+-- k regions with these labels of n gates
+abbrev pub foundIn : List ℕ → ℕ → ℕ → Found
+foundIn w n k = record { number = k; labels = seg w 0 n }
+
+-- what merging asks: labels of k regions at the front of the words, and the work memory
+pub record Merges (o : Options) (vel : List Float) (w : List ℕ) (d : List Float) (k : ℕ) : Type 0 where
+  pub sound : T (not (isNan (o .nyquist)))
+  pub few : k ≤ length vel
+  pub label : (g : ℕ) → g < length vel → getD w g 0 ≤ k
+  pub small : length vel ≤ gatesOfLargest
+  pub whole : length vel ≡ o .rays * o .gates
+  pub words : 96 * length vel + 64 ≤ length w
+  pub floats : 16 * length vel + 16 ≤ length d
+
 -- what finding asks: a plan whose limits never fall, and the work memory
 pub record Finds (o : Options) (p : Plan) (vel : List Float) (mask w : List ℕ) (d : List Float) : Type 0 where
   pub limited : Limited o p vel mask (length w)

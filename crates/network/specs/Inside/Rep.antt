@@ -41,10 +41,10 @@ pub record Rep (m n : ℕ) (gates : ℕ → ℕ) (k : ℕ) (s : Tables) (t : Sta
   pub regions : t .regions ≡ map (regionOf gates node s) (upto n 0)
   pub number : (j : ℕ) → E j .num ≡ j
   pub simple : Simple (map E (upto m 0))
-  pub light : gatesOf (map (regionOf gates node s) (upto n 0)) < 2 ^ 32
+  pub light : gatesOf (map (regionOf gates node s) (upto n 0)) < 2 ^ 31
   -- the tables
   pub sound : Sound m n s
-  pub small : 2 * m + n < 2 ^ 32
+  pub small : 2 * m + n < 2 ^ 31
   pub like : (j : ℕ) → j < m → Like (edgeNow s j) (E j)
   pub sizes : (x : ℕ) → x < n → node x ≡ x → getD (s .at size) x 0 ≡ sizeOf (map (regionOf gates node s) (upto n 0)) x
   -- the chains

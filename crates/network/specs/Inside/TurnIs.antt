@@ -8,6 +8,8 @@ use lib.Ieee.{Float}
 use lib.ListN.{getD}
 use Rattle.lists.specs.Seq.{upto}
 use Rattle.arithmetic.specs.Doubtful.{doubtful}
+use Rattle.network.specs.Book.{Entry, entry, book}
+use Rattle.network.specs.Inside.Log.{Entries, Logging, logIn}
 use Rattle.network.specs.Network.{Edge, State, Event, event, step, choose, quotient, quot, marks, marked, inRange, trace, run}
 use Rattle.memory.specs.Inside.Tree.{Tree}
 use Rattle.network.specs.declared.network.Turned.{Turned}
@@ -32,6 +34,7 @@ pub record MergeLeaves (m n : ℕ) (gates : ℕ → ℕ) (k : ℕ) (s : Tables) 
   pub rep : Rep m n gates (k + 1) (view m n w d) (step t e)
   pub tree : Tree m w
   pub marking : Marking n (event t e) s (view m n w d)
+  pub logging : Logging k (entry t e) s (view m n w d)
 
 -- what a turn leaves, by the edge chosen
 unfoldable pub TurnLeaves : ℕ → ℕ → (ℕ → ℕ) → ℕ → Tables → State → Option Edge → List ℕ → List Float → Type 0
@@ -76,23 +79,24 @@ firstOf m n s = stateOf m n (gatesIn s) (λ r. r) s
 abbrev pub Unmarked : ℕ → Tables → Type 0
 Unmarked n s = (x : ℕ) → x < n → getD (s .at mark) x 0 ≡ 0
 
--- the counts and marks in their tables at the end o of a run, vs being what its merges found and did
-pub record EndLeaves (m n : ℕ) (gates : ℕ → ℕ) (vs : List Event) (o : Done) (w : List ℕ) (d : List Float) : Type 0 where
+-- the counts, marks and log in their tables at the end o of a run, vs being what its merges found and did, and bs their entries
+pub record EndLeaves (m n : ℕ) (gates : ℕ → ℕ) (vs : List Event) (bs : List Entry) (o : Done) (w : List ℕ) (d : List Float) : Type 0 where
   pub node : ℕ → ℕ
   pub regions : o .last .regions ≡ map (regionOf gates node (view m n w d)) (upto n 0)
   pub most : (j : ℕ) → j < n → getD (view m n w d .at count) j 0 ≤ 2000
   pub marks : (j : ℕ) → j < n → getD (view m n w d .at mark) j 0 ≡ cond (marked vs j) 1 0
+  pub entries : Entries (logIn (view m n w d)) (o .merges) bs
 
 -- what the whole run leaves, by its end; nothing is said after a refusal
-unfoldable pub RunLeaves : ℕ → ℕ → (ℕ → ℕ) → List Event → Option Done → List ℕ → List Float → Type 0
-RunLeaves m n gates vs none w d = Unit {0}
-RunLeaves m n gates vs (some o) w d = EndLeaves m n gates vs o w d
+unfoldable pub RunLeaves : ℕ → ℕ → (ℕ → ℕ) → List Event → List Entry → Option Done → List ℕ → List Float → Type 0
+RunLeaves m n gates vs bs none w d = Unit {0}
+RunLeaves m n gates vs bs (some o) w d = EndLeaves m n gates vs bs o w d
 
 -- the whole run
-pub record RanIs (m n : ℕ) (gates : ℕ → ℕ) (vs : List Event) (o : Option Done) (w : List ℕ) (d : List Float) (r : Ran) : Type 0 where
+pub record RanIs (m n : ℕ) (gates : ℕ → ℕ) (vs : List Event) (bs : List Entry) (o : Option Done) (w : List ℕ) (d : List Float) (r : Ran) : Type 0 where
   pub answer : r ≡ ranOf o
-  pub leaves : RunLeaves m n gates vs o w d
+  pub leaves : RunLeaves m n gates vs bs o w d
 
 -- the whole run from the network t
 abbrev pub RunIs : ℕ → ℕ → (ℕ → ℕ) → State → List ℕ → List Float → Ran → Type 0
-RunIs m n gates t w d r = RanIs m n gates (trace t (run m t)) (settle m t 0) w d r
+RunIs m n gates t w d r = RanIs m n gates (trace t (run m t)) (book t (run m t)) (settle m t 0) w d r

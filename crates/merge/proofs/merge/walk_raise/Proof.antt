@@ -1,4 +1,5 @@
 -- `merge::merge::walk_raise` meets its contract. Assumes nothing.
+use Rattle.memory.specs.Inside.Layout.{tableWords}
 use Rattle.merge.proofs.Walks.{Raise, raise-start, raise-bounds, raise-low, raise-high, raise-turn, raise-end}
 use Rattle.merge.specs.Inside.Steps.{walkRaise}
 use Rattle.merge.specs.Inside.Tables.{view}
@@ -15,7 +16,7 @@ Inv-loop w₀ d m n v g l x₀ i₀ w x i = Raise m n g w₀ w d l x i (walkRais
 abbrev μ-loop : tie.MeasureT-loop
 μ-loop w₀ d m n v g l x₀ i₀ w x i = l - i
 
-at : (c : tie.In-loop Inv-loop μ-loop) → (8 * c .before .before .before .args .m + 8 * c .before .before .before .args .n ≤ length (c .before .loop .w)) × (c .before .loop .x < c .before .before .before .args .n) × (getD (c .before .loop .w) (8 * c .before .before .before .args .m + 6 * c .before .before .before .args .n + c .before .loop .x) 0 ≤ 2000)
+at : (c : tie.In-loop Inv-loop μ-loop) → (tableWords (c .before .before .before .args .m) (c .before .before .before .args .n) ≤ length (c .before .loop .w)) × (c .before .loop .x < c .before .before .before .args .n) × (getD (c .before .loop .w) (8 * c .before .before .before .args .m + 6 * c .before .before .before .args .n + c .before .loop .x) 0 ≤ 2000)
 at c =
     let a = c .before .before .before .args in
     let k = c .before .loop in

@@ -5,13 +5,13 @@ use mathlib.Core.Path.{ap, _∙_}
 use borrow.Author.Needs.{needs}
 use Rattle.lists.specs.Inside.Seg.{put}
 use Rattle.printout.specs.Text.{decimal}
-use Rattle.printout.proofs.DecimalLaws.{Ten, ten}
+use Rattle.printout.proofs.DecimalLaws.{Digits, digits-given}
 use Rattle.printout.proofs.count.put_decimal.Statement.{statement}
 use Rattle.printout.proofs.count.put_decimal.Tie as tie
 
 -- what `io::decimal` gave
-given : (c : tie.After-decimal) → Ten (c .before .before .before .args .n) (c .decimal .result) (c .decimal .last .1 .0)
-given c = let d = c .decimal in let s = c .before .before .before in ten (s .args .n) (d .result) (d .last .1 .0) (s .pre .1) (d .ensures .1 .0) (d .ensures .1 .1)
+given : (c : tie.After-decimal) → Digits (c .before .before .before .args .n) (c .decimal .result) (c .decimal .last .1 .0)
+given c = let d = c .decimal in digits-given (c .before .before .before .args .n) (d .result) (d .last .1 .0) (d .ensures .1 .0) (d .ensures .1 .1)
 
 decimal-requires : tie.Need-decimal-requires
 decimal-requires c κs = search needs
@@ -23,10 +23,10 @@ slice-aggregate-put-bytes : tie.Need-slice-aggregate-put-bytes
 slice-aggregate-put-bytes c = search needs
 
 put-bytes-requires : tie.Need-put-bytes-requires
-put-bytes-requires c κs = let t = given (c .before .before) in omega (arith, t .few, t .long, c .before .before .before .before .before .pre .0)
+put-bytes-requires c κs = let t = given (c .before .before) in omega (arith, t .size, t .long, c .before .before .before .before .before .pre)
 
 add-result : tie.Need-add-result
-add-result c = let t = given (c .before .before .before .before .before) in omega (arith, t .few, c .before .before .before .before .before .before .before .before .pre .0)
+add-result c = let t = given (c .before .before .before .before .before) in omega (arith, t .size, c .before .before .before .before .before .before .before .before .pre)
 
 same-length : tie.Need-same-length
 same-length c = search needs

@@ -2,8 +2,8 @@
 use Prim.Native.Nat.{_*_}
 use native.Mathlib.Omega.{arith}
 use mathlib.Core.Path.{sym}
-use Rattle.lists.proofs.PartLaws.{part}
 use borrow.Author.Needs.{needs}
+use Rattle.lists.proofs.PartLaws.{part}
 use Rattle.printout.proofs.unfold.print_sweep.Statement.{statement}
 use Rattle.printout.proofs.unfold.print_sweep.Tie as tie
 
@@ -20,10 +20,8 @@ slice-aggregate-print-counts : tie.Need-slice-aggregate-print-counts
 slice-aggregate-print-counts c = let s = c .before .before .before .before in part (s .args .rays * s .args .gates) 128 (c .before .counts .result) (c .before .counts .ensures) (s .pre .3)
 
 print-counts-requires : tie.Need-print-counts-requires
-print-counts-requires c κs =
-    let a = c .before .before in
-    let s = a .before .before .before in
-    let e = part (s .args .rays * s .args .gates) 128 (a .counts .result) (a .counts .ensures) (s .pre .3) in
+print-counts-requires c κs = let s = c .before .before .before .before .before in
+    let e = part (s .args .rays * s .args .gates) 128 (c .before .before .counts .result) (c .before .before .counts .ensures) (s .pre .3) in
     ((s .pre .0, s .pre .1, s .pre .2), (sym e, omega (arith, e, s .pre .3), s .pre .4))
 
 same-length : tie.Need-same-length

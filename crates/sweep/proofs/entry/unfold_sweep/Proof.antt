@@ -81,7 +81,7 @@ returns c =
     let u = c .before .before .before .before .before .before .before .before .before .solve in
     let s = c .before .before .before .before .before .before .before .before .before .before .before .before .before .before .before .before .before .before .before .before .before in
     let a = s .args in
-    solved-ends (a .o) (a .p) (a .velocity .now) (a .valid .now) (memoryAt s) (s .pre .0) (take (96 * length (a .velocity .now) + 64 - 0) (a .words .now))
+    solved-ends (a .o) (a .p) (a .velocity .now) (a .valid .now) (memoryAt s) (s .pre .0) _ (take (96 * length (a .velocity .now) + 64 - 0) (a .words .now))
     (take (16 * length (a .velocity .now) + 16 - 0) (a .floats .now)) (length-taken _ (a .words .now) (words-are s)) (length-taken _ (a .floats .now) (floats-are s)) _ (u .ensures) _ _
     (post-is 0 (96 * length (a .velocity .now) + 64) (a .words .now) (omega arith)) (post-is 0 (16 * length (a .velocity .now) + 16) (a .floats .now) (omega arith))
 

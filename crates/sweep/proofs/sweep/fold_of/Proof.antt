@@ -28,7 +28,7 @@ cast-result : tie.Need-cast-result
 cast-result c = search needs
 
 sub-result : tie.Need-sub-result
-sub-result c = first-fits (c .before .args .m) (c .before .args .c) (c .before .args .offset) (c .before .pre .0) (c .before .pre .1)
+sub-result c = first-fits (c .before .args .c) (c .before .pre .0)
 
 returns-2 : tie.Need-returns-2
 returns-2 c = let a = c .before .args in valid-count (a .m) (a .c) (toZ w32 (ofZ w32 (a .offset))) (c .before .pre .0) (near (c .before)) (c .if1 .left) ∙ ap (λ (z : ℤ). gateCount z (a .m) (unbias (a .c))) (same-offset (c .before))

@@ -1,0 +1,2 @@
+-- What internal contracts need.
+pub mod Entering

@@ -1,0 +1,3 @@
+pub mod Book
+pub mod Inside
+pub mod Evaluating

@@ -1,0 +1,3 @@
+// The sweep entry with a book of its merges.
+pub mod book;
+pub mod entry;
