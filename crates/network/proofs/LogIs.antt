@@ -2,11 +2,11 @@
 use mathlib.Core.Path.{_≡_, refl, sym, ap, _∙_, subst}
 use mathlib.Core.Logic.{⊎-elim}
 use mathlib.Core.List.{List, [], _∷_, _++_}
-use Prim.Native.Nat.{ℕ, zero, suc, _+_, _*_, _≤_, _<_, _^_}
+use Prim.Native.Nat.{ℕ, zero, suc, _+_, _*_, _-_, _≤_, _<_, _^_}
 use native.Mathlib.Omega.{arith}
 use lib.Ieee.{Float}
 use lib.ListN.{length, getD}
-use Rattle.lists.specs.Seq.{tabulate}
+use Rattle.lists.specs.Seq.{upto, tabulate}
 use Rattle.lists.proofs.SeqLaws.{tab-same, tab-snoc}
 use Rattle.lists.specs.Inside.Seg.{put}
 use Rattle.lists.proofs.SegLaws.{lt-or-le, getD-put-in, getD-put-below}
@@ -20,7 +20,7 @@ use Rattle.network.specs.Book.{Entry}
 use Rattle.network.specs.Inside.Log.{entryIn, logIn, Entries, Logging}
 
 -- an entry is its six words
-pub entry-same : (w u : ℕ → ℕ) (j : ℕ) → ((f : ℕ) → f < 6 → w (6 * j + f) ≡ u (6 * j + f)) → entryIn w j ≡ entryIn u j
+entry-same : (w u : ℕ → ℕ) (j : ℕ) → ((f : ℕ) → f < 6 → w (6 * j + f) ≡ u (6 * j + f)) → entryIn w j ≡ entryIn u j
 unfolding entryIn
 entry-same w u j h =
     let z : 6 * j + 0 ≡ 6 * j = omega arith in
@@ -44,7 +44,7 @@ entries-same w u k vs h E = record {
 
 -- no entry yet
 pub entries-none : (w : ℕ → ℕ) → Entries w 0 []
-entries-none w = record { are = unfold tabulate Rattle.lists.specs.Seq.upto in refl; low = λ j p. absurd (omega arith); gains = λ j p. absurd (omega arith) }
+entries-none w = record { are = unfold tabulate upto in refl; low = λ j p. absurd (omega arith); gains = λ j p. absurd (omega arith) }
 
 -- one more
 pub entries-more : (s u : Tables) (k : ℕ) (vs : List Entry) (v : Entry) → Entries (logIn s) k vs → Logging k v s u → Entries (logIn u) (k + 1) (vs ++ (v ∷ []))
@@ -59,7 +59,7 @@ entries-more s u k vs v E L = record {
 
     low-last : (j : ℕ) → 6 * k ≤ j → j < 6 * (k + 1) → logIn u j < 2 ^ 31
     low-last j q p =
-        let f : ℕ = Prim.Native.Nat._-_ j (6 * k) in
+        let f : ℕ = j - 6 * k in
         let z : 6 * k + f ≡ j = omega arith in
         omega (arith, L .low f (omega arith), ap (logIn u) z)
 
