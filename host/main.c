@@ -1,5 +1,5 @@
-/* Unfolds a sweep from a file, finds its regions, and draws the wind before and after, what of it is doubtful, and the regions as a PPM
- * picture.
+/* Finds a sweep's fold counts and regions from a file, unfolds its wind by them, and draws the wind before and after, what of it is doubtful,
+ * and the regions as a PPM picture.
  *
  * usage: host SWEEP PICTURE. The form of a sweep file stands at jivakkol_read_sweep in jivakkol.h. Speeds are printed in m/s. */
 #include "jivakkol.h"
@@ -80,41 +80,60 @@ typedef struct {
     size_t words_len, floats_len;
 } work_memory;
 
-/* Unfolds the wind; `doubtful` gets the gates' marks and `regions` the number of regions. Answers 0 where the library refused. */
-static int unfold(const sweep *s, work_memory work, double *unfolded, uint8_t *doubtful, uint32_t *regions)
+/* What the calls find of a sweep. */
+typedef struct {
+    int32_t *folds;
+    uint8_t *doubtful;
+    uint32_t *labels, regions;
+    double *unfolded;
+} findings;
+
+/* Finds each gate's fold count and mark, and the number of regions. Answers 0 where the library refused. */
+static int find_folds(const sweep *s, work_memory work, findings *f)
 {
     size_t n = (size_t)s->rays * s->gates;
-    int32_t *folds = lent(n, sizeof *folds);
     uint32_t pair[2] = {0, 0};
     uint32_t answer = jivakkol_dealias_sweep(s->rays, s->gates, s->nyquist, s->splits, s->skip_rays, s->skip_gates, s->centered, s->wrap,
-                                             s->velocity, n, s->valid, n, folds, n, doubtful, n, pair, 2, work.words,
+                                             s->velocity, n, s->valid, n, f->folds, n, f->doubtful, n, pair, 2, work.words,
                                              work.words_len, work.floats, work.floats_len);
-    if (answer != 0) {
-        free(folds);
+    if (answer != 0)
         return refused("the sweep", answer);
-    }
     printf("answer %u, regions %u, merges %u\n", answer, pair[0], pair[1]);
-    answer = jivakkol_unfold_velocity(s->rays, s->gates, s->nyquist, s->velocity, n, s->valid, n, folds, n, unfolded, n);
-    free(folds);
-    *regions = pair[0];
-    return answer == 0 || refused("unfolding", answer);
+    f->regions = pair[0];
+    return 1;
 }
 
-/* Labels each gate with its region. Answers 0 where the library refused, or found other than the `expected` number of regions. */
-static int map_regions(const sweep *s, work_memory work, uint32_t expected, uint32_t *labels)
+/* Labels each gate with its region. Answers 0 where the library refused, or found another number of regions than the fold counts have. */
+static int map_regions(const sweep *s, work_memory work, findings *f)
 {
     size_t n = (size_t)s->rays * s->gates;
     uint32_t regions = 0;
     uint32_t answer = jivakkol_region_map(s->rays, s->gates, s->nyquist, s->splits, s->skip_rays, s->skip_gates, s->centered, s->wrap,
-                                          s->velocity, n, s->valid, n, labels, n, &regions, 1, work.words, work.words_len,
+                                          s->velocity, n, s->valid, n, f->labels, n, &regions, 1, work.words, work.words_len,
                                           work.floats, work.floats_len);
     if (answer != 0)
         return refused("the region map", answer);
-    if (regions != expected) {
-        fprintf(stderr, "host: the region map has %u regions, the unfolding had %u\n", regions, expected);
+    if (regions != f->regions) {
+        fprintf(stderr, "host: the region map has %u regions, the fold counts have %u\n", regions, f->regions);
         return 0;
     }
-    printf("region map: regions %u, as in the unfolding\n", regions);
+    printf("region map: regions %u, as for the fold counts\n", regions);
+    return 1;
+}
+
+/* Unfolds the wind by fold counts and labels. Answers 0 where the library refused. */
+static int unfold(const sweep *s, findings *f)
+{
+    size_t n = (size_t)s->rays * s->gates, shown = 0, valid = 0;
+    uint32_t answer = jivakkol_unfold_velocity(s->rays, s->gates, s->nyquist, s->velocity, n, s->valid, n, f->folds, n, f->labels, n,
+                                               f->unfolded, n);
+    if (answer != 0)
+        return refused("unfolding", answer);
+    for (size_t g = 0; g < n; g++) {
+        valid += s->valid[g];
+        shown += s->valid[g] && f->labels[g];
+    }
+    printf("gates with a wind: %zu of %zu valid\n", shown, valid);
     return 1;
 }
 
@@ -139,16 +158,16 @@ static double fastest(const sweep *s, const double *speed)
 }
 
 /* Prints the doubtful gates and the fastest winds and draws the picture. Answers 0 where it cannot be written. */
-static int draw(const sweep *s, const double *unfolded, const uint8_t *doubtful, const uint32_t *labels, uint32_t regions, const char *path)
+static int draw(const sweep *s, const findings *f, const char *path)
 {
     size_t n = (size_t)s->rays * s->gates;
     double *measured = lent(n, sizeof *measured);
     for (size_t g = 0; g < n; g++)
         measured[g] = s->velocity[g];
-    print_doubtful(s, doubtful);
-    double before = fastest(s, measured), after = fastest(s, unfolded);
+    print_doubtful(s, f->doubtful);
+    double before = fastest(s, measured), after = fastest(s, f->unfolded);
     printf("fastest wind towards or from the radar: measured %.2f m/s, unfolded %.2f m/s\n", before, after);
-    sweep_view view = {s->rays, s->gates, regions, s->valid, measured, unfolded, doubtful, labels, fmax(before, after)};
+    sweep_view view = {s->rays, s->gates, f->regions, s->valid, measured, f->unfolded, f->doubtful, f->labels, fmax(before, after)};
     int written = write_picture(path, &view);
     if (!written)
         fprintf(stderr, "host: %s cannot be written\n", path);
@@ -179,16 +198,14 @@ int main(int count, char **word)
     size_t n = (size_t)s.rays * s.gates;
     work_memory work = {lent(JIVAKKOL_WORK_WORDS(n), sizeof(uint32_t)), lent(JIVAKKOL_WORK_FLOATS(n), sizeof(double)),
                         JIVAKKOL_WORK_WORDS(n), JIVAKKOL_WORK_FLOATS(n)};
-    double *unfolded = lent(n, sizeof *unfolded);
-    uint8_t *doubtful = lent(n, 1);
-    uint32_t regions = 0, *labels = lent(n, sizeof *labels);
-    int done = unfold(&s, work, unfolded, doubtful, &regions) && map_regions(&s, work, regions, labels)
-               && draw(&s, unfolded, doubtful, labels, regions, word[2]);
+    findings f = {lent(n, sizeof *f.folds), lent(n, 1), lent(n, sizeof *f.labels), 0, lent(n, sizeof *f.unfolded)};
+    int done = find_folds(&s, work, &f) && map_regions(&s, work, &f) && unfold(&s, &f) && draw(&s, &f, word[2]);
     free(work.words);
     free(work.floats);
-    free(unfolded);
-    free(doubtful);
-    free(labels);
+    free(f.folds);
+    free(f.doubtful);
+    free(f.labels);
+    free(f.unfolded);
     free(s.velocity);
     free(s.valid);
     return done ? 0 : 1;

@@ -1,4 +1,5 @@
-/* Draws a sweep as three discs: the wind as measured, the wind unfolded, hatched where its fold is doubtful, and the regions. */
+/* Draws a sweep as three discs: the wind as measured, the wind unfolded, hatched where its fold is doubtful, and the regions. A valid gate in no
+ * region is grey on the last two. */
 #ifndef HOST_PICTURE_H
 #define HOST_PICTURE_H
 

@@ -88,14 +88,16 @@ uint32_t jivakkol_region_map(
     uint32_t *labels, size_t labels_len, uint32_t *regions, size_t regions_len,
     uint32_t *work, size_t work_len, double *work_f64, size_t work_f64_len);
 
-/* velocity + folds * 2 * nyquist at each valid gate, 0 at a masked one.
+/* The wind over each gate: velocity + folds * 2 * nyquist at a valid gate that lies in a region, and 0 at any other.
  *
- * Answers 0, or 1, 2 (four slices of rays * gates), 3, 5, 7 as above, or 10 where a valid gate's count is not -2,000 to 2,000;
- * a refusal leaves unfolded unchanged. */
+ * labels are the sweep's, from jivakkol_region_map: a valid gate of label 0 lies in no region; it shows no wind, whatever its count.
+ * Any label but 0 counts as a region. All five slices have rays * gates elements.
+ * Answers 0, or 1, 2 (these five slices), 3, 5, 7 (of every valid gate) as above, or 10 where a valid gate that lies in a region has a count
+ * not -2,000 to 2,000; a refusal leaves unfolded unchanged. Folds and labels that the two entries left for one sweep are never refused. */
 uint32_t jivakkol_unfold_velocity(
     uint32_t rays, uint32_t gates, float nyquist,
     const float *velocity, size_t velocity_len, const uint8_t *valid, size_t valid_len,
-    const int32_t *folds, size_t folds_len, double *unfolded, size_t unfolded_len);
+    const int32_t *folds, size_t folds_len, const uint32_t *labels, size_t labels_len, double *unfolded, size_t unfolded_len);
 
 /* The sweep of a file: velocity_bits gets the bits of each gate's velocity, valid its mask byte, and header eight numbers: rays, gates,
  * Nyquist's bits, interval_splits, skip_between_rays, skip_along_ray, centered, rays_wrap_around.

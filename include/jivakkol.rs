@@ -20,7 +20,7 @@ extern "C" {
     ) -> u32;
     pub fn jivakkol_unfold_velocity(
         rays: u32, gates: u32, nyquist: f32, velocity: *const f32, velocity_len: usize, valid: *const u8, valid_len: usize,
-        folds: *const i32, folds_len: usize, unfolded: *mut f64, unfolded_len: usize,
+        folds: *const i32, folds_len: usize, labels: *const u32, labels_len: usize, unfolded: *mut f64, unfolded_len: usize,
     ) -> u32;
     pub fn jivakkol_read_sweep(
         file: *const u8, file_len: usize, velocity_bits: *mut u32, velocity_len: usize, valid: *mut u8, valid_len: usize,

@@ -1,6 +1,6 @@
 //! Feeds the same made sweeps to the proved entries (the static library) and to the Rust, in one process, and compares every result: answer
 //! number, counts, marks, pair, labels, number of regions, and every word of lent memory that must or must not change. Sweep files: files.rs.
-//! Edge records, from the stages of a call: records.rs. Merges at and beside a near tie: marks.rs. The merge book: books.rs.
+//! Edge records, from the stages of a call: records.rs. Merges at and beside a near tie: marks.rs. The merge book: books.rs. The second entry: velocity.rs.
 extern crate radish_oracle;
 use radish_oracle::make::{sized, small, weather, Rng};
 use radish_oracle::Sweep;
@@ -8,11 +8,12 @@ use std::collections::BTreeMap;
 
 #[path = "../../include/jivakkol.rs"]
 mod jivakkol;
-use jivakkol::{jivakkol_dealias_sweep, jivakkol_region_map, jivakkol_unfold_velocity};
+use jivakkol::{jivakkol_dealias_sweep, jivakkol_region_map};
 mod books;
 mod files;
 mod marks;
 mod records;
+mod velocity;
 
 /// What a call is lent; filled with values that a call must not leave where it clears, and must leave where it does not.
 #[derive(Clone)]
@@ -113,12 +114,15 @@ fn compare_map(s: &Sweep, l: &mut Lent, expected: u32) -> Result<u32, String> {
 }
 
 /// Both calls on a sweep that is lent as much as it asks for: the answer of the sweep entry and that of the map. Where the sweep is
-/// accepted, the map's number of regions must be the pair's first.
+/// accepted, the map's number of regions must be the pair's first, and the second entry must take the counts and labels that they left.
 fn compare_both(s: &Sweep, l: &mut Lent, expected: u32) -> Result<(u32, u32), String> {
     let number = compare(s, l, expected)?;
     let mapped = compare_map(s, l, s.refused_before_merging())?;
     if number == 0 && l.regions[0] != l.pair[0] {
         return Err("the map's number of regions is not the pair's".into());
+    }
+    if number == 0 {
+        velocity::compare_left(s, &l.folds, &l.labels)?;
     }
     Ok((number, mapped))
 }
@@ -128,7 +132,8 @@ fn compare_all(r: &mut Rng, s: &Sweep) -> Result<(u32, u32), String> {
     let mut l = lent(r, s.rays * s.gates);
     let answers = compare_both(s, &mut l, s.answer().number)?;
     let folds: Vec<i32> = l.folds.iter().map(|_| if r.below(50) == 0 { r.next() as i32 } else { r.below(4001) as i32 - 2000 }).collect();
-    velocity(r, s, &folds)?;
+    let mut unfolded: Vec<f64> = folds.iter().map(|_| f64::from_bits(r.next())).collect();
+    velocity::compare(s, &folds, &l.labels, &mut unfolded)?;
     Ok(answers)
 }
 
@@ -162,42 +167,6 @@ fn off(r: &mut Rng, s: &mut Sweep, l: &mut Lent) -> [u32; 2] {
         8 if !l.doubtful.is_empty() => { l.doubtful.pop(); [early(2), first] }
         _ => { l.doubtful.push(0); [early(2), first] }
     }
-}
-
-fn velocity(r: &mut Rng, s: &Sweep, folds: &[i32]) -> Result<(), String> {
-    let mut out: Vec<f64> = (0..folds.len()).map(|_| f64::from_bits(r.next())).collect();
-    let before = bits(&out);
-    let q = s.refused_before_merging();
-    let mut expected = if [1, 2, 3, 5, 7].contains(&q) { q } else { 0 };
-    if q == 6 || q == 8 {
-        let ok = s.velocities.iter().zip(&s.mask).all(|(v, m)| *m != 1 || (*v >= -16384.0 && *v <= 16384.0));
-        expected = if ok { 0 } else { 7 };
-    }
-    if expected == 0 && s.mask.iter().zip(folds).any(|(m, f)| *m == 1 && (*f < -2000 || *f > 2000)) {
-        expected = 10;
-    }
-    let number = unsafe {
-        jivakkol_unfold_velocity(
-            s.rays as u32, s.gates as u32, s.nyquist, s.velocities.as_ptr(), s.velocities.len(), s.mask.as_ptr(), s.mask.len(),
-            folds.as_ptr(), folds.len(), out.as_mut_ptr(), out.len(),
-        )
-    };
-    if number != expected {
-        return Err(format!("velocity: answer {number}, expected {expected}"));
-    }
-    for g in 0..folds.len() {
-        let want = if number != 0 {
-            before[g]
-        } else if s.mask[g] == 1 {
-            (s.velocities[g] as f64 + folds[g] as f64 * (2.0 * s.nyquist as f64)).to_bits()
-        } else {
-            0
-        };
-        if out[g].to_bits() != want {
-            return Err(format!("velocity at gate {g}"));
-        }
-    }
-    Ok(())
 }
 
 /// An uncentred sweep with no gap between its gates' looks (skips 0).
@@ -385,6 +354,7 @@ fn main() {
         offs.iter_mut().zip(expected).for_each(|(seen, k)| seen[k as usize] += 1);
     }
     println!("sizes or lengths off: {}, by answer {:?}, of the region map {:?}", count / 10, offs[0], offs[1]);
+    velocity::run(count);
     marks::run(15 * count);
     files::run(count);
     records::run(count / 2);

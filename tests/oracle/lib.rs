@@ -212,23 +212,20 @@ impl Sweep {
         self.records(labels).into_iter().filter(|r| r.0 > r.1).map(with_bridged).collect()
     }
 
-    /// The second entry: questions 1, 2, 3, 5, 7 and 10, and where all get a yes velocity + count * 2 * Nyquist in f64, 0 at a masked gate.
-    pub fn unfold(&self, counts: &[i32]) -> (u32, Vec<f64>) {
-        let in_range = || counts.iter().zip(&self.mask).all(|(c, m)| *m != 1 || (-2000..=2000).contains(c));
-        let questions = [
-            (1, self.yes_1()),
-            (2, self.yes_2(counts.len() == self.rays * self.gates)),
-            (3, self.yes_3()),
-            (5, self.yes_5()),
-            (7, self.yes_7()),
-            (10, in_range()),
-        ];
+    /// The second entry, which is lent so many velocities to write: questions 1, 2, 3, 5, 7 and 10, and where all get a yes velocity + count * 2 * Nyquist
+    /// in f64 at a gate that shows a wind, 0 at any other. A gate shows one that is valid and has a label; of its count alone question 10 asks.
+    pub fn unfold(&self, counts: &[i32], labels: &[u32], lent: usize) -> (u32, Vec<f64>) {
+        let n = self.rays * self.gates;
+        let fits = self.yes_2([counts.len(), labels.len(), lent] == [n; 3]);
+        let shows = |g: usize| self.mask[g] == 1 && labels[g] != 0;
+        let in_range = || (0..n).all(|g| !shows(g) || (-2000..=2000).contains(&counts[g]));
+        let questions =
+            [(1, self.yes_1()), (2, fits), (3, self.yes_3()), (5, self.yes_5()), (7, self.yes_7()), (10, fits && in_range())];
         if let Some((number, _)) = questions.iter().find(|(_, yes)| !yes) {
             return (*number, Vec::new());
         }
-        let gates = self.velocities.iter().zip(&self.mask).zip(counts);
-        let unfolded = |v: f32, m: u8, c: i32| if m == 1 { v as f64 + c as f64 * (2.0 * self.nyquist as f64) } else { 0.0 };
-        (0, gates.map(|((&v, &m), &c)| unfolded(v, m, c)).collect())
+        let wind = |g: usize| self.velocities[g] as f64 + counts[g] as f64 * (2.0 * self.nyquist as f64);
+        (0, (0..n).map(|g| if shows(g) { wind(g) } else { 0.0 }).collect())
     }
 
     /// The merges one by one, with question 9 put to each. Stops at the first merge that fails it. The difference of a merge, after the division,
@@ -413,8 +410,8 @@ impl Call {
 
     /// The line of the sweep entry: the number, where it is 0 regions, merges, counts and, if there are gates, their marks in one word; and
     /// whether the work memory asked for is cleared. The line of the region map, which is lent labels as the sweep entry counts: likewise, with
-    /// regions and labels. Where the first number is 0, the line of the second entry: the number, and where that is 0 the bits of each unfolded
-    /// velocity.
+    /// regions and labels. Where the first number is 0, the line of the second entry with these labels: the number, and where that is 0 the bits of
+    /// each unfolded velocity.
     pub fn lines(&self) -> Vec<String> {
         let a = self.sweep.answer_lent(Some(self.lent));
         let left = |cleared: bool| if cleared { "cleared" } else { "kept" };
@@ -433,7 +430,7 @@ impl Call {
             return vec![first.join(" "), mapped];
         }
         let counts: Vec<i32> = a.counts.iter().map(|c| c + self.more).collect();
-        let (number, unfolded) = self.sweep.unfold(&counts);
+        let (number, unfolded) = self.sweep.unfold(&counts, &self.sweep.region_map().0, counts.len());
         let mut second = vec![number.to_string()];
         second.extend(unfolded.iter().map(|x| format!("{:016x}", x.to_bits())));
         vec![first.join(" "), mapped, second.join(" ")]

@@ -97,9 +97,10 @@ def difference(library, sweep, expected):
         return f"{np.count_nonzero(counts != expected.counts)} counts"
     if not np.array_equal(doubtful, expected.doubtful):
         return f"{np.count_nonzero(doubtful != expected.doubtful)} marks"
-    number, unfolded = library.unfold(sweep, counts)
-    if number != 0 or unfolded.tobytes() != unfold(sweep, counts).tobytes():
-        return "unfolded velocities"
+    # Each with its own labels.
+    number, unfolded = library.unfold(sweep, counts, library.map(sweep)[1])
+    if number != 0 or unfolded.tobytes() != unfold(sweep, counts, expected.labels).tobytes():
+        return f"unfolded velocities, answer {number}"
     return None
 
 
@@ -135,6 +136,7 @@ def main(path, stages, count):
     families, regions, merges = dict.fromkeys([*FAMILIES, "tipping sums"], 0), 0, 0
     did = ["two regions or more", "a count other than 0", "an offset other than 0", "a mark"]
     seen, marked = dict.fromkeys(["accepted", "refused by 8", "refused by 9", *did], 0), 0
+    unfolded = dict.fromkeys(["shown", "masked", "valid in no region", "sweeps with one of these"], 0)
     for seed in range(count):
         name, sweep = make(seed)
         with np.errstate(invalid="ignore"):  # masked gates hold NaN and infinities
@@ -152,10 +154,15 @@ def main(path, stages, count):
             seen["an offset other than 0"] += expected.offset != 0
             seen["a mark"] += bool(expected.doubtful.any())
             marked += int(np.count_nonzero(expected.doubtful))
+            in_none = int(np.count_nonzero(sweep.valid & (expected.labels == 0)))
+            masked = int(np.count_nonzero(~sweep.valid))
+            for what, more in zip(unfolded, (sweep.valid.size - masked - in_none, masked, in_none, in_none > 0)):
+                unfolded[what] += more
         if name == "tipping sums":
             tipped += not np.array_equal(expected.counts, dealias(sweep, Way(summed=np.add.reduceat)).counts)
     print("made:", ", ".join(f"{name} {number}" for name, number in families.items()))
     print("of them:", ", ".join(f"{name} {number}" for name, number in seen.items()))
+    print("gates of the unfolded velocities:", ", ".join(f"{name} {number}" for name, number in unfolded.items()))
     print("limits and region maps compared:", ", ".join(f"{name} {number}" for name, number in mapped.items()))
     print(f"regions {regions}, merges {merges}, gates marked {marked}; tipping sums that get other counts by add.reduceat {tipped}")
     print(f"{count} sweeps, {differ} differ")

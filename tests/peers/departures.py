@@ -13,7 +13,7 @@ import scipy
 
 from compare import line
 from library import Library
-from method import Sweep, Way, dealias, in_turn
+from method import Sweep, Way, dealias, in_turn, unfold
 
 BEFORE_2 = Way(compared=np.float32, summed=np.add.reduceat, product_rounded=False)
 SINCE_2 = Way(ranged=np.float32, summed=np.add.reduceat, divided=np.float32, product_rounded=False)
@@ -106,8 +106,15 @@ def checks(library, oracle):
     masked = plain(9, 9, -9, -9, 9, 9)._replace(valid=np.array([[1, 1, 1, 1, 1, 0]], bool), centred=1)
     yield "a masked gate, method.py: offset", dealias(masked).offset, -1
     yield "a masked gate, the library", short(library.dealias(masked)[1]), [0, 0, 1, 1, 0, 0]
+    # The last gate is at Nyquist, where the last interval ends: it gets a count, and shows no wind.
+    last = plain(9, 9, -9, -9, 9, 10)._replace(centred=1)
+    number, counts, *_ = library.dealias(last)
+    yield "a valid gate in no region, the library: its count", (number, short(counts)), (0, [0, 0, 1, 1, 0, 1])
+    yield "a valid gate in no region, the library: unfolded", short(library.unfold(last, counts, library.map(last)[1])[1]), [9, 9, 11, 11, 9, 0]
+    yield "a valid gate in no region, method.py: unfolded", short(unfold(last, counts, dealias(last).labels)), [9, 9, 11, 11, 9, 0]
     tenth = np.float32(0.1)
-    yield "unfolded 0.1 by one fold at Nyquist 10, the library", library.unfold(plain(tenth), np.array([1]))[1].item(), 20.100000001490116
+    unfolded = library.unfold(plain(tenth), np.array([1]), library.map(plain(tenth))[1])[1]
+    yield "unfolded 0.1 by one fold at Nyquist 10, the library", unfolded.item(), 20.100000001490116
     yield "unfolded 0.1 by one fold at Nyquist 10, in f32", (tenth + np.float32(1) * np.float32(2) * np.float32(10)).item(), 20.100000381469727
 
 

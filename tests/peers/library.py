@@ -19,7 +19,7 @@ class Library:
         self.unfold_velocity = shared.jivakkol_unfold_velocity
         sweep = [NUMBER] * 2 + [REAL] + [NUMBER] * 5
         self.dealias_sweep.argtypes, self.region_map.argtypes = sweep + [POINTER, LENGTH] * 7, sweep + [POINTER, LENGTH] * 6
-        self.unfold_velocity.argtypes = [NUMBER] * 2 + [REAL] + [POINTER, LENGTH] * 4
+        self.unfold_velocity.argtypes = [NUMBER] * 2 + [REAL] + [POINTER, LENGTH] * 5
         self.dealias_sweep.restype = self.region_map.restype = self.unfold_velocity.restype = NUMBER
 
     def on_sweep(self, entry, sweep, *written):
@@ -42,11 +42,12 @@ class Library:
         number = self.on_sweep(self.region_map, sweep, labels, regions)
         return number, labels, int(regions[0])
 
-    def unfold(self, sweep, counts):
-        """The answer's number and the unfolded velocities as rays x gates."""
+    def unfold(self, sweep, counts, labels):
+        """The answer's number and the unfolded velocities as rays x gates; where they were not written, 7."""
         velocity, valid = flat(sweep)
-        folds, unfolded = np.ascontiguousarray(counts.ravel(), np.int32), np.zeros(velocity.size, np.float64)
-        number = self.unfold_velocity(*sweep.velocity.shape, sweep.nyquist, *slices(velocity, valid, folds, unfolded))
+        folds, regions = np.ascontiguousarray(counts.ravel(), np.int32), np.ascontiguousarray(labels.ravel(), np.uint32)
+        unfolded = np.full(velocity.size, 7.0)
+        number = self.unfold_velocity(*sweep.velocity.shape, sweep.nyquist, *slices(velocity, valid, folds, regions, unfolded))
         return number, unfolded.reshape(sweep.velocity.shape)
 
 

@@ -30,6 +30,7 @@ class Answer(NamedTuple):
     number: int
     counts: np.ndarray = None
     doubtful: np.ndarray = None
+    labels: np.ndarray = None
     regions: int = 0
     merges: int = 0
     offset: int = 0
@@ -167,7 +168,7 @@ def dealias(sweep, way=Way()):
     labels, regions = label(sweep, limits, way)
     edges = edges_of(sweep, labels, way) if regions > 1 else None
     if edges is None:
-        return Answer(0, np.zeros(labels.shape, np.int64), np.zeros(labels.shape, np.uint8), regions)
+        return Answer(0, np.zeros(labels.shape, np.int64), np.zeros(labels.shape, np.uint8), labels, regions)
     sizes = np.bincount(labels.ravel(), minlength=regions + 1)
     sizes[0] = 0
     merged = merge_all(edges, sizes, way)
@@ -175,9 +176,9 @@ def dealias(sweep, way=Way()):
         return Answer(9)
     counts, doubtful, merges = merged
     offset = round(int(sizes @ counts) / int(sizes.sum())) if sweep.centred else 0
-    return Answer(0, np.where(sweep.valid, counts[labels] - offset, 0), doubtful[labels], regions, merges, offset)
+    return Answer(0, np.where(sweep.valid, counts[labels] - offset, 0), doubtful[labels], labels, regions, merges, offset)
 
 
-def unfold(sweep, counts):
-    """The second entry: velocity + count x 2 x Nyquist in f64, 0 at a masked gate."""
-    return np.where(sweep.valid, sweep.velocity.astype(np.float64) + counts * (2.0 * sweep.nyquist), 0.0)
+def unfold(sweep, counts, labels):
+    """The second entry: velocity + count x 2 x Nyquist in f64, 0 at a masked gate and at a valid one in no region."""
+    return np.where(sweep.valid & (labels != 0), sweep.velocity.astype(np.float64) + counts * (2.0 * sweep.nyquist), 0.0)

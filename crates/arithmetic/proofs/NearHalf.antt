@@ -82,7 +82,7 @@ of-near A (suc b) c h = go (ltb A (suc b)) (ltb→lt A (suc b)) (nltb→le A (su
     go true p q h = let l : A < suc b = p tt in (omega arith, omega arith)
     go false p q h = let l : suc b ≤ A = q tt in (omega arith, omega arith)
 
-abs-neg : (z : ℤ) → natAbs (negℤ z) ≡ natAbs z
+pub abs-neg : (z : ℤ) → natAbs (negℤ z) ≡ natAbs z
 abs-neg (pos zero) = refl
 abs-neg (pos (suc n)) = refl
 abs-neg (negsuc n) = refl

@@ -132,7 +132,7 @@ pub extern "C" fn jivakkol_region_map(
     map::map::region_map(o, velocity, valid, labels, regions, work, work_f64)
 }
 
-// Unfolded velocities from fold counts.
+// Unfolded velocities from fold counts and labels.
 #[no_mangle]
 pub extern "C" fn jivakkol_unfold_velocity(
     rays: u32,
@@ -141,14 +141,24 @@ pub extern "C" fn jivakkol_unfold_velocity(
     velocity: &[f32],
     valid: &[u8],
     folds: &[i32],
+    labels: &[u32],
     unfolded: &mut [f64],
 ) -> u32
     ensures { λ r. ⌜ (
-        let u = counted rays gates nyquist (now (velocity .entry)) (now (valid .entry)) (now (folds .entry)) in
+        let u = counted rays gates nyquist (now (velocity .entry)) (now (valid .entry)) (now (folds .entry)) (now (labels .entry)) in
         velocityAnswerBy r (now (unfolded .exit)) ≡ callVelocity u (now (unfolded .entry))
         ) ⌝ }
 {
-    sweep::velocity::unfold_velocity(rays, gates, nyquist, velocity, valid, folds, unfolded)
+    sweep::velocity::unfold_velocity(
+        rays,
+        gates,
+        nyquist,
+        velocity,
+        valid,
+        folds,
+        labels,
+        unfolded,
+    )
 }
 
 // Reads a sweep file: the velocities' bits and the mask of its gates, and the header's eight numbers.

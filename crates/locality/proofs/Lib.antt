@@ -26,3 +26,6 @@ pub mod MapPaths
 pub mod MapTheorems
 pub mod SizeTheorems
 pub mod BookTheorems
+pub mod MeanRange
+pub mod CountRange
+pub mod WindTheorems

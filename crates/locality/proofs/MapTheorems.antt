@@ -65,6 +65,11 @@ module _ (s : Sweep) (m : MapMemory) (a : MapAnswer) (c : Mapped s m a) (h : a .
   unfolding askedMap
   known = passed s (mapLent (gatesIn s) m) (seven-of-eight s (mapLent (gatesIn s) m) passes)
 
+  -- a label for each gate, whatever the floats
+  pub labels-left : length (a .memory .labels) ≡ gatesIn s
+  unfolding drawn regionsOf gatesIn
+  labels-left = ap (λ (x : MapAnswer). length (x .memory .labels)) draws ∙ labels-long (s .shape .gates) (s .vel) (s .mask) (ownLimits s) ∙ known .mask
+
   rises : Single s → Rising (ownLimits s)
   unfolding ownLimits limitsFew askedMap seven
   rises f = sweep-limits-rise (s .nyquist) (s .splits) (s .vel) (s .mask) (f .nyquist) (f .velocities) (known .asked) (known .velocityInRange)

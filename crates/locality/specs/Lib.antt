@@ -2,3 +2,4 @@ pub mod Demand3
 pub mod Theorems
 pub mod RegionMap
 pub mod BookEntry
+pub mod Wind

@@ -13,8 +13,14 @@ ghost use Prim.Native.Nat.{_-_, _≤_};
 ghost use lib.ListN.{length};
 ghost use Rattle.replay.specs.Record.{held};
 
-// Calls the second entry with a sweep and its counts, each with the recorded number added, and writes its answer.
-fn call_velocity(s: gates::Setting, velocity: &[f32], valid: &[u8], counts: &mut [i32])
+// Calls the second entry with a sweep, its counts, each with the recorded number added, and its labels, and writes its answer.
+fn call_velocity(
+    s: gates::Setting,
+    velocity: &[f32],
+    valid: &[u8],
+    counts: &mut [i32],
+    labels: &[u32],
+)
     requires { ⌜ length (now velocity) ≤ 128 ⌝ }
 {
     raise::raise(counts, s.more);
@@ -27,6 +33,7 @@ fn call_velocity(s: gates::Setting, velocity: &[f32], valid: &[u8], counts: &mut
         velocity,
         valid,
         counts,
+        labels,
         &mut unfolded[..n],
     );
     lines::write_velocities(number, &unfolded[..n]);
@@ -75,33 +82,24 @@ fn one_less(k: u32) -> usize
     (k - 1) as usize
 }
 
-// Lends as many labels as the record has counts, and for the number of regions one word less than it has for the pair.
+// Lends for the number of regions one word less than the record has for the pair.
 fn call_map(
     s: gates::Setting,
     velocity: &[f32],
     valid: &[u8],
+    labels: &mut [u32],
     words: &mut [u32],
     floats: &mut [f64],
 )
     requires { ⌜ (length (now velocity) ≤ 128) × (held s ≡ true) ⌝ }
 {
-    let c = s.counts as usize;
     let r = one_less(s.pair);
-    let mut labels = arrays::labels();
     let mut regions = arrays::regions();
-    put_map(
-        s,
-        velocity,
-        valid,
-        &mut labels[..c],
-        &mut regions[..r],
-        words,
-        floats,
-    );
+    put_map(s, velocity, valid, labels, &mut regions[..r], words, floats);
 }
 
 // Calls the sweep entry with a sweep and memory that holds the pattern, and writes its answer; then the region map, with the work memory as it
-// was left, and where the answer is 0 the second entry.
+// was left, and where the answer is 0 the second entry, with what the two wrote.
 fn call_sweep(
     s: gates::Setting,
     velocity: &[f32],
@@ -109,6 +107,7 @@ fn call_sweep(
     counts: &mut [i32],
     doubtful: &mut [u8],
     pair: &mut [u32],
+    labels: &mut [u32],
     words: &mut [u32],
     floats: &mut [f64],
 )
@@ -134,13 +133,13 @@ fn call_sweep(
     let kept = left::folds_kept(counts, doubtful, pair);
     let left = left::left_by(number, velocity.len(), kept, words, floats);
     lines::write_answer(number, pair, counts, doubtful, left);
-    call_map(s, velocity, valid, words, floats);
+    call_map(s, velocity, valid, labels, words, floats);
     if number == 0 {
-        call_velocity(s, velocity, valid, counts);
+        call_velocity(s, velocity, valid, counts, labels);
     }
 }
 
-// Lends memory as long as the record says.
+// Lends memory as long as the record says, and as many labels as counts.
 fn answer(s: gates::Setting, velocity: &[f32], valid: &[u8])
     requires { ⌜ (length (now velocity) ≤ 128) × (held s ≡ true) ⌝ }
 {
@@ -152,6 +151,7 @@ fn answer(s: gates::Setting, velocity: &[f32], valid: &[u8])
     let mut counts = arrays::counts();
     let mut doubtful = arrays::marks();
     let mut pair = arrays::pair();
+    let mut labels = arrays::labels();
     let mut words = arrays::words();
     let mut floats = arrays::floats();
     call_sweep(
@@ -161,6 +161,7 @@ fn answer(s: gates::Setting, velocity: &[f32], valid: &[u8])
         &mut counts[..c],
         &mut doubtful[..b],
         &mut pair[..p],
+        &mut labels[..c],
         &mut words[..w],
         &mut floats[..d],
     );

@@ -4,6 +4,7 @@ pub mod MeanLaws
 pub mod FinishLaws
 pub mod MergeLaws
 pub mod FillLaws
+pub mod GateLaws
 pub mod VelocityLaws
 pub mod QuestionLaws
 pub mod PassedLaws

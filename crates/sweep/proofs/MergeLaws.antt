@@ -49,7 +49,7 @@ unfolding gatesFrom sumFrom
 sizes-sum-up L i zero = refl
 sizes-sum-up L i (suc k) = ap (λ (x : ℕ). sizeIn L i + x) (sizes-sum-up L (suc i) k)
 
-sizes-few : (L : List ℕ) (i k : ℕ) → sumFrom (sizeIn L) i k ≤ length L
+pub sizes-few : (L : List ℕ) (i k : ℕ) → sumFrom (sizeIn L) i k ≤ length L
 sizes-few L i k = omega (arith, gates-most L i k, sizes-sum-up L i k)
 
 -- a mark is 0 or 1

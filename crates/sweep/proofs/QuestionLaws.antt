@@ -117,7 +117,7 @@ module _ (l : List ℕ) (i : ℕ) where
 -- ---- velocities at valid gates, from gate i on
 
 module _ (vs : List Float) (ms : List ℕ) (i : ℕ) (same : length ms ≡ length vs) where
-  speed-turn : i < length vs → velocitiesInRange (drop i vs) (drop i ms) ≡ cond (eqb (getD ms i 0) 1) (velocityInRange (getD vs i nan) && velocitiesInRange (drop (i + 1) vs) (drop (i + 1) ms)) (velocitiesInRange (drop (i + 1) vs) (drop (i + 1) ms))
+  pub speed-turn : i < length vs → velocitiesInRange (drop i vs) (drop i ms) ≡ cond (eqb (getD ms i 0) 1) (velocityInRange (getD vs i nan) && velocitiesInRange (drop (i + 1) vs) (drop (i + 1) ms)) (velocitiesInRange (drop (i + 1) vs) (drop (i + 1) ms))
   unfolding velocitiesInRange all valid
   speed-turn h =
       let k : i < length ms = omega arith in

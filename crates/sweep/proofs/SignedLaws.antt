@@ -101,12 +101,13 @@ pub mean-none : (x : Float) (r : Rounded) → r ≡ roundEven x → r ≡ Outsid
 unfolding orZero
 mean-none x r e g = ap orZero (sym g ∙ e)
 
--- a rounded mean is at most 2 ^ 30 either way
-signed-abs : (s : Bool) (n : ℕ) → natAbs (signed s n) ≡ n
+-- a number with a sign is as large as the number
+pub signed-abs : (s : Bool) (n : ℕ) → natAbs (signed s n) ≡ n
 signed-abs false n = refl
 signed-abs true zero = refl
 signed-abs true (suc n) = refl
 
+-- a rounded mean is at most 2 ^ 30 either way
 pub mean-near : (x : Float) → natAbs (orZero (roundEven x)) ≤ 2 ^ 30
 unfolding orZero
 mean-near x = go (within x) refl

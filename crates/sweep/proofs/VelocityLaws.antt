@@ -1,10 +1,9 @@
--- The second entry: one turn of the loops over counts and gates, its own questions, and its call. Assumes nothing.
-use Prim.Native.Nat.{ℕ, suc, _+_, _-_, _*_, _≤_, _<_}
+-- The second entry: one turn of the loop over its gates, its own questions, and its call. Assumes nothing.
+use Prim.Native.Nat.{ℕ, _+_, _*_, _≤_, _<_}
 use native.Mathlib.Omega.{arith}
-use native.Mathlib.Numerals.{add-one}
 use mathlib.Core.Path.{_≡_, refl, sym, ap, _∙_}
-use mathlib.Core.Bool.{Bool, true, false, not, _&&_, _||_, true≢false}
-use mathlib.Core.List.{List, _++_, append-nil}
+use mathlib.Core.Bool.{Bool, true, false, _&&_, true≢false}
+use mathlib.Core.List.{List, [], _∷_, _++_, append-nil}
 use mathlib.Core.Option.{Option, none, some}
 use lib.Dec.{eqb}
 use lib.ListN.{length, getD, set, drop, drop-of-length-le}
@@ -14,54 +13,37 @@ use mir.Syntax.{w32}
 use mir.Val.{SFits, toZ, ofZ}
 use mir.ValLaws.{toZ-ofZ}
 use lib.Ieee.{Float, nan}
-use borrow.Author.Tests.{eqb-true, eq-eqb, ne-eqb, leb-true, leb-false, lt-ltb, le-ltb}
+use borrow.Author.Tests.{leb-true, leb-false, lt-ltb, le-ltb}
 use Rattle.lists.specs.Seq.{upto, all, tabulate}
+use Rattle.arithmetic.specs.Rounding.{real}
 use Rattle.arithmetic.specs.Inside.Asked.{front}
 use Rattle.lists.proofs.SeqLaws.{tab-length, tab-snoc}
 use Rattle.arithmetic.proofs.IntervalLaws.{front-more, front-none}
 use Rattle.network.specs.Network.{bounded}
-use Rattle.lists.proofs.AllLaws.{and-left, and-right}
-use Rattle.sweep.specs.Questions.{lengthsFit}
+use Rattle.sweep.specs.Questions.{ask, firstNo, lengthsFit, velocitiesInRange}
 use Rattle.sweep.specs.Entry.{answerOf}
-use Rattle.sweep.specs.Velocity.{Counted, VelocityAnswer, unfoldedAt, velocities, ownLong, countsInRange, askedVelocity, callVelocity}
+use Rattle.sweep.specs.Velocity.{Counted, VelocityAnswer, wind, showsWind, unfoldedAt, velocities, ownLong, countsInRange, askedVelocity, callVelocity}
+use Rattle.sweep.specs.Inside.Gates.{countPasses, gatesAsked}
 use Rattle.sweep.proofs.QuestionLaws.{zero-none, all-yes}
-use Rattle.sweep.proofs.PassedLaws.{long-are}
-
--- question 10 of one gate
-abbrev pub countTest : List ℕ → List ℤ → ℕ → Bool
-countTest ms cs g = not (eqb (getD ms g 0) 1) || bounded 2000 (getD cs g (pos 0))
+use Rattle.sweep.proofs.PassedLaws.{long-are, three-are}
+use Rattle.sweep.proofs.GateLaws.{countTest}
 
 -- a gate's unfolded velocity
-abbrev pub gateVelocity : Float → List Float → List ℕ → List ℤ → ℕ → Float
-gateVelocity nyq vs ms cs g = unfoldedAt nyq (getD vs g nan) (getD ms g 0) (getD cs g (pos 0))
+abbrev pub gateVelocity : Float → List Float → List ℕ → List ℤ → List ℕ → ℕ → Float
+gateVelocity nyq vs ms cs ls g = unfoldedAt nyq (getD vs g nan) (getD ms g 0) (getD cs g (pos 0)) (getD ls g 0)
+
+-- at a gate that shows a wind it is the wind, at any other 0
+pub shown-at : (nyq v : Float) (m : ℕ) (c : ℤ) (l : ℕ) → showsWind m l ≡ true → unfoldedAt nyq v m c l ≡ wind nyq v c
+unfolding unfoldedAt
+shown-at nyq v m c l h = rw h refl
+
+pub hidden-at : (nyq v : Float) (m : ℕ) (c : ℤ) (l : ℕ) → showsWind m l ≡ false → unfoldedAt nyq v m c l ≡ real (pos 0)
+unfolding unfoldedAt
+hidden-at nyq v m c l h = rw h refl
 
 -- a count that was read from a slice is itself
 pub read-back : (z : ℤ) → mag z < 2147483648 → toZ w32 (ofZ w32 z) ≡ z
 read-back z h = toZ-ofZ w32 z (record { sfits = h })
-
--- ---- counts at valid gates, from gate i on
-
-module _ (ms : List ℕ) (cs : List ℤ) (n i : ℕ) where
-  count-turn : i < n → all (countTest ms cs) (upto (n - i) i) ≡ (countTest ms cs i && all (countTest ms cs) (upto (n - (i + 1)) (i + 1)))
-  unfolding all upto
-  count-turn h =
-      let e : n - i ≡ suc (n - (i + 1)) = omega arith in
-      ap (λ (k : ℕ). all (countTest ms cs) (upto k i)) e ∙ ap (λ (k : ℕ). countTest ms cs i && all (countTest ms cs) (upto (n - (i + 1)) k)) (sym (add-one i))
-
-  pub count-masked : i < n → (getD ms i 0 ≡ 1 → ⊥) → all (countTest ms cs) (upto (n - i) i) ≡ all (countTest ms cs) (upto (n - (i + 1)) (i + 1))
-  count-masked h t = count-turn h ∙ rw (ne-eqb (getD ms i 0) 1 t) refl
-
-  pub count-valid : {r b : Bool} → i < n → getD ms i 0 ≡ 1 → mag (getD cs i (pos 0)) < 2147483648 → r ≡ bounded 2000 (toZ w32 (ofZ w32 (getD cs i (pos 0)))) → r ≡ b
-      → all (countTest ms cs) (upto (n - i) i) ≡ (b && all (countTest ms cs) (upto (n - (i + 1)) (i + 1)))
-  count-valid {r} {b} h t m e g =
-      let k : bounded 2000 (getD cs i (pos 0)) ≡ b = sym (e ∙ ap (bounded 2000) (read-back (getD cs i (pos 0)) m)) ∙ g in
-      count-turn h ∙ rw (eq-eqb (getD ms i 0) 1 t, k) refl
-
-  pub count-end : n ≤ i → all (countTest ms cs) (upto (n - i) i) ≡ true
-  unfolding all upto
-  count-end h =
-      let e : n - i ≡ 0 = omega arith in
-      rw e refl
 
 -- ---- velocities at the front of what is written
 
@@ -109,28 +91,34 @@ module _ (z : ℤ) (f : SFits w32 z) where
 -- ---- the questions and the call
 
 module _ (u : Counted) (k : ℕ) where
-  -- the code's own questions 2 and 10, n being its product
-  pub length-is : (r own : Bool) (n : ℕ) → r ≡ lengthsFit n (u .vel) (u .mask) own → own ≡ (eqb (length (u .counts)) n && eqb k n) → n ≡ u .rays * u .gates → r ≡ lengthsFit (u .rays * u .gates) (u .vel) (u .mask) (ownLong u k)
+  -- the code's own question 2, n being its product
+  pub length-is : (r own : Bool) (n : ℕ) → r ≡ lengthsFit n (u .vel) (u .mask) own → own ≡ (eqb (length (u .counts)) n && eqb (length (u .labels)) n && eqb k n) → n ≡ u .rays * u .gates
+      → r ≡ lengthsFit (u .rays * u .gates) (u .vel) (u .mask) (ownLong u k)
   unfolding ownLong
-  length-is r own n h g e = h ∙ ap (lengthsFit n (u .vel) (u .mask)) g ∙ ap (λ (j : ℕ). lengthsFit j (u .vel) (u .mask) (eqb (length (u .counts)) j && eqb k j)) e
+  length-is r own n h g e =
+      h
+      ∙ ap (lengthsFit n (u .vel) (u .mask)) g
+      ∙ ap (λ (j : ℕ). lengthsFit j (u .vel) (u .mask) (eqb (length (u .counts)) j && eqb (length (u .labels)) j && eqb k j)) e
 
   pub record Long : Type 0 where
     pub vel : length (u .vel) ≡ u .rays * u .gates
     pub mask : length (u .mask) ≡ u .rays * u .gates
     pub counts : length (u .counts) ≡ u .rays * u .gates
+    pub labels : length (u .labels) ≡ u .rays * u .gates
     pub written : k ≡ u .rays * u .gates
 
   pub lengths : lengthsFit (u .rays * u .gates) (u .vel) (u .mask) (ownLong u k) ≡ true → Long
   unfolding ownLong
   lengths h =
       let n = u .rays * u .gates in
-      let a = eqb (length (u .counts)) n in
-      let q = long-are n (u .vel) (u .mask) (a && eqb k n) h in
-      record { vel = q .0; mask = q .1; counts = eqb-true (length (u .counts)) n (and-left a (eqb k n) (q .2)); written = eqb-true k n (and-right a (eqb k n) (q .2)) }
+      let q = long-are n (u .vel) (u .mask) (ownLong u k) h in
+      let l = three-are (length (u .counts)) n (length (u .labels)) n k n (q .2) in
+      record { vel = q .0; mask = q .1; counts = l .0; labels = l .1; written = l .2 }
 
-  pub counts-are : {r : Bool} → length (u .mask) ≡ u .rays * u .gates → r ≡ all (countTest (u .mask) (u .counts)) (upto (length (u .mask)) 0) → r ≡ countsInRange u
-  unfolding countsInRange
-  counts-are b e = e ∙ ap (λ (j : ℕ). all (countTest (u .mask) (u .counts)) (upto j 0)) b
+  -- its questions 7 and 10, put gate by gate
+  pub gates-are : length (u .vel) ≡ u .rays * u .gates → gatesAsked (u .vel) (u .mask) (u .counts) (u .labels) ≡ firstNo (ask 7 (velocitiesInRange (u .vel) (u .mask)) ∷ ask 10 (countsInRange u) ∷ [])
+  unfolding gatesAsked countsInRange countPasses
+  gates-are b = ap (λ (j : ℕ). firstNo (ask 7 (velocitiesInRange (u .vel) (u .mask)) ∷ ask 10 (all (countTest (u .mask) (u .counts) (u .labels)) (upto j 0)) ∷ [])) b
 
   -- no question has the number 0
   pub none-missed : (r : ℕ) → r ≡ answerOf (askedVelocity u k) → r ≡ 0 → askedVelocity u k ≡ none
@@ -150,6 +138,10 @@ module _ (u : Counted) (out : List Float) where
       go none e = absurd (h e)
       go (some k) e = ap (λ (j : ℕ). record { number = j; unfolded = out }) e
 
-  pub unfolds : (w : List Float) → askedVelocity u (length out) ≡ none → w ≡ tabulate (length out) (gateVelocity (u .nyquist) (u .vel) (u .mask) (u .counts)) → record { number = 0; unfolded = w } ≡ callVelocity u out
+  -- the velocities that the loop writes
+  abbrev unfoldedGates : ℕ → List Float
+  unfoldedGates m = tabulate m (gateVelocity (u .nyquist) (u .vel) (u .mask) (u .counts) (u .labels))
+
+  pub unfolds : (w : List Float) → askedVelocity u (length out) ≡ none → w ≡ unfoldedGates (length out) → record { number = 0; unfolded = w } ≡ callVelocity u out
   unfolding callVelocity velocities
-  unfolds w h e = rw (h, callVelocity) (λ i. record { number = 0; unfolded = (e ∙ ap (λ (m : ℕ). tabulate m (gateVelocity (u .nyquist) (u .vel) (u .mask) (u .counts))) (all-long u (length out) h .written)) i })
+  unfolds w h e = rw (h, callVelocity) (λ i. record { number = 0; unfolded = (e ∙ ap unfoldedGates (all-long u (length out) h .written)) i })

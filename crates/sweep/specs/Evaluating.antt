@@ -10,6 +10,6 @@ unfolding Below.evaluating Sweep.regionsOf Sweep.pairsOf Sweep.sizes Sweep.netwo
     Sweep.gateCount Sweep.offsetOf Sweep.finished Sweep.unfoldedBy Sweep.unfolded Questions.firstNo Questions.gatesIn Questions.wordsFor Questions.floatsFor Questions.sizeInRange
     Questions.lengthsFit Questions.maskIsBits Questions.workSuffices Questions.optionsInRange Questions.velocitiesInRange
     Questions.atMost Questions.limitsFew Questions.ownLimits Questions.seven Questions.room
-    Questions.asked Questions.firstMissed Questions.answered Questions.outcome Questions.asked9 Call.lengths Call.cleared Call.clearedFor Call.workedOn Call.ending Call.call Velocity.unfoldedAt
-    Velocity.velocities Velocity.ownLong Velocity.countsInRange Velocity.askedVelocity Velocity.callVelocity
+    Questions.asked Questions.firstMissed Questions.answered Questions.outcome Questions.asked9 Call.lengths Call.cleared Call.clearedFor Call.workedOn Call.ending Call.call Velocity.wind
+    Velocity.showsWind Velocity.unfoldedAt Velocity.velocities Velocity.ownLong Velocity.countsInRange Velocity.askedVelocity Velocity.callVelocity
 evaluating = tt

@@ -1,4 +1,4 @@
--- The second entry: the unfolded velocity, and its call.
+-- The second entry: the unfolded velocity, and its call. Its labels are the region map's; any label but 0 counts as one.
 use Prim.Native.Nat.{ℕ, _*_}
 use mathlib.Core.Bool.{Bool, cond, not, _&&_, _||_}
 use mathlib.Core.List.{List, [], _∷_}
@@ -21,26 +21,35 @@ pub record Counted : Type 0 where
   pub vel : List Float
   pub mask : List ℕ
   pub counts : List ℤ
+  pub labels : List ℕ
 
 -- the same, of a call's parameters
-abbrev pub counted : ℕ → ℕ → Float → List Float → List ℕ → List ℤ → Counted
-counted rays gates nyquist vel mask counts = record { rays = rays; gates = gates; nyquist = nyquist; vel = vel; mask = mask; counts = counts }
+abbrev pub counted : ℕ → ℕ → Float → List Float → List ℕ → List ℤ → List ℕ → Counted
+counted rays gates nyquist vel mask counts labels = record { rays = rays; gates = gates; nyquist = nyquist; vel = vel; mask = mask; counts = counts; labels = labels }
 
--- a valid gate's velocity in f64 + count × (2 × Nyquist); 0 at a masked gate
-unfoldable pub unfoldedAt : Float → Float → ℕ → ℤ → Float
-unfoldedAt nyq v m c = cond (eqb m 1) (add binary64 v (mul binary64 (real c) (twoNyquist nyq))) (real (pos 0))
+-- the wind that a count gives: the velocity in f64 + count × (2 × Nyquist), each operation rounded once
+unfoldable pub wind : Float → Float → ℤ → Float
+wind nyq v c = add binary64 v (mul binary64 (real c) (twoNyquist nyq))
+
+-- whether a gate with mask byte m and label l shows a wind: it is valid and lies in a region
+unfoldable pub showsWind : ℕ → ℕ → Bool
+showsWind m l = eqb m 1 && not (eqb l 0)
+
+-- a gate's unfolded velocity: its wind, or 0 where it shows none
+unfoldable pub unfoldedAt : Float → Float → ℕ → ℤ → ℕ → Float
+unfoldedAt nyq v m c l = cond (showsWind m l) (wind nyq v c) (real (pos 0))
 
 -- the unfolded velocities
 unfoldable pub velocities : Counted → List Float
-velocities u = tabulate (u .rays * u .gates) (λ g. unfoldedAt (u .nyquist) (getD (u .vel) g nan) (getD (u .mask) g 0) (getD (u .counts) g (pos 0)))
+velocities u = tabulate (u .rays * u .gates) (λ g. unfoldedAt (u .nyquist) (getD (u .vel) g nan) (getD (u .mask) g 0) (getD (u .counts) g (pos 0)) (getD (u .labels) g 0))
 
--- its own part of question 2: the counts, and the slice that is written, of length k
+-- its own part of question 2: the counts, the labels, and the slice that is written, of length k
 unfoldable pub ownLong : Counted → ℕ → Bool
-ownLong u k = let n = u .rays * u .gates in eqb (length (u .counts)) n && eqb k n
+ownLong u k = let n = u .rays * u .gates in eqb (length (u .counts)) n && eqb (length (u .labels)) n && eqb k n
 
--- question 10: the counts at valid gates
+-- question 10: the counts at the gates that show a wind
 unfoldable pub countsInRange : Counted → Bool
-countsInRange u = all (λ g. not (eqb (getD (u .mask) g 0) 1) || bounded 2000 (getD (u .counts) g (pos 0))) (upto (u .rays * u .gates) 0)
+countsInRange u = all (λ g. not (showsWind (getD (u .mask) g 0) (getD (u .labels) g 0)) || bounded 2000 (getD (u .counts) g (pos 0))) (upto (u .rays * u .gates) 0)
 
 -- questions 1, 2, 3, 5, 7 and 10
 unfoldable pub askedVelocity : Counted → ℕ → Option ℕ

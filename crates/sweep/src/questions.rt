@@ -1,7 +1,7 @@
 // The questions put to a call, each as a test, and for each entry the number of the first that gets a no. Question 9 is put at each merge.
 use memory::layout;
 ghost use mathlib.Core.Path.{_≡_};
-ghost use mathlib.Core.Bool.{not, _&&_, _||_};
+ghost use mathlib.Core.Bool.{_&&_};
 ghost use Prim.Native.Nat.{_*_, _≤_};
 ghost use lib.Dec.{eqb, leb};
 ghost use lib.ListN.{length, getD};
@@ -12,7 +12,8 @@ ghost use Rattle.arithmetic.specs.Intervals.{nyquistInRange, velocityInRange};
 ghost use Rattle.network.specs.Network.{bounded};
 ghost use Rattle.sweep.specs.Questions.{firstNo, seven, room, atMost, wordsFor, floatsFor, sizeInRange, lengthsFit, maskIsBits, velocitiesInRange};
 ghost use Rattle.sweep.specs.Entry.{sweepBy, answerOf};
-ghost use Rattle.sweep.specs.Velocity.{counted, askedVelocity};
+ghost use Rattle.sweep.specs.Velocity.{counted, showsWind, askedVelocity};
+ghost use Rattle.sweep.specs.Inside.Gates.{gateAsked, gatesAsked};
 
 // The ranges that the questions ask for.
 const MOST_RAYS: u32 = 720;
@@ -54,6 +55,13 @@ pub fn two_long(one: usize, n: usize, two: usize, m: usize) -> bool
     ensures { λ r. ⌜ r ≡ (eqb one n && eqb two m) ⌝ }
 {
     one == n && two == m
+}
+
+// Three lengths, each n.
+fn three_long(one: usize, two: usize, three: usize, n: usize) -> bool
+    ensures { λ r. ⌜ r ≡ (eqb one n && eqb two n && eqb three n) ⌝ }
+{
+    one == n && (two == n && three == n)
 }
 
 // Question 2, n being the gates that the sweep should have, and `own` the entry's own part.
@@ -146,21 +154,45 @@ fn count_in_range(count: i32) -> bool
     LEAST_COUNT <= count && count <= MOST_COUNT
 }
 
-// Question 10. What stands at a masked gate does not matter.
-fn counts_in_range(valid: &[u8], folds: &[i32]) -> bool
-    requires { ⌜ length (now folds) ≡ length (now valid) ⌝ }
-    ensures { λ r. ⌜ r ≡ all (λ g. not (eqb (getD (now (valid .entry)) g 0) 1) || bounded 2000 (getD (now (folds .entry)) g (pos 0))) (upto (length (now (valid .entry))) 0) ⌝ }
+// Whether a gate shows a wind: it is valid and lies in a region.
+pub fn shows_wind(valid: u8, label: u32) -> bool
+    ensures { λ r. ⌜ r ≡ showsWind valid label ⌝ }
 {
+    valid == 1 && label != 0
+}
+
+// Questions 7 and 10 of one gate: the number of the first that gets a no, or 0. What count stands at a gate that shows no wind does not matter.
+fn gate_missed(v: f32, valid: u8, count: i32, label: u32) -> u32
+    ensures { λ r. ⌜ r ≡ answerOf (gateAsked v valid count label) ⌝ }
+{
+    let shown = shows_wind(valid, label);
+    if valid == 1 && !velocity_in_range(v) {
+        return 7;
+    }
+    if shown && !count_in_range(count) {
+        return 10;
+    }
+    0
+}
+
+// Questions 7 and 10 of every gate, in one pass: 7 of each comes before 10 of any.
+fn gates_missed(velocity: &[f32], valid: &[u8], folds: &[i32], labels: &[u32]) -> u32
+    requires { ⌜ (length (now valid) ≡ length (now velocity)) × (length (now folds) ≡ length (now velocity)) × (length (now labels) ≡ length (now velocity)) ⌝ }
+    ensures { λ r. ⌜ r ≡ answerOf (gatesAsked (now (velocity .entry)) (now (valid .entry)) (now (folds .entry)) (now (labels .entry))) ⌝ }
+{
+    let mut missed = 0;
     let mut i = 0;
-    while i < valid.len() {
-        if valid[i] == 1 {
-            if !count_in_range(folds[i]) {
-                return false;
-            }
+    while i < velocity.len() {
+        let here = gate_missed(velocity[i], valid[i], folds[i], labels[i]);
+        if here == 7 {
+            return 7;
+        }
+        if here == 10 {
+            missed = 10;
         }
         i += 1;
     }
-    true
+    missed
 }
 
 // What an entry lends beside the sweep: whether its own slices are as long as they are to be, and the two work memories' lengths.
@@ -231,10 +263,11 @@ pub fn first_missed_velocity(
     velocity: &[f32],
     valid: &[u8],
     folds: &[i32],
+    labels: &[u32],
     unfolded: usize,
 ) -> u32
     ensures { λ r. ⌜ (
-        let u = counted rays gates nyquist (now (velocity .entry)) (now (valid .entry)) (now (folds .entry)) in
+        let u = counted rays gates nyquist (now (velocity .entry)) (now (valid .entry)) (now (folds .entry)) (now (labels .entry)) in
         r ≡ answerOf (askedVelocity u unfolded)
         ) ⌝ }
 {
@@ -242,7 +275,7 @@ pub fn first_missed_velocity(
         return 1;
     }
     let n = gates_in(rays, gates);
-    let own = two_long(folds.len(), n, unfolded, n);
+    let own = three_long(folds.len(), labels.len(), unfolded, n);
     if !lengths_fit(n, velocity, valid, own) {
         return 2;
     }
@@ -252,11 +285,5 @@ pub fn first_missed_velocity(
     if !nyquist_in_range(nyquist) {
         return 5;
     }
-    if !velocities_in_range(velocity, valid) {
-        return 7;
-    }
-    if !counts_in_range(valid, folds) {
-        return 10;
-    }
-    0
+    gates_missed(velocity, valid, folds, labels)
 }

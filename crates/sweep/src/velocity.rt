@@ -1,4 +1,4 @@
-// The second entry, from fold counts to unfolded velocities in f64, one rounding an operation.
+// The second entry, from fold counts and labels to unfolded velocities in f64, one rounding an operation.
 ghost use mathlib.Core.Path.{_≡_};
 ghost use lib.ListN.{length, getD};
 ghost use lib.IntN.{pos};
@@ -6,11 +6,11 @@ ghost use lib.Ieee.{nan};
 ghost use Rattle.lists.specs.Seq.{tabulate};
 ghost use Rattle.sweep.specs.Velocity.{unfoldedAt, callVelocity, counted, velocityAnswerBy};
 
-// A gate's unfolded velocity: 0 where it is masked.
-fn unfolded_at(nyquist: f32, v: f32, valid: u8, count: i32) -> f64
-    ensures { λ r. ⌜ r ≡ unfoldedAt nyquist v valid count ⌝ }
+// A gate's unfolded velocity: 0 where it is masked or lies in no region.
+fn unfolded_at(nyquist: f32, v: f32, valid: u8, count: i32, label: u32) -> f64
+    ensures { λ r. ⌜ r ≡ unfoldedAt nyquist v valid count label ⌝ }
 {
-    if valid == 1 {
+    if crate::questions::shows_wind(valid, label) {
         let fold = 2.0 * std::num::f32_to_f64_with_nan(nyquist);
         return std::num::f32_to_f64_with_nan(v) + (count as f64) * fold;
     }
@@ -18,17 +18,25 @@ fn unfolded_at(nyquist: f32, v: f32, valid: u8, count: i32) -> f64
 }
 
 // Every gate's unfolded velocity.
-fn unfold_gates(nyquist: f32, velocity: &[f32], valid: &[u8], folds: &[i32], unfolded: &mut [f64])
-    requires { ⌜ (length (now velocity) ≡ length (now unfolded)) × (length (now valid) ≡ length (now unfolded)) × (length (now folds) ≡ length (now unfolded)) ⌝ }
+fn unfold_gates(
+    nyquist: f32,
+    velocity: &[f32],
+    valid: &[u8],
+    folds: &[i32],
+    labels: &[u32],
+    unfolded: &mut [f64],
+)
+    requires { ⌜ (length (now velocity) ≡ length (now unfolded)) × (length (now valid) ≡ length (now unfolded))
+        × (length (now folds) ≡ length (now unfolded)) × (length (now labels) ≡ length (now unfolded)) ⌝ }
     ensures { λ _. ⌜
         now (unfolded .exit)
         ≡ tabulate (length (now (unfolded .entry)))
-        (λ g. unfoldedAt nyquist (getD (now (velocity .entry)) g nan) (getD (now (valid .entry)) g 0) (getD (now (folds .entry)) g (pos 0)))
+        (λ g. unfoldedAt nyquist (getD (now (velocity .entry)) g nan) (getD (now (valid .entry)) g 0) (getD (now (folds .entry)) g (pos 0)) (getD (now (labels .entry)) g 0))
         ⌝ }
 {
     let mut i = 0;
     while i < unfolded.len() {
-        unfolded[i] = unfolded_at(nyquist, velocity[i], valid[i], folds[i]);
+        unfolded[i] = unfolded_at(nyquist, velocity[i], valid[i], folds[i], labels[i]);
         i += 1;
     }
 }
@@ -41,10 +49,11 @@ pub fn unfold_velocity(
     velocity: &[f32],
     valid: &[u8],
     folds: &[i32],
+    labels: &[u32],
     unfolded: &mut [f64],
 ) -> u32
     ensures { λ r. ⌜ (
-        let u = counted rays gates nyquist (now (velocity .entry)) (now (valid .entry)) (now (folds .entry)) in
+        let u = counted rays gates nyquist (now (velocity .entry)) (now (valid .entry)) (now (folds .entry)) (now (labels .entry)) in
         velocityAnswerBy r (now (unfolded .exit)) ≡ callVelocity u (now (unfolded .entry))
         ) ⌝ }
 {
@@ -56,11 +65,12 @@ pub fn unfold_velocity(
         velocity,
         valid,
         folds,
+        labels,
         n,
     );
     if missed != 0 {
         return missed;
     }
-    unfold_gates(nyquist, velocity, valid, folds, unfolded);
+    unfold_gates(nyquist, velocity, valid, folds, labels, unfolded);
     0
 }

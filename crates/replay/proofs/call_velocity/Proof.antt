@@ -17,7 +17,7 @@ array-borrow-prefix-unfolded c = search needs
 slice-aggregate-jivakkol-unfold-velocity : tie.Need-slice-aggregate-jivakkol-unfold-velocity
 slice-aggregate-jivakkol-unfold-velocity c =
     let u = c .before .before in
-    let s = u .before .before .before .before .before .before in
+    let s = c .before .before .before .before .before .before .before .before .before in
     part (length (s .args .velocity .now)) 128 (u .unfolded .result) (u .unfolded .ensures) (s .pre)
 
 jivakkol-unfold-velocity-requires : tie.Need-jivakkol-unfold-velocity-requires
@@ -27,15 +27,15 @@ array-share-prefix-unfolded : tie.Need-array-share-prefix-unfolded
 array-share-prefix-unfolded c =
     let f = c .before .jivakkol-unfold-velocity in
     let u = c .before .before .before .before in
-    let s = u .before .before .before .before .before .before in
-    back-within (length (s .args .velocity .now)) 128 (u .unfolded .result) (u .unfolded .ensures) (s .pre) (f .last .1 .1 .1 .1 .1 .1 .0) (f .kept .1 .1 .1 .1 .1 .1 .0)
+    let s = c .before .before .before .before .before .before .before .before .before .before .before in
+    back-within (length (s .args .velocity .now)) 128 (u .unfolded .result) (u .unfolded .ensures) (s .pre) (f .last .1 .1 .1 .1 .1 .1 .1 .0) (f .kept .1 .1 .1 .1 .1 .1 .1 .0)
 
 slice-aggregate-write-velocities : tie.Need-slice-aggregate-write-velocities
 slice-aggregate-write-velocities c =
     let f = c .before .before .jivakkol-unfold-velocity in
     let u = c .before .before .before .before .before in
-    let s = u .before .before .before .before .before .before in
-    back-part (length (s .args .velocity .now)) 128 (u .unfolded .result) (u .unfolded .ensures) (s .pre) (f .last .1 .1 .1 .1 .1 .1 .0) (f .kept .1 .1 .1 .1 .1 .1 .0)
+    let s = c .before .before .before .before .before .before .before .before .before .before .before .before in
+    back-part (length (s .args .velocity .now)) 128 (u .unfolded .result) (u .unfolded .ensures) (s .pre) (f .last .1 .1 .1 .1 .1 .1 .1 .0) (f .kept .1 .1 .1 .1 .1 .1 .1 .0)
 
 write-velocities-requires : tie.Need-write-velocities-requires
 write-velocities-requires c κs = search needs

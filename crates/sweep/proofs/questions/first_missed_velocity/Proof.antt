@@ -5,11 +5,11 @@ use mathlib.Core.List.{List, [], _∷_}
 use Prim.Native.Nat.{_*_}
 use lib.ListN.{drop}
 use borrow.Author.Needs.{needs}
-use Rattle.sweep.proofs.VelocityLaws.{length-is, lengths, counts-are}
+use Rattle.sweep.proofs.VelocityLaws.{Long, length-is, lengths, gates-are}
 use Rattle.sweep.proofs.PassedLaws.{answer-no, answer-yes}
 use Rattle.sweep.proofs.QuestionLaws.{on, no}
 use Rattle.arithmetic.specs.Intervals.{nyquistInRange}
-use Rattle.sweep.specs.Velocity.{countsInRange, Counted, ownLong, askedVelocity}
+use Rattle.sweep.specs.Velocity.{Counted, counted, ownLong, countsInRange, askedVelocity}
 use Rattle.sweep.specs.Questions.{Question, ask, sizeInRange, maskIsBits, velocitiesInRange, firstNo, lengthsFit}
 use Rattle.sweep.specs.Entry.{answerOf}
 use Rattle.sweep.proofs.questions.first_missed_velocity.Statement.{statement}
@@ -17,14 +17,14 @@ use Rattle.sweep.proofs.questions.first_missed_velocity.Tie as tie
 
 -- the inputs that the parameters are, and the questions put to them
 abbrev countedAt : tie.Start → Counted
-countedAt s = record { rays = s .args .rays; gates = s .args .gates; nyquist = s .args .nyquist; vel = s .args .velocity .now; mask = s .args .valid .now; counts = s .args .folds .now }
+countedAt s = counted (s .args .rays) (s .args .gates) (s .args .nyquist) (s .args .velocity .now) (s .args .valid .now) (s .args .folds .now) (s .args .labels .now)
 
 abbrev asks : tie.Start → List Question
 asks s = let u = countedAt s in ask 1 (sizeInRange (u .rays) (u .gates)) ∷ ask 2 (lengthsFit (u .rays * u .gates) (u .vel) (u .mask) (ownLong u (s .args .unfolded))) ∷ ask 3 (maskIsBits (u .mask)) ∷ ask 5 (nyquistInRange (u .nyquist)) ∷ ask 7 (velocitiesInRange (u .vel) (u .mask)) ∷ ask 10 (countsInRange u) ∷ []
 
 -- where the call began, from each place after a yes
 abbrev at-1 : tie.Else1 → tie.Start
-at-1 c = c .before .before .before .before
+at-1 c = c .before .before .before .before .before
 
 abbrev at-2 : tie.Else2 → tie.Start
 at-2 c = at-1 (c .before .before .before .before)
@@ -35,12 +35,9 @@ at-3 c = at-2 (c .before .before)
 abbrev at-4 : tie.Else4 → tie.Start
 at-4 c = at-3 (c .before .before)
 
-abbrev at-5 : tie.Else5 → tie.Start
-at-5 c = at-4 (c .before .before)
-
 -- what each yes says, and the questions that are left after it
 long-yes : (c : tie.Else2) → lengthsFit (at-2 c .args .rays * at-2 c .args .gates) (at-2 c .args .velocity .now) (at-2 c .args .valid .now) (ownLong (countedAt (at-2 c)) (at-2 c .args .unfolded)) ≡ true
-long-yes c = let s = at-2 c in answer-yes (length-is (countedAt s) (s .args .unfolded) _ _ _ (c .before .lengths-fit .ensures) (c .before .before .two-long .ensures) (c .before .before .before .gates-in .ensures)) (c .if2 .left)
+long-yes c = let s = at-2 c in answer-yes (length-is (countedAt s) (s .args .unfolded) _ _ _ (c .before .lengths-fit .ensures) (c .before .before .three-long .ensures) (c .before .before .before .gates-in .ensures)) (c .if2 .left)
 
 left-1 : (c : tie.Else1) → firstNo (asks (at-1 c)) ≡ firstNo (drop 1 (asks (at-1 c)))
 left-1 c = on _ _ (answer-yes (c .before .size-in-range .ensures) (c .if1 .left))
@@ -54,8 +51,9 @@ left-3 c = left-2 (c .before .before) ∙ on _ _ (answer-yes (c .before .mask-is
 left-4 : (c : tie.Else4) → firstNo (asks (at-4 c)) ≡ firstNo (drop 4 (asks (at-4 c)))
 left-4 c = left-3 (c .before .before) ∙ on _ _ (answer-yes (c .before .nyquist-in-range .ensures) (c .if4 .left))
 
-left-5 : (c : tie.Else5) → firstNo (asks (at-5 c)) ≡ firstNo (drop 5 (asks (at-5 c)))
-left-5 c = left-4 (c .before .before) ∙ on _ _ (answer-yes (c .before .velocities-in-range .ensures) (c .if5 .left))
+-- the lengths, where the gates are asked
+long-here : (c : tie.Else4) → Long (countedAt (at-4 c)) (at-4 c .args .unfolded)
+long-here c = lengths _ _ (long-yes (c .before .before .before .before))
 
 size-in-range-requires : tie.Need-size-in-range-requires
 size-in-range-requires c κs = search needs
@@ -67,15 +65,15 @@ returns c = sym (ap answerOf (no _ _ (answer-no (c .before .size-in-range .ensur
 gates-in-requires : tie.Need-gates-in-requires
 gates-in-requires c κs = search needs
 
-two-long-requires : tie.Need-two-long-requires
-two-long-requires c κs = search needs
+three-long-requires : tie.Need-three-long-requires
+three-long-requires c κs = search needs
 
 lengths-fit-requires : tie.Need-lengths-fit-requires
 lengths-fit-requires c κs = search needs
 
 returns-2 : tie.Need-returns-2
 unfolding askedVelocity
-returns-2 c = let s = c .before .before .before .before .before .before .before .before in sym (ap answerOf (left-1 (c .before .before .before .before) ∙ no _ _ (answer-no (length-is (countedAt s) (s .args .unfolded) _ _ _ (c .before .lengths-fit .ensures) (c .before .before .two-long .ensures) (c .before .before .before .gates-in .ensures)) (c .if2 .taken))))
+returns-2 c = let s = c .before .before .before .before .before .before .before .before .before in sym (ap answerOf (left-1 (c .before .before .before .before) ∙ no _ _ (answer-no (length-is (countedAt s) (s .args .unfolded) _ _ _ (c .before .lengths-fit .ensures) (c .before .before .three-long .ensures) (c .before .before .before .gates-in .ensures)) (c .if2 .taken))))
 
 mask-is-bits-requires : tie.Need-mask-is-bits-requires
 mask-is-bits-requires c κs = search needs
@@ -91,29 +89,14 @@ returns-4 : tie.Need-returns-4
 unfolding askedVelocity
 returns-4 c = sym (ap answerOf (left-3 (c .before .before) ∙ no _ _ (answer-no (c .before .nyquist-in-range .ensures) (c .if4 .taken))))
 
-velocities-in-range-requires : tie.Need-velocities-in-range-requires
-velocities-in-range-requires c κs = let q = lengths _ _ (long-yes (c .before .before .before .before)) in q .mask ∙ sym (q .vel)
+gates-missed-requires : tie.Need-gates-missed-requires
+gates-missed-requires c κs = let l = long-here c in (l .mask ∙ sym (l .vel), l .counts ∙ sym (l .vel), l .labels ∙ sym (l .vel))
 
 returns-5 : tie.Need-returns-5
 unfolding askedVelocity
-returns-5 c = sym (ap answerOf (left-4 (c .before .before) ∙ no _ _ (answer-no (c .before .velocities-in-range .ensures) (c .if5 .taken))))
-
-counts-in-range-requires : tie.Need-counts-in-range-requires
-counts-in-range-requires c κs = let q = lengths _ _ (long-yes (c .before .before .before .before .before .before)) in q .counts ∙ sym (q .mask)
-
-returns-6 : tie.Need-returns-6
-unfolding askedVelocity
-returns-6 c = let s = c .before .before .before .before .before .before .before .before .before .before .before .before .before .before .before .before in
-    sym (ap answerOf (left-5 (c .before .before) ∙ no _ _ (answer-no
-    (counts-are (countedAt s) (s .args .unfolded) (lengths _ _ (long-yes (c .before .before .before .before .before .before .before .before)) .mask) (c .before .counts-in-range .ensures))
-    (c .if6 .taken))))
-
-returns-7 : tie.Need-returns-7
-unfolding askedVelocity firstNo
-returns-7 c = let s = c .before .before .before .before .before .before .before .before .before .before .before .before .before .before .before .before in
-    sym (ap answerOf (left-5 (c .before .before) ∙ on _ [] (answer-yes
-    (counts-are (countedAt s) (s .args .unfolded) (lengths _ _ (long-yes (c .before .before .before .before .before .before .before .before)) .mask) (c .before .counts-in-range .ensures))
-    (c .if6 .left))))
+returns-5 c =
+    let s = at-4 (c .before) in
+    c .gates-missed .ensures ∙ ap answerOf (gates-are (countedAt s) (s .args .unfolded) (long-here (c .before) .vel) ∙ sym (left-4 (c .before)))
 
 pub first-missed-velocity-spec : {M : Type 1} → statement M
 first-missed-velocity-spec =
@@ -122,15 +105,12 @@ first-missed-velocity-spec =
     size-in-range-requires
     returns
     gates-in-requires
-    two-long-requires
+    three-long-requires
     lengths-fit-requires
     returns-2
     mask-is-bits-requires
     returns-3
     nyquist-in-range-requires
     returns-4
-    velocities-in-range-requires
-    returns-5
-    counts-in-range-requires
-    returns-6
-    returns-7)
+    gates-missed-requires
+    returns-5)
