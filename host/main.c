@@ -124,28 +124,22 @@ static int map_regions(const sweep *s, work_memory work, findings *f)
 /* Unfolds the wind by fold counts and labels. Answers 0 where the library refused. */
 static int unfold(const sweep *s, findings *f)
 {
-    size_t n = (size_t)s->rays * s->gates, shown = 0, valid = 0;
+    size_t n = (size_t)s->rays * s->gates;
     uint32_t answer = jivakkol_unfold_velocity(s->rays, s->gates, s->nyquist, s->velocity, n, s->valid, n, f->folds, n, f->labels, n,
                                                f->unfolded, n);
-    if (answer != 0)
-        return refused("unfolding", answer);
-    for (size_t g = 0; g < n; g++) {
-        valid += s->valid[g];
-        shown += s->valid[g] && f->labels[g];
-    }
-    printf("gates with a wind: %zu of %zu valid\n", shown, valid);
-    return 1;
+    return answer == 0 || refused("unfolding", answer);
 }
 
-/* Prints how many gates are doubtful. */
-static void print_doubtful(const sweep *s, const uint8_t *doubtful)
+/* Prints how many gates show a wind, and how many are doubtful. */
+static void print_gates(const sweep *s, const findings *f)
 {
-    size_t valid = 0, marked = 0;
+    size_t valid = 0, shown = 0, marked = 0;
     for (size_t g = 0; g < (size_t)s->rays * s->gates; g++) {
         valid += s->valid[g];
-        marked += doubtful[g];
+        shown += s->valid[g] && f->labels[g];
+        marked += f->doubtful[g];
     }
-    printf("doubtful gates: %zu of %zu valid\n", marked, valid);
+    printf("gates with a wind: %zu, doubtful: %zu, of %zu valid\n", shown, marked, valid);
 }
 
 static double fastest(const sweep *s, const double *speed)
@@ -157,14 +151,14 @@ static double fastest(const sweep *s, const double *speed)
     return most;
 }
 
-/* Prints the doubtful gates and the fastest winds and draws the picture. Answers 0 where it cannot be written. */
+/* Prints the gates' numbers and the fastest winds and draws the picture. Answers 0 where it cannot be written. */
 static int draw(const sweep *s, const findings *f, const char *path)
 {
     size_t n = (size_t)s->rays * s->gates;
     double *measured = lent(n, sizeof *measured);
     for (size_t g = 0; g < n; g++)
         measured[g] = s->velocity[g];
-    print_doubtful(s, f->doubtful);
+    print_gates(s, f);
     double before = fastest(s, measured), after = fastest(s, f->unfolded);
     printf("fastest wind towards or from the radar: measured %.2f m/s, unfolded %.2f m/s\n", before, after);
     sweep_view view = {s->rays, s->gates, f->regions, s->valid, measured, f->unfolded, f->doubtful, f->labels, fmax(before, after)};

@@ -12,7 +12,7 @@ use lib.Ieee.{Float, nan}
 use borrow.Author.Tests.{eqb-true, eq-eqb, ne-eqb}
 use Rattle.lists.specs.Seq.{upto, all, All}
 use Rattle.lists.proofs.SeqLaws.{tab-at, tab-length, tab-same}
-use Rattle.lists.proofs.AllLaws.{and-left, and-right, all-true}
+use Rattle.lists.proofs.AllLaws.{and-right, all-true}
 use Rattle.memory.specs.Size.{gatesOfLargest}
 use Rattle.arithmetic.specs.Rounding.{real}
 use Rattle.labels.specs.Label.{Found}
@@ -20,7 +20,7 @@ use Rattle.sweep.specs.Sweep.{Sweep, Unfolded, regionsOf, networkOf, early, end
 use Rattle.sweep.specs.Questions.{gatesIn, lengthsFit, seven, nineOf, firstMissed, ownLimits}
 use Rattle.sweep.specs.Call.{Answer, lengths}
 use Rattle.sweep.specs.Entry.{answerOf}
-use Rattle.sweep.specs.Velocity.{Counted, wind, showsWind, unfoldedAt, velocities, ownLong, countsInRange, askedVelocity, VelocityAnswer}
+use Rattle.sweep.specs.Velocity.{Counted, wind, showsWind, unfoldedAt, velocities, ownLong, countPasses, countsInRange, askedVelocity, VelocityAnswer}
 use Rattle.sweep.proofs.QuestionLaws.{none-all, all-none}
 use Rattle.sweep.proofs.PassedLaws.{size-product, long-are, missed-none}
 use Rattle.sweep.proofs.VelocityLaws.{shown-at, hidden-at}
@@ -35,10 +35,6 @@ use Rattle.locality.proofs.CountRange.{counts-within}
 -- ---- a gate that shows a wind
 
 module _ (m l : ℕ) where
-  shows-valid : showsWind m l ≡ true → m ≡ 1
-  unfolding showsWind
-  shows-valid h = eqb-true m 1 (and-left (eqb m 1) (not (eqb l 0)) h)
-
   shows-label : showsWind m l ≡ true → 0 < l
   unfolding showsWind
   shows-label h = go l (and-right (eqb m 1) (not (eqb l 0)) h)
@@ -89,7 +85,7 @@ module _ (s : Sweep) (a : MapAnswer) (b : Answer) (out : List Float) (w : Veloci
       rw (eq-eqb (length (s .vel)) n vel, eq-eqb (length (s .mask)) n masks, eq-eqb (length (b .memory .counts)) n (ap length counts ∙ counts-long s (ownLimits s) ∙ masks), eq-eqb (length (a .memory .labels)) n (labels-left s (k .lentMap) a (k .map) (k .mapped)), eq-eqb (length out) n (k .long)) refl
 
   counts-yes : countsInRange (handed s a b) ≡ true
-  unfolding seven countsInRange
+  unfolding seven countsInRange countPasses
   counts-yes = all-true _ _ (λ g. rw counts (or-true (not (showsWind (getD (s .mask) g 0) (getD (a .memory .labels) g 0))) _ (counts-within s (ownLimits s) (omega (arith, masks, size)) (nine .1 .1 .1 .1 .1 .1 .1 .1 .0) g)))
     where
       size : gatesIn s ≤ gatesOfLargest
@@ -141,7 +137,14 @@ wind-shown s a b out w f k g h = record { shown = shown; region = region; wind =
 
 -- ---- where every valid gate has a label
 
+-- tests that agree agree on all
+all-same : (p q : ℕ → Bool) (n k : ℕ) → ((i : ℕ) → k ≤ i → i < n + k → p i ≡ q i) → all p (upto n k) ≡ all q (upto n k)
+unfolding all upto
+all-same p q zero k h = refl
+all-same p q (suc n) k h = λ i. h k (omega arith) (omega arith) i && all-same p q n (suc k) (λ j a b. h j (omega arith) (omega arith)) i
+
 module _ (u : Counted) (labelled : AllLabelled u) where
+  -- a gate shows a wind if it is valid
   shows-same : (g : ℕ) → g < u .rays * u .gates → showsWind (getD (u .mask) g 0) (getD (u .labels) g 0) ≡ eqb (getD (u .mask) g 0) 1
   unfolding showsWind
   shows-same g h = go (eqb (getD (u .mask) g 0) 1) refl
@@ -150,14 +153,9 @@ module _ (u : Counted) (labelled : AllLabelled u) where
       go true e = rw (ne-eqb (getD (u .labels) g 0) 0 (labelled g h (eqb-true (getD (u .mask) g 0) 1 e))) refl
       go false e = refl
 
-  all-same : (p q : ℕ → Bool) (n k : ℕ) → ((i : ℕ) → k ≤ i → i < n + k → p i ≡ q i) → all p (upto n k) ≡ all q (upto n k)
-  unfolding all upto
-  all-same p q zero k h = refl
-  all-same p q (suc n) k h = λ i. h k (omega arith) (omega arith) i && all-same p q n (suc k) (λ j a b. h j (omega arith) (omega arith)) i
-
 pub all-labelled : LabelsPlayNoPart
-unfolding velocities countsInRange unfoldedAt
+unfolding velocities countsInRange countPasses unfoldedAt
 all-labelled u labelled = record {
   velocities = tab-same _ _ (u .rays * u .gates) (λ g h. rw (shows-same u labelled g h) refl);
-  counts = all-same u labelled _ _ (u .rays * u .gates) 0 (λ g p h. rw (shows-same u labelled g (omega arith)) refl);
+  counts = all-same _ _ (u .rays * u .gates) 0 (λ g p h. rw (shows-same u labelled g (omega arith)) refl);
 }

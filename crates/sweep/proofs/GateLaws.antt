@@ -17,8 +17,8 @@ use Rattle.arithmetic.specs.Intervals.{velocityInRange}
 use Rattle.network.specs.Network.{bounded}
 use Rattle.sweep.specs.Questions.{ask, firstNo, velocitiesInRange}
 use Rattle.sweep.specs.Entry.{answerOf}
-use Rattle.sweep.specs.Velocity.{showsWind}
-use Rattle.sweep.specs.Inside.Gates.{velocityPasses, countPasses, gateAsked, gatesAsked}
+use Rattle.sweep.specs.Velocity.{showsWind, countPasses}
+use Rattle.sweep.specs.Inside.Gates.{velocityPasses, gateAsked, gatesAsked}
 use Rattle.sweep.proofs.QuestionLaws.{on, no, speed-turn, speed-end}
 
 -- ---- one gate

@@ -23,7 +23,7 @@ use Rattle.network.specs.Network.{bounded}
 use Rattle.sweep.specs.Questions.{ask, firstNo, lengthsFit, velocitiesInRange}
 use Rattle.sweep.specs.Entry.{answerOf}
 use Rattle.sweep.specs.Velocity.{Counted, VelocityAnswer, wind, showsWind, unfoldedAt, velocities, ownLong, countsInRange, askedVelocity, callVelocity}
-use Rattle.sweep.specs.Inside.Gates.{countPasses, gatesAsked}
+use Rattle.sweep.specs.Inside.Gates.{gatesAsked}
 use Rattle.sweep.proofs.QuestionLaws.{zero-none, all-yes}
 use Rattle.sweep.proofs.PassedLaws.{long-are, three-are}
 use Rattle.sweep.proofs.GateLaws.{countTest}
@@ -117,7 +117,7 @@ module _ (u : Counted) (k : ℕ) where
 
   -- its questions 7 and 10, put gate by gate
   pub gates-are : length (u .vel) ≡ u .rays * u .gates → gatesAsked (u .vel) (u .mask) (u .counts) (u .labels) ≡ firstNo (ask 7 (velocitiesInRange (u .vel) (u .mask)) ∷ ask 10 (countsInRange u) ∷ [])
-  unfolding gatesAsked countsInRange countPasses
+  unfolding gatesAsked countsInRange
   gates-are b = ap (λ (j : ℕ). firstNo (ask 7 (velocitiesInRange (u .vel) (u .mask)) ∷ ask 10 (all (countTest (u .mask) (u .counts) (u .labels)) (upto j 0)) ∷ [])) b
 
   -- no question has the number 0

@@ -11,5 +11,5 @@ unfolding Below.evaluating Sweep.regionsOf Sweep.pairsOf Sweep.sizes Sweep.netwo
     Questions.lengthsFit Questions.maskIsBits Questions.workSuffices Questions.optionsInRange Questions.velocitiesInRange
     Questions.atMost Questions.limitsFew Questions.ownLimits Questions.seven Questions.room
     Questions.asked Questions.firstMissed Questions.answered Questions.outcome Questions.asked9 Call.lengths Call.cleared Call.clearedFor Call.workedOn Call.ending Call.call Velocity.wind
-    Velocity.showsWind Velocity.unfoldedAt Velocity.velocities Velocity.ownLong Velocity.countsInRange Velocity.askedVelocity Velocity.callVelocity
+    Velocity.showsWind Velocity.unfoldedAt Velocity.velocities Velocity.ownLong Velocity.countPasses Velocity.countsInRange Velocity.askedVelocity Velocity.callVelocity
 evaluating = tt

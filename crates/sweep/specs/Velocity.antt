@@ -47,9 +47,13 @@ velocities u = tabulate (u .rays * u .gates) (λ g. unfoldedAt (u .nyquist) (get
 unfoldable pub ownLong : Counted → ℕ → Bool
 ownLong u k = let n = u .rays * u .gates in eqb (length (u .counts)) n && eqb (length (u .labels)) n && eqb k n
 
--- question 10: the counts at the gates that show a wind
+-- question 10 of a gate with mask byte m, count c and label l: it is put where the gate shows a wind
+unfoldable pub countPasses : ℕ → ℤ → ℕ → Bool
+countPasses m c l = not (showsWind m l) || bounded 2000 c
+
+-- question 10
 unfoldable pub countsInRange : Counted → Bool
-countsInRange u = all (λ g. not (showsWind (getD (u .mask) g 0) (getD (u .labels) g 0)) || bounded 2000 (getD (u .counts) g (pos 0))) (upto (u .rays * u .gates) 0)
+countsInRange u = all (λ g. countPasses (getD (u .mask) g 0) (getD (u .counts) g (pos 0)) (getD (u .labels) g 0)) (upto (u .rays * u .gates) 0)
 
 -- questions 1, 2, 3, 5, 7 and 10
 unfoldable pub askedVelocity : Counted → ℕ → Option ℕ

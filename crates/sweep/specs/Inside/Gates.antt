@@ -9,17 +9,12 @@ use lib.IntN.{ℤ, pos}
 use lib.Ieee.{Float}
 use Rattle.lists.specs.Seq.{upto, all}
 use Rattle.arithmetic.specs.Intervals.{velocityInRange}
-use Rattle.network.specs.Network.{bounded}
 use Rattle.sweep.specs.Questions.{ask, firstNo, velocitiesInRange}
-use Rattle.sweep.specs.Velocity.{showsWind}
+use Rattle.sweep.specs.Velocity.{countPasses}
 
 -- question 7 of a gate with velocity v and mask byte m
 unfoldable pub velocityPasses : Float → ℕ → Bool
 velocityPasses v m = not (eqb m 1) || velocityInRange v
-
--- question 10 of a gate with mask byte m, count c and label l
-unfoldable pub countPasses : ℕ → ℤ → ℕ → Bool
-countPasses m c l = not (showsWind m l) || bounded 2000 c
 
 -- both of one gate
 unfoldable pub gateAsked : Float → ℕ → ℤ → ℕ → Option ℕ
