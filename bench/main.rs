@@ -1,6 +1,7 @@
-//! Times the proved sweep entry beside the Rust on made weather sweeps, in one process, and the entry's stages one by one. Every count of
-//! both sides is compared. Prints a table, and writes it to the file given: rows of comma-separated numbers, for plot.py. Or, with `once` or
-//! `stages` and a sweep's rays, gates and roughness, makes one call, or times the stages alone.
+//! Times the proved sweep entry beside the Rust on made weather and on test sweeps from seed 1, in one process, and the entry's stages one by one. Every
+//! count of both sides is compared. Prints a table, and writes it to the file given: rows of comma-separated fields, for plot.py. Below the table stand
+//! the crc32 of the test sweeps' fold counts and the time of one fill. Or, with `once` or `stages` and a weather sweep's rays, gates and roughness, makes
+//! one call, or times the stages alone.
 extern crate radish_oracle;
 use radish_oracle::dealias::dealias_region_based;
 use radish_oracle::make::weather;
@@ -12,6 +13,9 @@ use std::time::Instant;
 #[allow(dead_code)]
 mod jivakkol;
 use jivakkol::jivakkol_dealias_sweep;
+#[path = "../tests/differential/filled.rs"]
+mod filled;
+use filled::{crc32, fill, filled};
 #[allow(dead_code)]
 mod stages;
 use stages::*;
@@ -25,6 +29,7 @@ struct Lent {
     floats: Vec<f64>,
 }
 
+const SIZES: [(usize, usize); 4] = [(90, 250), (180, 500), (360, 1000), (720, 1200)];
 const STAGES: [&str; 7] = ["intervals", "labels", "looks", "sort", "network", "output", "clearing"];
 
 fn call(s: &Sweep, l: &mut Lent) {
@@ -139,21 +144,49 @@ fn beside_rust(s: &Sweep, ours: &[i32]) -> f64 {
     best
 }
 
-/// One row: rays, gates, roughness, regions, merges, seconds of the Rust, of the entry, of a plain fill of its work memory, of each stage.
-fn measure(rays: usize, gates: usize, rough: f64) -> Vec<f64> {
-    let s = weather(7, rays, gates, rough);
-    let n = rays * gates;
-    let limits = limits(&s);
-    let mut l = lent(n);
+/// One row: a sweep and its name, regions, merges, the crc32 of its counts, and the least seconds of the Rust, of the entry, of a plain fill of its work
+/// memory and of each stage.
+struct Row {
+    rays: usize,
+    gates: usize,
+    name: String,
+    pair: [u32; 2],
+    crc32: u32,
+    rust: f64,
+    entry: f64,
+    fill: f64,
+    stages: [f64; 7],
+}
+
+impl Row {
+    /// As a row of the table.
+    fn shown(&self) -> String {
+        let (rust, entry) = (self.rust, self.entry);
+        let sweep = format!("| {} × {} | {} | {} | {} |", self.rays, self.gates, self.name, self.pair[0], self.pair[1]);
+        let ratios = format!(" {rust:.4} | {entry:.4} | {:.1} | {:.1} | {:.4} |", rust / entry, rust / (entry - self.stages[6]), self.fill);
+        sweep + &ratios + &self.stages.map(|x| format!(" {x:.4} |")).concat()
+    }
+
+    /// As fields for plot.py.
+    fn fields(&self) -> String {
+        let seconds = [self.rust, self.entry, self.fill].iter().chain(&self.stages).map(|x| format!(",{x}")).collect::<String>();
+        format!("{},{},{},{},{}{seconds}\n", self.rays, self.gates, self.name, self.pair[0], self.pair[1])
+    }
+}
+
+/// Times one sweep. Entry, stages and Rust must give the same counts.
+fn measure(s: &Sweep, name: &str) -> Row {
+    let limits = limits(s);
+    let mut l = lent(s.rays * s.gates);
     let (mut entry, mut fill, mut stages) = (f64::MAX, f64::MAX, [f64::MAX; 7]);
     let mut ours: (Vec<i32>, Vec<u8>) = (Vec::new(), Vec::new());
     for _ in 0..7 {
         make_dirty(&mut l);
-        entry = entry.min(timed(|| call(&s, &mut l)));
+        entry = entry.min(timed(|| call(s, &mut l)));
         ours = (l.folds.clone(), l.doubtful.clone());
         make_dirty(&mut l);
-        keep_least(&mut stages, staged(&s, &limits, &mut l));
-        assert!((&l.folds, &l.doubtful) == (&ours.0, &ours.1), "{rays} x {gates} at roughness {rough}: counts or marks of the stages differ");
+        keep_least(&mut stages, staged(s, &limits, &mut l));
+        assert!((&l.folds, &l.doubtful) == (&ours.0, &ours.1), "{} x {}, {name}: counts or marks of the stages differ", s.rays, s.gates);
         make_dirty(&mut l);
         fill = fill.min(timed(|| {
             l.work.fill(0);
@@ -161,12 +194,18 @@ fn measure(rays: usize, gates: usize, rough: f64) -> Vec<f64> {
             black_box((&l.work, &l.floats));
         }));
     }
-    let mut row = vec![rays as f64, gates as f64, rough, l.pair[0] as f64, l.pair[1] as f64, beside_rust(&s, &ours.0), entry, fill];
-    row.extend(stages);
-    row
+    let rust = beside_rust(s, &ours.0);
+    Row { rays: s.rays, gates: s.gates, name: name.into(), pair: l.pair, crc32: crc32(&ours.0), rust, entry, fill, stages }
 }
 
-/// The made sweep that three words name: rays, gates and roughness.
+/// The least seconds of twenty fills of one test sweep.
+fn filling(rays: usize, gates: usize) -> f64 {
+    let mut s = filled(1, rays, gates);
+    let mut one = || timed(|| fill(1, rays, gates, &mut s.velocities, &mut s.mask));
+    (0..20).map(|_| one()).fold(f64::MAX, f64::min)
+}
+
+/// The weather that three words name: rays, gates and roughness.
 fn named(words: &[String]) -> Sweep {
     let number = |i: usize| words[i].parse::<usize>().expect("a number");
     weather(7, number(0), number(1), words[2].parse().expect("a roughness"))
@@ -204,18 +243,25 @@ fn main() {
         return alone(&words[1..]);
     }
     let file = words.first().expect("a file to write the rows to");
-    println!("| rays × gates | roughness | regions | merges | Rust s | entry s | ratio | without clearing | plain fill s | {} |", STAGES.join(" | "));
+    println!("| rays × gates | sweep | regions | merges | Rust s | entry s | ratio | without clearing | plain fill s | {} |", STAGES.join(" | "));
     println!("|{}", "---|".repeat(9 + STAGES.len()));
-    let mut rows = String::new();
+    let (mut rows, mut sums) = (String::new(), String::new());
+    let mut add = |s: Sweep, name: &str| {
+        let row = measure(&s, name);
+        println!("{}", row.shown());
+        rows += &row.fields();
+        row
+    };
     for rough in [0.0, 2.0, 8.0] {
-        for (rays, gates) in [(90, 250), (180, 500), (360, 1000), (720, 1200)] {
-            let r = measure(rays, gates, rough);
-            print!("| {rays} × {gates} | {rough} | {} | {} | {:.4} | {:.4} |", r[3], r[4], r[5], r[6]);
-            print!(" {:.1} | {:.1} | {:.4} |", r[5] / r[6], r[5] / (r[6] - r[14]), r[7]);
-            println!("{}", r[8..].iter().map(|x| format!(" {x:.4} |")).collect::<String>());
-            rows += &r.iter().map(|x| format!("{x}")).collect::<Vec<_>>().join(",");
-            rows += "\n";
+        for (rays, gates) in SIZES {
+            add(weather(7, rays, gates, rough), &format!("roughness {rough}"));
         }
     }
+    for (rays, gates) in SIZES {
+        let row = add(filled(1, rays, gates), "seed 1");
+        sums += &format!("seed 1, {rays} × {gates}: crc32 of the fold counts {:08x}, of both sides\n", row.crc32);
+    }
+    print!("{sums}");
+    println!("one fill of 720 × 1200: {:.6} s", filling(720, 1200));
     std::fs::write(file, rows).expect("the rows can be written");
 }

@@ -2,7 +2,7 @@
  * and the regions as a PPM picture.
  *
  * usage: host SWEEP PICTURE. The form of a sweep file stands at jivakkol_read_sweep in jivakkol.h. Speeds are printed in m/s. */
-#include "jivakkol.h"
+#include "calls.h"
 #include "picture.h"
 
 #include <math.h>
@@ -10,31 +10,7 @@
 #include <stdlib.h>
 #include <string.h>
 
-typedef struct {
-    uint32_t rays, gates, splits, skip_rays, skip_gates, centered, wrap;
-    float nyquist;
-    float *velocity;
-    uint8_t *valid;
-} sweep;
-
-/* What a refusal's number says. */
-static const char *refusal(uint32_t answer)
-{
-    static const char *const words[] = {
-        "none", "rays above 720 or gates above 1,200", "a slice of another length", "a mask byte other than 0 and 1",
-        "too little work memory", "Nyquist not 0.125 to 1,024", "an option out of its range", "a valid velocity not -16,384 to 16,384",
-        "more than 10,000 limits", "a merge or a count beyond 1,000 folds", "a count beyond 2,000 folds",
-        "a field missing, cut short or of the wrong length", "a wrong tag, a set spare bit, or bytes after the last ray",
-    };
-    return answer < sizeof words / sizeof *words ? words[answer] : "no number of this library";
-}
-
-/* Says on standard error what was refused and why; answers 0. */
-static int refused(const char *what, uint32_t answer)
-{
-    fprintf(stderr, "host: %s is refused, answer %u: %s\n", what, answer, refusal(answer));
-    return 0;
-}
+const char program[] = "host";
 
 /* The bytes of a file, at most one more than the largest sweep has: a longer file is refused by these as by all. Null where it cannot be
  * read. */
@@ -73,13 +49,6 @@ static int read_sweep(const char *path, const uint8_t *file, size_t length, swee
     return answer == 0 || refused(path, answer);
 }
 
-/* The memory that a call works in; both calls that need it ask for the same. */
-typedef struct {
-    uint32_t *words;
-    double *floats;
-    size_t words_len, floats_len;
-} work_memory;
-
 /* What the calls find of a sweep. */
 typedef struct {
     int32_t *folds;
@@ -91,14 +60,10 @@ typedef struct {
 /* Finds each gate's fold count and mark, and the number of regions. Answers 0 where the library refused. */
 static int find_folds(const sweep *s, work_memory work, findings *f)
 {
-    size_t n = (size_t)s->rays * s->gates;
     uint32_t pair[2] = {0, 0};
-    uint32_t answer = jivakkol_dealias_sweep(s->rays, s->gates, s->nyquist, s->splits, s->skip_rays, s->skip_gates, s->centered, s->wrap,
-                                             s->velocity, n, s->valid, n, f->folds, n, f->doubtful, n, pair, 2, work.words,
-                                             work.words_len, work.floats, work.floats_len);
-    if (answer != 0)
-        return refused("the sweep", answer);
-    printf("answer %u, regions %u, merges %u\n", answer, pair[0], pair[1]);
+    if (!sweep_folds(s, work, f->folds, f->doubtful, pair))
+        return 0;
+    printf("answer 0, regions %u, merges %u\n", pair[0], pair[1]);
     f->regions = pair[0];
     return 1;
 }
@@ -190,8 +155,7 @@ int main(int count, char **word)
         return 2;
     }
     size_t n = (size_t)s.rays * s.gates;
-    work_memory work = {lent(JIVAKKOL_WORK_WORDS(n), sizeof(uint32_t)), lent(JIVAKKOL_WORK_FLOATS(n), sizeof(double)),
-                        JIVAKKOL_WORK_WORDS(n), JIVAKKOL_WORK_FLOATS(n)};
+    work_memory work = lent_work(n);
     findings f = {lent(n, sizeof *f.folds), lent(n, 1), lent(n, sizeof *f.labels), 0, lent(n, sizeof *f.unfolded)};
     int done = find_folds(&s, work, &f) && map_regions(&s, work, &f) && unfold(&s, &f) && draw(&s, &f, word[2]);
     free(work.words);

@@ -16,9 +16,6 @@ typedef struct {
     double most;                       /* the m/s that get full colour */
 } sweep_view;
 
-/* Zeroed memory; where there is none the program ends with a message. */
-void *lent(size_t count, size_t size);
-
 /* Writes the picture as a PPM file. Answers 0 where the file cannot be written. */
 int write_picture(const char *path, const sweep_view *view);
 

@@ -1,12 +1,12 @@
-/* The exported entries of Jivakkol: fold counts and marks of a radar sweep, its merge book, its region map, its unfolded velocities, and sweep
- * files.
+/* The exported entries of Jivakkol: fold counts and marks of a radar sweep, its merge book, its region map, its unfolded velocities, sweep
+ * files, and test sweeps.
  *
  * Every slice is a pointer and a length. What a host must see to: no slice that a call writes overlaps another that it is given; memory is
  * initialised, and no other thread uses it while the call lasts (calls on different memory may run at once); the thread has about 80 KB of stack
  * left; the processor rounds to nearest and does not flush subnormals.
  * For each input the answer and all memory lent are what crates/sweep/specs/Call.antt (`call`), crates/sweep_book/specs/Book.antt (`callBook`),
- * crates/map/specs/Map.antt (`callMap`), crates/sweep/specs/Velocity.antt (`callVelocity`) and crates/files/specs/Calls.antt (`callRead`, `callWrite`,
- * `callSize`) say.
+ * crates/map/specs/Map.antt (`callMap`), crates/sweep/specs/Velocity.antt (`callVelocity`), crates/files/specs/Calls.antt (`callRead`, `callWrite`,
+ * `callSize`) and crates/test_sweep/specs/Call.antt (`callTest`) say.
  */
 #ifndef JIVAKKOL_H
 #define JIVAKKOL_H
@@ -132,6 +132,21 @@ uint32_t jivakkol_write_sweep(
  * Answers 0; or 2 for a size of another length, before all else; or 11, 12 or 1 as jivakkol_read_sweep answers them to the first field. A
  * refusal leaves size unchanged. */
 uint32_t jivakkol_sweep_size(const uint8_t *file, size_t file_len, uint32_t *size, size_t size_len);
+
+/* The Nyquist velocity of test sweeps. */
+#define JIVAKKOL_TEST_NYQUIST 16.0f
+
+/* A test sweep from a seed number, by which sites compare installations: velocity and valid are filled, and the one word of state, at first the
+ * seed, is replaced by the state after the last gate.
+ *
+ * Each gate, ray by ray, replaces the state by state * 1,664,525 + 1,013,904,223 modulo 2^32. It is masked (valid 0, else 1) if the new state's top
+ * three bits are all zero. With k the new state's bits 8 to 19 its velocity is (k - 2,048) / 128, masked or not: a whole multiple of 1/128 from
+ * -16 to 2,047/128. Its Nyquist velocity is 16, which is the reader's to know.
+ * Rays filled call after call, each from the state that the one before left, are the same sweep and end in the same state as filled at once.
+ * velocity and valid have rays * gates elements, state has 1. Answers 0, or 1 or 2 (these three slices) as above with everything lent unchanged.
+ * The questions that other entries put to mask and velocities, 3 and 7, always get a yes of a test sweep. */
+uint32_t jivakkol_test_sweep(
+    uint32_t rays, uint32_t gates, uint32_t *state, size_t state_len, float *velocity, size_t velocity_len, uint8_t *valid, size_t valid_len);
 
 #ifdef __cplusplus
 }

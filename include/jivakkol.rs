@@ -32,4 +32,7 @@ extern "C" {
         file: *mut u8, file_len: usize,
     ) -> u32;
     pub fn jivakkol_sweep_size(file: *const u8, file_len: usize, size: *mut u32, size_len: usize) -> u32;
+    pub fn jivakkol_test_sweep(
+        rays: u32, gates: u32, state: *mut u32, state_len: usize, velocity: *mut f32, velocity_len: usize, valid: *mut u8, valid_len: usize,
+    ) -> u32;
 }

@@ -1,6 +1,7 @@
 //! Feeds the same made sweeps to the proved entries (the static library) and to the Rust, in one process, and compares every result: answer
 //! number, counts, marks, pair, labels, number of regions, and every word of lent memory that must or must not change. Sweep files: files.rs.
 //! Edge records, from the stages of a call: records.rs. Merges at and beside a near tie: marks.rs. The merge book: books.rs. The second entry: velocity.rs.
+//! Test sweeps from a seed number: seeds.rs.
 extern crate radish_oracle;
 use radish_oracle::make::{sized, small, weather, Rng};
 use radish_oracle::Sweep;
@@ -11,8 +12,10 @@ mod jivakkol;
 use jivakkol::{jivakkol_dealias_sweep, jivakkol_region_map};
 mod books;
 mod files;
+mod filled;
 mod marks;
 mod records;
+mod seeds;
 mod velocity;
 
 /// What a call is lent; filled with values that a call must not leave where it clears, and must leave where it does not.
@@ -359,6 +362,7 @@ fn main() {
     files::run(count);
     records::run(count / 2);
     books::run(count);
+    seeds::run(count);
     for (name, make) in [("velocities of many exponents", inexact as fn(&mut Rng) -> Sweep), ("tipping sums", tipping)] {
         let mut other = [0u64; 3];
         for _ in 0..count / 10 {

@@ -6,6 +6,7 @@ ghost use Rattle.sweep_book.specs.Book.{callBook, bookAnswerBy};
 ghost use Rattle.map.specs.Map.{callMap, mapMemoryOf, mapAnswerBy};
 ghost use Rattle.sweep.specs.Velocity.{callVelocity, counted, velocityAnswerBy};
 ghost use Rattle.files.specs.Format.{optionsOf};
+ghost use Rattle.test_sweep.specs.Call.{slicesOf, callTest, testAnswerBy};
 ghost use Rattle.files.specs.Calls.{callRead, readAnswerBy, callWrite, writtenBy, callSize, sizeAnswerBy};
 
 // A sweep's fold counts and the marks of its doubtful merges, with the numbers of regions and of merges.
@@ -214,4 +215,19 @@ pub extern "C" fn jivakkol_sweep_size(file: &[u8], size: &mut [u32]) -> u32
     ensures { λ r. ⌜ sizeAnswerBy r (now (size .exit)) ≡ callSize (now (file .entry)) (now (size .entry)) ⌝ }
 {
     files::entry::sweep_size(file, size)
+}
+
+// A test sweep from a seed number; the one word of state is replaced.
+#[no_mangle]
+pub extern "C" fn jivakkol_test_sweep(
+    rays: u32,
+    gates: u32,
+    state: &mut [u32],
+    velocity: &mut [f32],
+    valid: &mut [u8],
+) -> u32
+    ensures { λ r. ⌜ testAnswerBy r (now (state .exit)) (slicesOf (now (velocity .exit)) (now (valid .exit)))
+        ≡ callTest rays gates (now (state .entry)) (slicesOf (now (velocity .entry)) (now (valid .entry))) ⌝ }
+{
+    test_sweep::entry::test_sweep(rays, gates, state, velocity, valid)
 }

@@ -15,7 +15,9 @@ use Rattle.sweep.specs.Entry.{answerOf}
 use Rattle.sweep.specs.Velocity.{askedVelocity}
 use Rattle.map.specs.Map.{askedMap}
 use Rattle.sweep.proofs.QuestionLaws.{on, no, no-meets}
-use Rattle.locality.specs.Theorems.{Larger, OneIsSize, SweepSize, VelocitySize}
+use Rattle.test_sweep.specs.Call.{askedTest, callTest}
+use Rattle.test_sweep.proofs.CallLaws.{test-answer-is}
+use Rattle.locality.specs.Theorems.{Larger, OneIsSize, SweepSize, VelocitySize, TestSize}
 use Rattle.locality.specs.RegionMap.{MapSize}
 use Rattle.locality.proofs.EntryTheorems.{answer-is}
 use Rattle.locality.proofs.VelocityTheorems.{velocity-answer-is}
@@ -62,3 +64,7 @@ velocity-one-is-size u out a c = one-of (u .rays) (u .gates) _ refl (a .number) 
 pub map-one-is-size : MapSize
 unfolding askedMap seven all
 map-one-is-size s m a c = one-of (s .shape .rays) (s .shape .gates) _ refl (a .number) (map-answer-is s m a c)
+
+pub test-one-is-size : TestSize
+unfolding askedTest all
+test-one-is-size rays gates word m = one-of rays gates _ refl (callTest rays gates word m .number) (test-answer-is rays gates word m)

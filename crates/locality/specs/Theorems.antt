@@ -18,6 +18,7 @@ use Rattle.sweep.specs.Questions.{gatesIn, asked, firstMissed, ownLimits}
 use Rattle.sweep.specs.Call.{Memory, Answer, lengths, clearedFor, call}
 use Rattle.sweep.specs.Entry.{answerOf}
 use Rattle.sweep.specs.Velocity.{Counted, VelocityAnswer, velocities, askedVelocity, callVelocity}
+use Rattle.test_sweep.specs.Call.{Slices, callTest}
 use Rattle.locality.specs.Demand3.{Apart, MergeList, Does, labelAt, first, countAt, markAt, Alike, offset, Agree}
 
 -- the contract of the entry
@@ -129,3 +130,9 @@ VelocityRefusalKeeps = (u : Counted) (out : List Float) (a : VelocityAnswer) →
 -- `velocities-are`: a call that answers 0 leaves the definition's velocities
 abbrev pub VelocitiesAre : Type 0
 VelocitiesAre = (u : Counted) (out : List Float) (a : VelocityAnswer) → CalledVelocity u out a → a .number ≡ 0 → a .unfolded ≡ velocities u
+
+-- ---- the entry that fills test sweeps: its other statements stand in test_sweep
+
+-- `test-one-is-size`: it answers 1 exactly if the sweep is larger than the largest
+abbrev pub TestSize : Type 0
+TestSize = (rays gates : ℕ) (word : List ℕ) (m : Slices) → OneIsSize rays gates (callTest rays gates word m .number)

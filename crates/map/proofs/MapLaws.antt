@@ -47,12 +47,6 @@ module _ (w l₀ : List ℕ) where
       ∙ sym (seg-all (put l₀ 0 (seg w 0 n)) (length (seg w 0 n)) (length-put l₀ 0 (seg w 0 n) ∙ k ∙ sym long))
       ∙ seg-put-same l₀ 0 (seg w 0 n) (omega arith)
 
--- one word set
-pub one-set : (l : List ℕ) (k : ℕ) → length l ≡ 1 → set l 0 k ≡ k ∷ []
-one-set [] k e = absurd (omega arith)
-one-set (x ∷ []) k e = refl
-one-set (x ∷ y ∷ l) k e = absurd (omega arith)
-
 module _ (s : Sweep) (m : MapMemory) where
   -- the call's end by the first no
   abbrev pub mapEnd : Option ℕ → MapAnswer

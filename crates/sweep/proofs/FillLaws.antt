@@ -1,9 +1,9 @@
--- A slice filled place by place from its front. Assumes nothing.
+-- A slice filled place by place from its front, and one of a single word. Assumes nothing.
 use Prim.Native.Nat.{ℕ, _+_, _-_, _≤_}
 use native.Mathlib.Omega.{arith}
 use mathlib.Core.Path.{_≡_, refl, sym, ap, _∙_}
 use mathlib.Core.Logic.{⊎-elim}
-use mathlib.Core.List.{List, _++_, append-nil}
+use mathlib.Core.List.{List, [], _∷_, _++_, append-nil}
 use lib.ListN.{length, getD, set, drop, replicate, length-append, length-drop, length-replicate, getD-replicate, List·getD-append}
 use lib.Seq.{getD-append-add, getD-drop, drop-length}
 use Rattle.lists.specs.Seq.{upto, tabulate}
@@ -58,3 +58,9 @@ module _ {A : Type 0} where
   -- all of a slice in one value
   pub put-all : (w : List A) (z : A) (n : ℕ) → n ≡ length w → put w 0 (replicate n z) ≡ replicate (length w) z
   put-all w z n e = ap (λ (k : ℕ). put w 0 (replicate k z)) e ∙ ap (put w 0) (sym (zeros z (length w))) ∙ fill-all (λ _. z) w (put w 0 (tabulate (length w) (λ _. z))) (length w) (length w) refl refl refl ∙ zeros z (length w)
+
+-- one word set
+pub one-set : (l : List ℕ) (k : ℕ) → length l ≡ 1 → set l 0 k ≡ k ∷ []
+one-set [] k e = absurd (omega arith)
+one-set (x ∷ []) k e = refl
+one-set (x ∷ y ∷ l) k e = absurd (omega arith)

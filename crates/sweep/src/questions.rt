@@ -65,7 +65,7 @@ fn three_long(one: usize, two: usize, three: usize, n: usize) -> bool
 }
 
 // Question 2, n being the gates that the sweep should have, and `own` the entry's own part.
-fn lengths_fit(n: usize, velocity: &[f32], valid: &[u8], own: bool) -> bool
+pub fn lengths_fit(n: usize, velocity: &[f32], valid: &[u8], own: bool) -> bool
     ensures { λ r. ⌜ r ≡ lengthsFit n (now (velocity .entry)) (now (valid .entry)) own ⌝ }
 {
     velocity.len() == n && (valid.len() == n && own)

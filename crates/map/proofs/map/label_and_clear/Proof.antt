@@ -5,7 +5,7 @@ use Prim.Native.Nat.{ℕ}
 use lib.ListN.{replicate}
 use borrow.Author.Needs.{needs}
 use Rattle.lists.specs.Inside.Seg.{seg}
-use Rattle.map.proofs.MapLaws.{one-set}
+use Rattle.sweep.proofs.FillLaws.{one-set}
 use Rattle.map.proofs.map.label_and_clear.Statement.{statement}
 use Rattle.map.proofs.map.label_and_clear.Tie as tie
 

@@ -1,0 +1,4 @@
+pub mod StateLaws
+pub mod CallLaws
+pub mod Parts
+pub mod Exact
