@@ -1,13 +1,14 @@
 -- The calls that fill a test sweep by the answer of their questions, and one word of state written. Assumes nothing.
 use Prim.Native.Nat.{ℕ, _*_}
+use native.Mathlib.Omega.{arith}
 use mathlib.Core.Path.{_≡_, refl, sym, ap, _∙_}
-use mathlib.Core.Bool.{Bool, true}
+use mathlib.Core.Bool.{Bool, true, false, true≢false}
 use mathlib.Core.List.{List, [], _∷_}
 use mathlib.Core.Option.{Option, none, some}
 use lib.Dec.{eqb}
 use lib.ListN.{length, getD, set}
 use lib.Ieee.{Float}
-use borrow.Author.Tests.{eqb-true}
+use borrow.Author.Tests.{ne-eqb}
 use Rattle.lists.specs.Seq.{all}
 use Rattle.sweep.specs.Entry.{answerOf}
 use Rattle.sweep.proofs.FillLaws.{one-set}
@@ -80,21 +81,38 @@ module _ (rays gates : ℕ) (word : List ℕ) (m : Slices) where
   unfolding callTest
   test-ends = refl
 
-  pub test-refused : (r : ℕ) → askedTest rays gates m own ≡ some r → testAnswerBy r word m ≡ callTest rays gates word m
+  test-refused : (r : ℕ) → askedTest rays gates m own ≡ some r → testAnswerBy r word m ≡ callTest rays gates word m
   test-refused r h = sym (test-ends ∙ ap testEnd h)
 
-  pub one-word : askedTest rays gates m own ≡ none → length word ≡ 1
-  one-word h = eqb-true (length word) 1 (lengths rays gates m own h .2)
+  -- a state of another length than one word
+  pub test-other : (length word ≡ 1 → ⊥) → (r : ℕ) → r ≡ answerOf (askedTest rays gates m false) → testAnswerBy r word m ≡ callTest rays gates word m
+  test-other h r e = test-refused r (ap (askedTest rays gates m) (ne-eqb (length word) 1 h) ∙ some-missed rays gates m false r e (λ z. true≢false (sym (lengths rays gates m false (none-missed rays gates m false r e z) .2))))
 
-  -- the library function's call on the word, and its state written there
-  pub test-done : (a : FillAnswer) → askedTest rays gates m own ≡ none → a ≡ callFill rays gates (getD word 0 0) m → testAnswerBy (a .number) (set word 0 (a .state)) (a .slices) ≡ callTest rays gates word m
-  test-done a h e =
-      let yes = ap (askedTest rays gates m) (sym (lengths rays gates m own h .2)) ∙ h in
-      ap (λ (w : List ℕ). testAnswerBy (a .number) w (a .slices)) (one-set word (a .state) (one-word h))
-      ∙ ap (λ (x : FillAnswer). testAnswerBy (x .number) (x .state ∷ []) (x .slices)) (e ∙ fill-accepted rays gates (getD word 0 0) m yes)
-      ∙ sym (test-ends ∙ ap testEnd h)
+-- with one word it is the library function's call
+pub host-same : HostSame
+unfolding callTest callFill
+host-same rays gates state m = go (askedTest rays gates m true)
+  where
+    go : (o : Option ℕ) → testEnd rays gates (state ∷ []) m o ≡ (let a = fillEnd rays gates state m o in testAnswerBy (a .number) (a .state ∷ []) (a .slices))
+    go none = refl
+    go (some k) = refl
 
--- ---- the statements on one call
+-- one word, read
+one-read : (l : List ℕ) → length l ≡ 1 → getD l 0 0 ∷ [] ≡ l
+one-read [] e = absurd (omega arith)
+one-read (x ∷ []) e = refl
+one-read (x ∷ y ∷ l) e = absurd (omega arith)
+
+-- the library function's call on the word, and its state written there
+pub test-done : (rays gates : ℕ) (word : List ℕ) (m : Slices) → length word ≡ 1 → (a : FillAnswer) → a ≡ callFill rays gates (getD word 0 0) m
+    → testAnswerBy (a .number) (set word 0 (a .state)) (a .slices) ≡ callTest rays gates word m
+test-done rays gates word m h a e =
+    ap (λ (w : List ℕ). testAnswerBy (a .number) w (a .slices)) (one-set word (a .state) h)
+    ∙ ap (λ (x : FillAnswer). testAnswerBy (x .number) (x .state ∷ []) (x .slices)) e
+    ∙ sym (host-same rays gates (getD word 0 0) m)
+    ∙ ap (λ (w : List ℕ). callTest rays gates w m) (one-read word h)
+
+-- ---- the other statements on one call
 
 pub test-answer-is : TestAnswerIs
 test-answer-is rays gates word m = ap (λ (a : TestAnswer). a .number) (test-ends rays gates word m) ∙ go (askedTest rays gates m (eqb (length word) 1))
@@ -108,11 +126,3 @@ test-sweep-is rays gates word m e = test-ends rays gates word m ∙ ap (testEnd 
 
 pub test-refusal-keeps : TestRefusalKeeps
 test-refusal-keeps rays gates word m h = sym (test-refused rays gates word m _ (some-missed rays gates m (eqb (length word) 1) _ (test-answer-is rays gates word m) h))
-
-pub host-same : HostSame
-unfolding callTest callFill
-host-same rays gates state m = go (askedTest rays gates m true)
-  where
-    go : (o : Option ℕ) → testEnd rays gates (state ∷ []) m o ≡ (let a = fillEnd rays gates state m o in testAnswerBy (a .number) (a .state ∷ []) (a .slices))
-    go none = refl
-    go (some k) = refl

@@ -50,7 +50,7 @@ pub fn fill_sweep(
     }
 }
 
-// The same for a host: the one word of state is replaced.
+// The same for a host: the one word of state is replaced. Another length is a no to question 2, which question 1 comes before.
 pub fn test_sweep(
     rays: u32,
     gates: u32,
@@ -63,10 +63,8 @@ pub fn test_sweep(
         ≡ callTest rays gates (now (state .entry)) (slicesOf (now (velocity .entry)) (now (valid .entry)))
         ⌝ }
 {
-    let one = state.len() == 1;
-    let missed = first_missed(rays, gates, velocity, valid, one);
-    if missed != 0 {
-        return missed;
+    if state.len() != 1 {
+        return first_missed(rays, gates, velocity, valid, false);
     }
     let filled = fill_sweep(rays, gates, state[0], velocity, valid);
     state[0] = filled.state;

@@ -36,7 +36,7 @@ fn is_masked(state: u32) -> bool
     state / 536870912 == 0
 }
 
-// Bits 8 to 19: the 2^8s, modulo 2^12.
+// Bits 8 to 19.
 fn twelve_bits(state: u32) -> u32
     ensures { λ r. ⌜ r ≡ twelveBits state ⌝ }
 {
