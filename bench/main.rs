@@ -1,7 +1,7 @@
 //! Times the proved sweep entry beside the Rust on made weather and on test sweeps from seed 1, in one process, and the entry's stages one by one. Every
 //! count of both sides is compared. Prints a table, and writes it to the file given: rows of comma-separated fields, for plot.py. Below the table stand
-//! the crc32 of the test sweeps' fold counts and the time of one fill. Or, with `once` or `stages` and a weather sweep's rays, gates and roughness, makes
-//! one call, or times the stages alone.
+//! the crc32 of the test sweeps' fold counts and the time of one fill. Or, with `once`, `stages` or `two` and a weather sweep's rays, gates and
+//! roughness, makes one call, times the stages alone, or times one call for two channels beside two sweep calls.
 extern crate radish_oracle;
 use radish_oracle::dealias::dealias_region_based;
 use radish_oracle::make::weather;
@@ -12,7 +12,7 @@ use std::time::Instant;
 #[path = "../include/jivakkol.rs"]
 #[allow(dead_code)]
 mod jivakkol;
-use jivakkol::jivakkol_dealias_sweep;
+use jivakkol::{jivakkol_dealias_sweep, jivakkol_dealias_two};
 #[path = "../tests/differential/filled.rs"]
 mod filled;
 use filled::{crc32, fill, filled};
@@ -38,6 +38,20 @@ fn call(s: &Sweep, l: &mut Lent) {
             s.rays as u32, s.gates as u32, s.nyquist, s.splits, s.skip_between_rays, s.skip_along_ray, s.centred, s.wrap,
             s.velocities.as_ptr(), s.velocities.len(), s.mask.as_ptr(), s.mask.len(), l.folds.as_mut_ptr(), l.folds.len(),
             l.doubtful.as_mut_ptr(), l.doubtful.len(), l.pair.as_mut_ptr(), 2, l.work.as_mut_ptr(), l.work.len(), l.floats.as_mut_ptr(), l.floats.len(),
+        )
+    };
+    assert_eq!(number, 0);
+}
+
+/// Horizontal's answer goes into `l`, whose work memory is lent, vertical's into `k`.
+fn call_two(h: &Sweep, v: &Sweep, l: &mut Lent, k: &mut Lent) {
+    let number = unsafe {
+        jivakkol_dealias_two(
+            h.rays as u32, h.gates as u32, h.nyquist, h.splits, h.skip_between_rays, h.skip_along_ray, h.centred, h.wrap,
+            h.velocities.as_ptr(), h.velocities.len(), h.mask.as_ptr(), h.mask.len(), v.velocities.as_ptr(), v.velocities.len(), v.mask.as_ptr(), v.mask.len(),
+            l.folds.as_mut_ptr(), l.folds.len(), l.doubtful.as_mut_ptr(), l.doubtful.len(), l.pair.as_mut_ptr(), 2,
+            k.folds.as_mut_ptr(), k.folds.len(), k.doubtful.as_mut_ptr(), k.doubtful.len(), k.pair.as_mut_ptr(), 2,
+            l.work.as_mut_ptr(), l.work.len(), l.floats.as_mut_ptr(), l.floats.len(),
         )
     };
     assert_eq!(number, 0);
@@ -234,6 +248,25 @@ fn alone(words: &[String]) {
     }
 }
 
+/// One call for a weather sweep and another seed's as its vertical channel, beside a sweep call of each with the same work memory: the least seconds of twenty runs.
+fn two(words: &[String]) {
+    let h = named(words);
+    let v = weather(8, h.rays, h.gates, words[2].parse().expect("a roughness"));
+    let n = h.rays * h.gates;
+    let (mut l, mut k) = (lent(n), lent(n));
+    let (mut both, mut each) = (f64::MAX, f64::MAX);
+    for _ in 0..20 {
+        make_dirty(&mut l);
+        both = both.min(timed(|| call_two(&h, &v, &mut l, &mut k)));
+        make_dirty(&mut l);
+        each = each.min(timed(|| {
+            call(&h, &mut l);
+            call(&v, &mut l);
+        }));
+    }
+    println!("one call for two channels {both:.6}, a sweep call of each {each:.6}");
+}
+
 fn main() {
     let words: Vec<String> = std::env::args().skip(1).collect();
     if words.first().is_some_and(|x| x == "once") {
@@ -241,6 +274,9 @@ fn main() {
     }
     if words.first().is_some_and(|x| x == "stages") {
         return alone(&words[1..]);
+    }
+    if words.first().is_some_and(|x| x == "two") {
+        return two(&words[1..]);
     }
     let file = words.first().expect("a file to write the rows to");
     println!("| rays × gates | sweep | regions | merges | Rust s | entry s | ratio | without clearing | plain fill s | {} |", STAGES.join(" | "));

@@ -1,12 +1,12 @@
-/* The exported entries of Jivakkol: fold counts and marks of a radar sweep, its merge book, its region map, its unfolded velocities, sweep
- * files, and test sweeps.
+/* The exported entries of Jivakkol: fold counts and marks of a radar sweep, its merge book, the same of two channels at once, its region map, its
+ * unfolded velocities, sweep files, and test sweeps.
  *
  * Every slice is a pointer and a length. What a host must see to: no slice that a call writes overlaps another that it is given; memory is
  * initialised, and no other thread uses it while the call lasts (calls on different memory may run at once); the thread has about 80 KB of stack
  * left; the processor rounds to nearest and does not flush subnormals.
  * For each input the answer and all memory lent are what crates/sweep/specs/Call.antt (`call`), crates/sweep_book/specs/Book.antt (`callBook`),
- * crates/map/specs/Map.antt (`callMap`), crates/sweep/specs/Velocity.antt (`callVelocity`), crates/files/specs/Calls.antt (`callRead`, `callWrite`,
- * `callSize`) and crates/test_sweep/specs/Call.antt (`callTest`) say.
+ * crates/channels/specs/Call.antt (`callTwo`), crates/map/specs/Map.antt (`callMap`), crates/sweep/specs/Velocity.antt (`callVelocity`),
+ * crates/files/specs/Calls.antt (`callRead`, `callWrite`, `callSize`) and crates/test_sweep/specs/Call.antt (`callTest`) say.
  */
 #ifndef JIVAKKOL_H
 #define JIVAKKOL_H
@@ -70,6 +70,28 @@ uint32_t jivakkol_dealias_sweep_book(
     const float *velocity, size_t velocity_len, const uint8_t *valid, size_t valid_len,
     int32_t *folds, size_t folds_len, uint8_t *doubtful, size_t doubtful_len, uint32_t *pair, size_t pair_len,
     int32_t *book, size_t book_len, uint32_t *work, size_t work_len, double *work_f64, size_t work_f64_len);
+
+/* jivakkol_dealias_sweep of two channels at once, horizontal and vertical, which one antenna measured with the same rays, gates and Nyquist velocity.
+ *
+ * Shared are the sizes, Nyquist, the options, the work memory and the limits: they come from the least and the greatest valid velocity of both
+ * channels together, so that an interval is the same in both. If neither channel has a valid velocity they are as for a sweep that has none.
+ * All else is each channel's own: regions, looks, merges, the offset of centering, folds, doubtful and pair are what jivakkol_dealias_sweep gives for
+ * that channel by the shared limits. Of the other channel nothing but its least and its greatest valid velocity has a part in them.
+ * h_velocity, h_valid, h_folds, h_doubtful and h_pair are horizontal's slices, those with v_ vertical's, with lengths as for jivakkol_dealias_sweep. The work
+ * memory asked for is that of one channel's gates.
+ * Answers 0, or the number of the first question that got a no, with folds, doubtful and pair of both channels unchanged. Questions 1 to 7, as above, are
+ * put to horizontal, and when all got a yes to vertical: 2, 3 and 7 to the channel's own slices. Then 8 is put to the shared limits; then 9 to horizontal,
+ * and to vertical. So a number does not say which channel it was.
+ * After 0 and 9 the asked words of work memory are zero and any further ones unchanged; after 1 to 8 all are unchanged. */
+uint32_t jivakkol_dealias_two(
+    uint32_t rays, uint32_t gates, float nyquist,
+    uint32_t interval_splits, uint32_t skip_between_rays, uint32_t skip_along_ray,
+    uint32_t centered, uint32_t rays_wrap_around,
+    const float *h_velocity, size_t h_velocity_len, const uint8_t *h_valid, size_t h_valid_len,
+    const float *v_velocity, size_t v_velocity_len, const uint8_t *v_valid, size_t v_valid_len,
+    int32_t *h_folds, size_t h_folds_len, uint8_t *h_doubtful, size_t h_doubtful_len, uint32_t *h_pair, size_t h_pair_len,
+    int32_t *v_folds, size_t v_folds_len, uint8_t *v_doubtful, size_t v_doubtful_len, uint32_t *v_pair, size_t v_pair_len,
+    uint32_t *work, size_t work_len, double *work_f64, size_t work_f64_len);
 
 /* The region map: the label of each gate, 0 where it has none; regions gets the number of regions.
  *

@@ -199,13 +199,15 @@ impl Tally {
 }
 
 /// Velocities some hundred folds apart, up to both sides of question 9, which is met at the first merge or at a later one.
-fn far(r: &mut Rng) -> Sweep {
+pub fn far_apart(r: &mut Rng, n: usize, nyquist: f32) -> Vec<f32> {
+    let apart = r.one_of(&[1, 300, 400, 500, 501, 600]);
+    (0..n).map(|_| (2 * apart * (r.below(4) as i64 - 1) + r.one_of(&[0, 0, 1])) as f32 * nyquist).collect()
+}
+
+pub fn far(r: &mut Rng) -> Sweep {
     let (rays, gates) = (1 + r.below(3) as usize, 2 + r.below(6) as usize);
     let nyquist = r.one_of(&[0.125f32, 1.0, 2.0]);
-    let apart = r.one_of(&[1, 300, 400, 500, 501, 600]);
-    let velocities = (0..rays * gates)
-        .map(|_| (2 * apart * (r.below(4) as i64 - 1) + r.one_of(&[0, 0, 1])) as f32 * nyquist)
-        .collect();
+    let velocities = far_apart(r, rays * gates, nyquist);
     let mask = (0..rays * gates).map(|_| (r.below(10) > 0) as u8).collect();
     let (skip_between_rays, skip_along_ray, centred, wrap) = (r.below(3) as u32, r.below(3) as u32, r.below(2) as u32, r.below(2) as u32);
     Sweep { rays, gates, nyquist, splits: 1, skip_between_rays, skip_along_ray, centred, wrap, velocities, mask }

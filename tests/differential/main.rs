@@ -1,7 +1,7 @@
 //! Feeds the same made sweeps to the proved entries (the static library) and to the Rust, in one process, and compares every result: answer
 //! number, counts, marks, pair, labels, number of regions, and every word of lent memory that must or must not change. Sweep files: files.rs.
 //! Edge records, from the stages of a call: records.rs. Merges at and beside a near tie: marks.rs. The merge book: books.rs. The second entry: velocity.rs.
-//! Test sweeps from a seed number: seeds.rs.
+//! Test sweeps from a seed number: seeds.rs. Two channels with the same limits: two.rs, and pairs.rs makes them.
 extern crate radish_oracle;
 use radish_oracle::make::{sized, small, weather, Rng};
 use radish_oracle::Sweep;
@@ -14,8 +14,10 @@ mod books;
 mod files;
 mod filled;
 mod marks;
+mod pairs;
 mod records;
 mod seeds;
+mod two;
 mod velocity;
 
 /// What a call is lent; filled with values that a call must not leave where it clears, and must leave where it does not.
@@ -363,6 +365,7 @@ fn main() {
     records::run(count / 2);
     books::run(count);
     seeds::run(count);
+    two::run(count);
     for (name, make) in [("velocities of many exponents", inexact as fn(&mut Rng) -> Sweep), ("tipping sums", tipping)] {
         let mut other = [0u64; 3];
         for _ in 0..count / 10 {

@@ -15,6 +15,7 @@ pub mod dealias;
 pub mod book;
 pub mod file;
 pub mod make;
+pub mod pair;
 
 use dealias::access::{
     combine_regions, dealias_sweep, edge_sum_and_count, find_regions, find_sweep_interval_splits, gates_in, next_edge, regions_in,
@@ -131,6 +132,13 @@ impl Sweep {
     fn valid_velocities(&self) -> Vec<f32> {
         self.velocities.iter().zip(&self.mask).filter(|(_, m)| **m == 1).map(|(v, _)| *v).collect()
     }
+    /// The Rust's limits for valid velocities, by the sweep's Nyquist and splits; none where there would be more than 10,000.
+    fn limits_for(&self, velocities: &[f32]) -> Option<Vec<f64>> {
+        find_sweep_interval_splits(self.nyquist, self.splits as usize, velocities).ok()
+    }
+    pub fn own_limits(&self) -> Option<Vec<f64>> {
+        self.limits_for(&self.valid_velocities())
+    }
 
     // The questions that the entries share, each by its number in the scope document.
     fn yes_1(&self) -> bool {
@@ -154,8 +162,8 @@ impl Sweep {
         self.valid_velocities().iter().all(|v| *v >= -16384.0 && *v <= 16384.0)
     }
 
-    /// Questions 1 to 8, the memory being as long as the sweep asks where none is given; 0 where all get a yes.
-    pub fn refused(&self, lent: Option<Lent>) -> u32 {
+    /// Questions 1 to 7, the memory being as long as the sweep asks where none is given; 0 where all get a yes.
+    pub fn refused_before_limits(&self, lent: Option<Lent>) -> u32 {
         let n = self.rays * self.gates;
         if !self.yes_1() {
             return 1;
@@ -178,10 +186,14 @@ impl Sweep {
         if !self.yes_7() {
             return 7;
         }
-        if find_sweep_interval_splits(self.nyquist, self.splits as usize, &self.valid_velocities()).is_err() {
-            return 8;
-        }
         0
+    }
+    /// The same, and question 8.
+    pub fn refused(&self, lent: Option<Lent>) -> u32 {
+        match self.refused_before_limits(lent) {
+            0 if self.own_limits().is_none() => 8,
+            number => number,
+        }
     }
     pub fn refused_before_merging(&self) -> u32 {
         self.refused(None)
@@ -189,8 +201,7 @@ impl Sweep {
 
     /// The Rust's own labels by the sweep's own limits, and the number of regions; for a sweep that passes questions 1 to 8.
     pub fn region_map(&self) -> (Vec<u32>, u32) {
-        let limits = find_sweep_interval_splits(self.nyquist, self.splits as usize, &self.valid_velocities()).unwrap();
-        let (labels, regions) = find_regions(&self.velocity(), &self.valid(), &limits);
+        let (labels, regions) = find_regions(&self.velocity(), &self.valid(), &self.own_limits().unwrap());
         (labels.iter().map(|&l| l as u32).collect(), regions as u32)
     }
 
@@ -230,9 +241,8 @@ impl Sweep {
 
     /// The merges one by one, with question 9 put to each. Stops at the first merge that fails it. The difference of a merge, after the division,
     /// and the regions that it moves are the Rust's own, and so is what `merged` has of it: its trackers are looked at before and after each merge.
-    pub fn trace(&self) -> Trace {
+    pub fn trace_by(&self, limits: Vec<f64>) -> Trace {
         let (velocity, valid) = (self.velocity(), self.valid());
-        let limits = find_sweep_interval_splits(self.nyquist, self.splits as usize, &self.valid_velocities()).unwrap();
         let (labels, regions) = find_regions(&velocity, &valid, &limits);
         let mut sizes = vec![0i64; regions + 1];
         for &l in labels.iter() {
@@ -295,23 +305,47 @@ impl Sweep {
         }
         out
     }
+    /// By the sweep's own limits; for a sweep that passes questions 1 to 8.
+    pub fn trace(&self) -> Trace {
+        self.trace_by(self.own_limits().unwrap())
+    }
+
+    /// What is taken off each count: 0, or with centring the mean count of the gates that have a label, rounded as `dealias_sweep` rounds it.
+    fn offset(&self, t: &Trace) -> i32 {
+        let labelled = || t.labels.iter().zip(&t.uncentred).filter(|(l, _)| **l != 0);
+        let (gates, folds) = (labelled().count(), labelled().map(|(_, &c)| c as i64).sum::<i64>());
+        if self.centred != 1 || gates == 0 {
+            return 0;
+        }
+        (folds as f64 / gates as f64).round_ties_even() as i32
+    }
+
+    /// The answer by these limits, with question 9 alone put. The counts are centred here, as `dealias_sweep` does it: it takes no limits.
+    pub fn answer_by(&self, limits: Vec<f64>) -> Answer {
+        let t = self.trace_by(limits);
+        if !t.within {
+            return Answer::refused(9);
+        }
+        let offset = self.offset(&t);
+        // A valid gate without a label is centred too; a masked one is not.
+        let counts = t.uncentred.iter().zip(&self.mask).map(|(c, &m)| if m == 1 { c - offset } else { 0 }).collect();
+        Answer { number: 0, counts, doubtful: t.doubtful, regions: t.regions as u32, merges: t.merges, offset }
+    }
 
     pub fn answer(&self) -> Answer {
         self.answer_lent(None)
     }
+    /// By the sweep's own limits, where the counts centred here must be those that `dealias_sweep` gives.
     pub fn answer_lent(&self, lent: Option<Lent>) -> Answer {
-        let none = |number| Answer { number, counts: Vec::new(), doubtful: Vec::new(), regions: 0, merges: 0, offset: 0 };
         let number = self.refused(lent);
         if number != 0 {
-            return none(number);
+            return Answer::refused(number);
         }
-        let t = self.trace();
-        if !t.within {
-            return none(9);
+        let a = self.answer_by(self.own_limits().unwrap());
+        if a.number == 0 {
+            assert!(a.counts == self.counts(), "counts centred by the oracle are not those of dealias_sweep\n{}", self.line());
         }
-        let counts: Vec<i32> = self.counts();
-        let offset = (0..counts.len()).find(|&i| self.mask[i] == 1).map_or(0, |i| t.uncentred[i] - counts[i]);
-        Answer { number: 0, counts, doubtful: t.doubtful, regions: t.regions as u32, merges: t.merges, offset }
+        a
     }
 
     /// `dealias_sweep` itself, with no question put first; none where it gives an error (more than 10,000 limits).
@@ -385,6 +419,10 @@ impl Sweep {
 }
 
 impl Answer {
+    fn refused(number: u32) -> Answer {
+        Answer { number, counts: Vec::new(), doubtful: Vec::new(), regions: 0, merges: 0, offset: 0 }
+    }
+
     /// One line: the number; where it is 0 also regions, merges, offset and the counts.
     pub fn line(&self) -> String {
         let mut s = format!("{}", self.number);

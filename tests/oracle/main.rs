@@ -7,6 +7,8 @@
 //! oracle records                read sweeps, one a line; print the Rust's records that become edges: labels, count, count less that with both skips 0
 //! oracle entries                read sweeps, one a line; print the number of the answer and, where it is 0, eight numbers a merge: the six of its
 //!                               entry in the book, how many records its edge is made of, and the base's gates before it
+//! oracle two                    read sweeps, two lines a pair of channels; print the number of the answer by the limits of both and, where it is 0,
+//!                               regions, merges, counts and marks of each channel
 //! oracle calls                  read recorded calls, one a line; print the lines of the entries
 //! oracle unfold                 read a recorded list of sweep files; print for each a line with `=` and its number, and what the program over files prints
 //! oracle book                   the same with what the program over files prints of the merge book
@@ -14,7 +16,7 @@
 //! oracle trace                  read one sweep; print limits, labels, records, merges, uncentred counts and marks
 //! oracle time RAYS GATES ROUGHNESS REPS   time `dealias_region_based` on a made weather sweep
 
-use radish_oracle::{file, is_doubtful, make, Call, Sweep};
+use radish_oracle::{file, is_doubtful, make, pair::Pair, Call, Sweep};
 use std::io::{BufRead, Read, Write};
 
 fn main() {
@@ -43,6 +45,16 @@ fn main() {
                         None => "error".into(),
                     },
                     None => "unreadable".into(),
+                };
+                writeln!(out, "{text}").unwrap();
+            }
+        }
+        Some("two") => {
+            let mut lines = std::io::stdin().lock().lines().map(|line| line.unwrap());
+            while let (Some(h), Some(v)) = (lines.next(), lines.next()) {
+                let text = match (Sweep::parse(&h), Sweep::parse(&v)) {
+                    (Some(h), Some(v)) => Pair { channels: [h, v] }.line(),
+                    _ => "unreadable".into(),
                 };
                 writeln!(out, "{text}").unwrap();
             }
@@ -105,7 +117,7 @@ fn main() {
             writeln!(out, "rays {} gates {} regions {} merges {} seconds {:.4}", s.rays, s.gates, t.regions, t.merges, best).unwrap();
         }
         _ => {
-            eprintln!("usage: oracle make SEED COUNT MOST | doubtful SEED COUNT | answer | calls | counts | marks | map | records | entries");
+            eprintln!("usage: oracle make SEED COUNT MOST | doubtful SEED COUNT | answer | two | calls | counts | marks | map | records | entries");
             eprintln!("       oracle unfold | book | numbers | trace");
             eprintln!("       oracle time RAYS GATES ROUGHNESS REPS");
             std::process::exit(2);

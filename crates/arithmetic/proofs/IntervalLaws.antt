@@ -13,7 +13,7 @@ use lib.Ieee.{Float, nan, lt}
 use Rattle.arithmetic.specs.declared.intervals.Extremes.{Extremes}
 use Rattle.arithmetic.specs.declared.intervals.Extremes.the-variants.{Both, NoneValid}
 use Rattle.lists.specs.Seq.{upto, tabulate}
-use Rattle.arithmetic.specs.Intervals.{valid, least, greatest, range, include, spaced, limitAt, stepOf}
+use Rattle.arithmetic.specs.Intervals.{valid, least, greatest, range, overBoth, include, spaced, limitAt, stepOf}
 use Rattle.arithmetic.specs.Inside.Asked.{front}
 use Rattle.lists.proofs.SeqLaws.{tab-length, tab-snoc}
 
@@ -52,9 +52,15 @@ greatest-snoc x [] v = refl
 greatest-snoc x (u ∷ l) v = greatest-snoc (cond (lt x u) u x) l v
 
 range-snoc : (l : List Float) (v : Float) → range (l ++ (v ∷ [])) ≡ include (range l) v
-unfolding range include least greatest
+unfolding range overBoth least greatest
 range-snoc [] v = refl
 range-snoc (u ∷ l) v = λ i. Both (least-snoc u l v i) (greatest-snoc u l v i)
+
+-- over a range of no velocities
+pub over-none : (e : Extremes) → e ≡ overBoth e NoneValid
+unfolding overBoth
+over-none NoneValid = refl
+over-none (Both lo hi) = refl
 
 -- the extremes of the first i gates
 unfoldable pub upTo : List Float → List ℕ → ℕ → Extremes

@@ -8,6 +8,7 @@ pub mod Error
 pub mod Units
 pub mod Quotient
 pub mod Plans
+pub mod BothLaws
 pub mod Itself
 pub mod Steps
 pub mod Ends

@@ -18,7 +18,7 @@ use Rattle.arithmetic.specs.declared.intervals.Extremes.{Extremes}
 use Rattle.arithmetic.specs.declared.intervals.Extremes.the-variants.{Both, NoneValid}
 use Rattle.arithmetic.specs.declared.intervals.Plan.{Plan}
 use Rattle.arithmetic.specs.Rounding.{within, ceilingWhole, real}
-use Rattle.arithmetic.specs.Intervals.{velocityInRange, width, overStart, overEnd, atLeast0, beyond, widened, noAdds, adds, planOf, number, spaced, limitsOf, startOf, endOf, least, greatest, range, numberFor, limitsFor}
+use Rattle.arithmetic.specs.Intervals.{velocityInRange, width, overStart, overEnd, atLeast0, beyond, widened, noAdds, adds, planOf, number, spaced, limitsOf, startOf, endOf, least, greatest, range, overBoth, numberFor, limitsFor}
 use Rattle.arithmetic.proofs.Quotient.{nyquist, wide, speed, over-start, over-end, quotient, is-within}
 use Rattle.arithmetic.specs.Inside.Asked.{Asked, ExtremesInRange, front}
 use Rattle.lists.specs.Seq.{all}
@@ -195,7 +195,7 @@ pub plan-limits-are : (r : Plan) (nyq : Float) (S : ℕ) (e e' : Extremes) → r
 unfolding planOf limitsFor
 plan-limits-are r nyq S e e' p q = ap (λ (x : Plan). limitsOf nyq S (x .«add_start») (x .«add_end») (x .number)) p ∙ ap (λ (x : Extremes). limitsFor nyq S x) q
 
-cond-fair : (b : Bool) (x y : Float) → T (velocityInRange x) → T (velocityInRange y) → T (velocityInRange (cond b x y))
+pub cond-fair : (b : Bool) (x y : Float) → T (velocityInRange x) → T (velocityInRange y) → T (velocityInRange (cond b x y))
 cond-fair true x y h k = h
 cond-fair false x y h k = k
 
@@ -213,3 +213,9 @@ pub range-fair : (l : List Float) → T (all velocityInRange l) → ExtremesInRa
 unfolding range all
 range-fair [] h = tt
 range-fair (v ∷ l) h = (least-fair v l (and-l (velocityInRange v) (all velocityInRange l) h) (and-r (velocityInRange v) (all velocityInRange l) h), greatest-fair v l (and-l (velocityInRange v) (all velocityInRange l) h) (and-r (velocityInRange v) (all velocityInRange l) h))
+
+pub over-fair : (e f : Extremes) → ExtremesInRange e → ExtremesInRange f → ExtremesInRange (overBoth e f)
+unfolding overBoth
+over-fair NoneValid f h k = k
+over-fair (Both lo hi) NoneValid h k = h
+over-fair (Both lo hi) (Both lo2 hi2) h k = (cond-fair (lt lo2 lo) lo2 lo (k .0) (h .0), cond-fair (lt hi hi2) hi2 hi (k .1) (h .1))

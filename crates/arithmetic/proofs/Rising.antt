@@ -15,7 +15,7 @@ use lib.Ieee.Fits.{add-fits, cond-fits, fits-widens}
 use Rattle.arithmetic.specs.Rounding.{real}
 use Rattle.arithmetic.specs.declared.intervals.Extremes.{Extremes}
 use Rattle.arithmetic.specs.declared.intervals.Extremes.the-variants.{Both, NoneValid}
-use Rattle.arithmetic.specs.Intervals.{velocityInRange, valid, least, greatest, range, width, overStart, overEnd, beyond, widened, noAdds, adds, number, spaced, stepOf, limitAt, atLeast0, startOf, endOf, limitsOf, limitsFor, numberFor}
+use Rattle.arithmetic.specs.Intervals.{velocityInRange, valid, least, greatest, range, overBoth, width, overStart, overEnd, beyond, widened, noAdds, adds, number, spaced, stepOf, limitAt, atLeast0, startOf, endOf, limitsOf, limitsFor, numberFor}
 use Rattle.arithmetic.proofs.Units.{tiny}
 use Rattle.arithmetic.proofs.Plans.{range-fair}
 use Rattle.arithmetic.proofs.Quotient.{Nyquist, nyquist, Wide, wide, speed, over-start, over-end, Add, add-of}
@@ -140,13 +140,24 @@ valid-held (v ∷ vs) (m ∷ ms) h = go (eqb m 1) (valid-held vs ms (h .1))
     go true k = (h .0, k)
     go false k = k
 
--- ---- as a sweep entry has it: what a slice of f32 holds, and questions 5 to 8
+pub over-held : (e f : Extremes) → Held e → Held f → Held (overBoth e f)
+unfolding overBoth
+over-held NoneValid f h k = k
+over-held (Both lo hi) NoneValid h k = h
+over-held (Both lo hi) (Both lo2 hi2) h k = (cond-fits binary64 (lt lo2 lo) lo2 lo (k .0) (h .0), cond-fits binary64 (lt hi hi2) hi2 hi (k .1) (h .1))
+
+-- ---- as an entry has it: what a slice of f32 holds, and questions 5 to 8
 slice-held : (vs : List Float) → ((i : ℕ) → T (fits binary32 (getD vs i nan))) → AllHeld vs
 slice-held [] h = tt
 slice-held (v ∷ vs) h = (fits-widens v (h 0), slice-held vs (λ (i : ℕ). h (suc i)))
 
+pub slice-range-held : (vs : List Float) (ms : List ℕ) → ((i : ℕ) → T (fits binary32 (getD vs i nan))) → Held (range (valid vs ms))
+slice-range-held vs ms h = range-held (valid vs ms) (valid-held vs ms (slice-held vs h))
+
+pub asked-limits-rise : (nyq : Float) (S : ℕ) (e : Extremes) → T (fits binary32 nyq) → Held e → Asked nyq S → ExtremesInRange e → atLeast0 (numberFor nyq S e) ≤ 10000 → Rising (limitsFor nyq S e)
+unfolding numberFor
+asked-limits-rise nyq S e f g a h l = limits-never-fall nyq S e (fits-widens nyq f) g a h l
+
 pub sweep-limits-rise : (nyq : Float) (S : ℕ) (vs : List Float) (ms : List ℕ) → T (fits binary32 nyq) → ((i : ℕ) → T (fits binary32 (getD vs i nan))) → Asked nyq S → T (all velocityInRange (valid vs ms))
     → atLeast0 (numberFor nyq S (range (valid vs ms))) ≤ 10000 → Rising (limitsFor nyq S (range (valid vs ms)))
-unfolding numberFor
-sweep-limits-rise nyq S vs ms f h a g l =
-    limits-never-fall nyq S (range (valid vs ms)) (fits-widens nyq f) (range-held (valid vs ms) (valid-held vs ms (slice-held vs h))) a (range-fair (valid vs ms) g) l
+sweep-limits-rise nyq S vs ms f h a g l = asked-limits-rise nyq S (range (valid vs ms)) f (slice-range-held vs ms h) a (range-fair (valid vs ms) g) l

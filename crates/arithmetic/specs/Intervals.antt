@@ -34,10 +34,15 @@ unfoldable pub range : List Float → Extremes
 range [] = NoneValid
 range (v ∷ vs) = Both (least v vs) (greatest v vs)
 
--- the same with one velocity more
-unfoldable pub include : Extremes → Float → Extremes
-include NoneValid v = Both v v
-include (Both lo hi) v = Both (cond (lt v lo) v lo) (cond (lt hi v) v hi)
+-- the least and the greatest over two ranges
+unfoldable pub overBoth : Extremes → Extremes → Extremes
+overBoth NoneValid f = f
+overBoth (Both lo hi) NoneValid = Both lo hi
+overBoth (Both lo hi) (Both lo2 hi2) = Both (cond (lt lo2 lo) lo2 lo) (cond (lt hi hi2) hi2 hi)
+
+-- a range with one velocity more
+abbrev pub include : Extremes → Float → Extremes
+include e v = overBoth e (Both v v)
 
 -- 2 × Nyquist
 unfoldable pub twoNyquist : Float → Float

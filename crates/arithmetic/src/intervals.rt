@@ -9,6 +9,7 @@ ghost use lib.Ieee as Ieee;
 ghost use lib.Ieee.{binary64, div, isNan};
 ghost use Rattle.arithmetic.specs.Rounding.{within, ceilingWhole};
 ghost use Rattle.arithmetic.specs.Intervals as I;
+ghost use Rattle.arithmetic.specs.declared.intervals.Extremes.the-variants.{Both};
 ghost use Rattle.arithmetic.specs.Inside.Asked.{Asked, ExtremesInRange, front};
 
 // The least and the greatest valid velocity, or that there is none.
@@ -36,12 +37,13 @@ fn upper(x: f64, v: f64) -> f64
     if x < v { v } else { x }
 }
 
-fn include(e: Extremes, v: f64) -> Extremes
-    ensures { λ r. ⌜ r ≡ I.include e v ⌝ }
+// The least and the greatest over a range and one from `lo2` to `hi2`.
+fn widen(e: Extremes, lo2: f64, hi2: f64) -> Extremes
+    ensures { λ r. ⌜ r ≡ I.overBoth e (Both lo2 hi2) ⌝ }
 {
     match e {
-        Extremes::Both(lo, hi) => Extremes::Both(lower(lo, v), upper(hi, v)),
-        Extremes::NoneValid => Extremes::Both(v, v),
+        Extremes::Both(lo, hi) => Extremes::Both(lower(lo, lo2), upper(hi, hi2)),
+        Extremes::NoneValid => Extremes::Both(lo2, hi2),
     }
 }
 
@@ -53,11 +55,22 @@ pub fn least_and_greatest(velocity: &[f32], valid: &[u8]) -> Extremes
     let mut i = 0;
     while i < velocity.len() {
         if valid[i] == 1 {
-            e = include(e, std::num::f32_to_f64_with_nan(velocity[i]));
+            let v = std::num::f32_to_f64_with_nan(velocity[i]);
+            e = widen(e, v, v);
         }
         i += 1;
     }
     e
+}
+
+// The least and the greatest over two ranges.
+pub fn over_both(e: Extremes, f: Extremes) -> Extremes
+    ensures { λ r. ⌜ r ≡ I.overBoth e f ⌝ }
+{
+    match f {
+        Extremes::Both(lo, hi) => widen(e, lo, hi),
+        Extremes::NoneValid => e,
+    }
 }
 
 fn width(nyquist: f64, splits: u32) -> f64

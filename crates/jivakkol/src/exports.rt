@@ -3,6 +3,7 @@ ghost use mathlib.Core.Path.{_≡_};
 ghost use Rattle.sweep.specs.Call.{call, memoryOf, answerBy};
 ghost use Rattle.sweep.specs.Entry.{sweepOf};
 ghost use Rattle.sweep_book.specs.Book.{callBook, bookAnswerBy};
+ghost use Rattle.channels.specs.Call.{channelOf, twoMemoryOf, twoAnswerBy, callTwo};
 ghost use Rattle.map.specs.Map.{callMap, mapMemoryOf, mapAnswerBy};
 ghost use Rattle.sweep.specs.Velocity.{callVelocity, counted, velocityAnswerBy};
 ghost use Rattle.files.specs.Format.{optionsOf};
@@ -91,6 +92,66 @@ pub extern "C" fn jivakkol_dealias_sweep_book(
         doubtful,
         pair,
         book,
+        work,
+        work_f64,
+    )
+}
+
+// The fold counts of two polarisations of one antenna by limits that both share, with the marks, regions and merges of each.
+#[no_mangle]
+pub extern "C" fn jivakkol_dealias_two(
+    rays: u32,
+    gates: u32,
+    nyquist: f32,
+    interval_splits: u32,
+    skip_between_rays: u32,
+    skip_along_ray: u32,
+    centered: u32,
+    rays_wrap_around: u32,
+    h_velocity: &[f32],
+    h_valid: &[u8],
+    v_velocity: &[f32],
+    v_valid: &[u8],
+    h_folds: &mut [i32],
+    h_doubtful: &mut [u8],
+    h_pair: &mut [u32],
+    v_folds: &mut [i32],
+    v_doubtful: &mut [u8],
+    v_pair: &mut [u32],
+    work: &mut [u32],
+    work_f64: &mut [f64],
+) -> u32
+    ensures { λ r. ⌜ (
+        let h = sweepOf rays gates nyquist «interval_splits» «skip_between_rays» «skip_along_ray» centered «rays_wrap_around» (now («h_velocity» .entry)) (now («h_valid» .entry)) in
+        let v = sweepOf rays gates nyquist «interval_splits» «skip_between_rays» «skip_along_ray» centered «rays_wrap_around» (now («v_velocity» .entry)) (now («v_valid» .entry)) in
+        let m = twoMemoryOf (channelOf (now («h_folds» .entry)) (now («h_doubtful» .entry)) (now («h_pair» .entry)))
+        (channelOf (now («v_folds» .entry)) (now («v_doubtful» .entry)) (now («v_pair» .entry))) (now (work .entry)) (now («work_f64» .entry)) in
+        twoAnswerBy r (channelOf (now («h_folds» .exit)) (now («h_doubtful» .exit)) (now («h_pair» .exit)))
+        (channelOf (now («v_folds» .exit)) (now («v_doubtful» .exit)) (now («v_pair» .exit))) (now (work .exit)) (now («work_f64» .exit)) ≡ callTwo h v m
+        ) ⌝ }
+{
+    let o = network::options::Options {
+        rays: rays,
+        gates: gates,
+        nyquist: nyquist,
+        splits: interval_splits,
+        skip_between_rays: skip_between_rays,
+        skip_along_ray: skip_along_ray,
+        centred: centered,
+        wrap: rays_wrap_around,
+    };
+    channels::entry::dealias_two(
+        o,
+        h_velocity,
+        h_valid,
+        v_velocity,
+        v_valid,
+        h_folds,
+        h_doubtful,
+        h_pair,
+        v_folds,
+        v_doubtful,
+        v_pair,
         work,
         work_f64,
     )

@@ -4,20 +4,24 @@ use native.Mathlib.Omega.{arith}
 use mathlib.Core.Path.{_≡_, refl, sym, ap, _∙_}
 use mathlib.Core.Logic.{inl, inr}
 use mathlib.Core.Bool.{Bool, true, false, _&&_}
-use mathlib.Core.List.{List, _∷_}
+use mathlib.Core.List.{List, [], _∷_, _++_}
 use mathlib.Core.Option.{Option, none, some}
 use lib.Dec.{leb, ltb}
 use borrow.Author.Tests.{leb-false, lt-leb, ltb-true}
 use Rattle.memory.specs.Size.{largest}
 use Rattle.lists.specs.Seq.{all}
-use Rattle.sweep.specs.Questions.{Question, ask, firstNo, sizeInRange, seven, firstMissed}
+use Rattle.sweep.specs.Questions.{Question, ask, firstNo, sizeInRange, seven, sevenOf, firstMissed}
+use Rattle.sweep.specs.Call.{lengths}
 use Rattle.sweep.specs.Entry.{answerOf}
 use Rattle.sweep.specs.Velocity.{askedVelocity}
 use Rattle.map.specs.Map.{askedMap}
-use Rattle.sweep.proofs.QuestionLaws.{on, no, no-meets}
+use Rattle.sweep.proofs.QuestionLaws.{orElse, on, no, list-after, no-meets}
+use Rattle.channels.specs.Call.{lentTo, sharedFew, callTwo}
+use Rattle.channels.specs.Theorems.{horizontalBy, verticalBy}
+use Rattle.channels.proofs.Theorems.{two-answer-is}
 use Rattle.test_sweep.specs.Call.{askedTest, callTest}
 use Rattle.test_sweep.proofs.CallLaws.{test-answer-is}
-use Rattle.locality.specs.Theorems.{Larger, OneIsSize, SweepSize, VelocitySize, TestSize}
+use Rattle.locality.specs.Theorems.{Larger, OneIsSize, SweepSize, VelocitySize, TestSize, TwoSize}
 use Rattle.locality.specs.RegionMap.{MapSize}
 use Rattle.locality.proofs.EntryTheorems.{answer-is}
 use Rattle.locality.proofs.VelocityTheorems.{velocity-answer-is}
@@ -68,3 +72,23 @@ map-one-is-size s m a c = one-of (s .shape .rays) (s .shape .gates) _ refl (a .n
 pub test-one-is-size : TestSize
 unfolding askedTest all
 test-one-is-size rays gates word m = one-of rays gates _ refl (callTest rays gates word m .number) (test-answer-is rays gates word m)
+
+-- question 1 is put to each channel: where both have one size, the second time it adds nothing
+put-twice : (b c : Bool) → b ≡ c → (qs rs : List Question) → firstNo (ask 1 b ∷ (qs ++ (ask 1 c ∷ rs))) ≡ firstNo (ask 1 b ∷ (qs ++ rs))
+put-twice true c e qs rs =
+    on (ask 1 true) (qs ++ (ask 1 c ∷ rs)) refl ∙ list-after qs (ask 1 c ∷ rs)
+    ∙ ap (orElse (firstNo qs)) (on (ask 1 c) rs (sym e)) ∙ sym (list-after qs rs) ∙ sym (on (ask 1 true) (qs ++ rs) refl)
+put-twice false c e qs rs = no (ask 1 false) (qs ++ (ask 1 c ∷ rs)) refl ∙ sym (no (ask 1 false) (qs ++ rs) refl)
+
+-- the questions after the first
+abbrev rest : List Question → List Question
+rest [] = []
+rest (q ∷ qs) = qs
+
+pub two-one-is-size : TwoSize
+unfolding seven all
+two-one-is-size h v m r g =
+    let hs : List Question = rest (sevenOf h (lengths (lentTo (m .horizontal) m))) in
+    let vs : List Question = rest (sevenOf v (lengths (lentTo (m .vertical) m))) ++ (ask 8 (sharedFew h v) ∷ ask 9 (horizontalBy h v .mergesInRange) ∷ ask 9 (verticalBy h v .mergesInRange) ∷ []) in
+    one-of (h .shape .rays) (h .shape .gates) (hs ++ vs) refl (callTwo h v m .number)
+    (two-answer-is h v m ∙ ap answerOf (put-twice (sizeInRange (h .shape .rays) (h .shape .gates)) (sizeInRange (v .shape .rays) (v .shape .gates)) (λ i. sizeInRange (r i) (g i)) hs vs))

@@ -18,6 +18,7 @@ use Rattle.sweep.specs.Questions.{gatesIn, asked, firstMissed, ownLimits}
 use Rattle.sweep.specs.Call.{Memory, Answer, lengths, clearedFor, call}
 use Rattle.sweep.specs.Entry.{answerOf}
 use Rattle.sweep.specs.Velocity.{Counted, VelocityAnswer, velocities, askedVelocity, callVelocity}
+use Rattle.channels.specs.Call.{TwoMemory, callTwo}
 use Rattle.test_sweep.specs.Call.{Slices, callTest}
 use Rattle.locality.specs.Demand3.{Apart, MergeList, Does, labelAt, first, countAt, markAt, Alike, offset, Agree}
 
@@ -136,3 +137,11 @@ VelocitiesAre = (u : Counted) (out : List Float) (a : VelocityAnswer) → Called
 -- `test-one-is-size`: it answers 1 exactly if the sweep is larger than the largest
 abbrev pub TestSize : Type 0
 TestSize = (rays gates : ℕ) (word : List ℕ) (m : Slices) → OneIsSize rays gates (callTest rays gates word m .number)
+
+-- ---- the entry for two channels: its other statements stand in channels
+
+-- `two-one-is-size`: it answers 1 exactly if the channels, of one size, are larger than the largest
+abbrev pub TwoSize : Type 0
+TwoSize =
+    (h v : Sweep) (m : TwoMemory) → h .shape .rays ≡ v .shape .rays → h .shape .gates ≡ v .shape .gates
+    → OneIsSize (h .shape .rays) (h .shape .gates) (callTwo h v m .number)

@@ -1,4 +1,4 @@
--- The parts of the work memory lie apart at every stage, and fit into 77n + 32 words, of the 96n + 64 that question 4 asks for. Assumes nothing.
+-- The parts of the work memory lie apart at every stage, and fit into 77n + 64 words, of the 96n + 64 that question 4 asks for. Assumes nothing.
 use Prim.Native.Nat.{ℕ, _*_, _≤_}
 use native.Mathlib.Omega.{arith}
 use Rattle.memory.specs.Inside.Layout.{sizesAt, countsAt, marksAt, bookAt, tablesAt, InTurn, Laid}

@@ -27,7 +27,7 @@ spaced-length s e (suc zero) = refl
 spaced-length s e (suc (suc k)) = length-append (tabulate (suc k) (limitAt s (stepOf s e (suc k)))) (e ∷ []) ∙ omega (arith, tab-length (limitAt s (stepOf s e (suc k))) (suc k))
 
 -- a plan has as many limits as it says
-limits-length : (nyq : Float) (S : ℕ) (a b n : ℤ) → length (limitsOf nyq S a b n) ≡ atLeast0 n
+pub limits-length : (nyq : Float) (S : ℕ) (a b n : ℤ) → length (limitsOf nyq S a b n) ≡ atLeast0 n
 unfolding limitsOf
 limits-length nyq S a b n = spaced-length (startOf nyq (width nyq S) a) (endOf nyq (width nyq S) b) (atLeast0 n)
 

@@ -113,7 +113,8 @@ pub extern "C" fn stage_limits(
         centred: 0,
         wrap: 0,
     };
-    let p = sweep::entry::plan_of(o, velocity, valid);
+    let e = arithmetic::intervals::least_and_greatest(velocity, valid);
+    let p = arithmetic::intervals::plan_limits(nyquist, splits, e);
     network::find::limits(o, p, out)
 }
 

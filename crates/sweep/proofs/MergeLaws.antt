@@ -3,7 +3,7 @@ use Prim.Native.Nat.{ℕ, zero, suc, _+_, _*_, _≤_, _<_}
 use native.Mathlib.Omega.{arith}
 use mathlib.Core.Path.{_≡_, refl, sym, ap, _∙_, subst}
 use mathlib.Core.Bool.{Bool, true, false, not, _&&_, cond, true≢false}
-use mathlib.Core.List.{List, [], _∷_}
+use mathlib.Core.List.{List}
 use lib.Dec.{eqb}
 use lib.IntN.{ℤ, pos, subℕ}
 use lib.ListN.{length, getD}
@@ -28,11 +28,10 @@ use Rattle.network.specs.declared.find.Run.{Run}
 use Rattle.network.specs.declared.find.Finding.{Finding}
 use Rattle.network.specs.declared.find.Finding.the-variants.{Regions, Refused}
 use Rattle.sweep.specs.Sweep.{Sweep, orZero, weighed, meanOf, networkOf, offsetOf, final, gateCount, finished, unfoldedBy}
-use Rattle.sweep.specs.Questions.{Outcome, firstNo, answered, asked9}
-use Rattle.sweep.specs.Call.{ending}
+use Rattle.sweep.specs.Questions.{refused, accepted, firstNo, answered, asked9}
 use Rattle.sweep.specs.Entry.{sweepBy}
 use Rattle.sweep.specs.Inside.Mean.{sumFrom, sizeAt, heldAt}
-use Rattle.sweep.specs.Inside.Finish.{offsetBy, countsBy, marksBy, WritesMarks, Finishes, WritesFound, lent, written}
+use Rattle.sweep.specs.Inside.Finish.{offsetBy, countsBy, marksBy, WritesMarks, Finishes, WritesFound, outcomeBy}
 use Rattle.sweep.proofs.MeanLaws.{weighed-is, gates-is, last-labels, last-sizes}
 use Rattle.sweep.proofs.EarlyEnd.{ends-same}
 
@@ -73,7 +72,7 @@ runOf Refused = record { regions = 0; merges = 0 }
 
 -- F being the regions of n gates, v the words and x the answer that finding left
 module _ (o : Options) (vel : List Float) (mask : List ℕ) (F : Found) (n : ℕ) (v : List ℕ) (x : Finding) (R : Leaves F (networkFor o F vel) n v x)
-    (masks : length mask ≡ n) (small : n ≤ gatesOfLargest) (room : 96 * n + 64 ≤ length v) (few : F .number ≤ n) (long : length (F .labels) ≡ n) (low : (g : ℕ) → getD (F .labels) g 0 ≤ F .number) where
+    (masks : length mask ≡ n) (small : n ≤ gatesOfLargest) (room : 77 * n + 64 ≤ length v) (few : F .number ≤ n) (long : length (F .labels) ≡ n) (low : (g : ℕ) → getD (F .labels) g 0 ≤ F .number) where
   abbrev t : State
   t = networkFor o F vel
 
@@ -198,28 +197,25 @@ module _ (o : Options) (vel : List Float) (mask : List ℕ) (F : Found) (n : ℕ
         (λ g h. R .tables .marks good (getD v g 0) (label-most g h) ∙ ap (markOf (trace t (merges t))) (label-at g h))
         ∙ ap (λ (m : ℕ). tabulate m (λ g. markOf (trace t (merges t)) (getD L g 0))) (sym masks)
 
-    written-good : (cs : List ℤ) (ds p : List ℕ) → written x v mask (o .centred) cs ds p ≡ ending (asked9 (finished s F t)) (lent cs ds p)
-    written-good cs ds p =
-        ap (λ (y : Finding). written y v mask (o .centred) cs ds p) (found-yes good)
-        ∙ (λ i. record { number = 0; memory = lent (counts-are i) (marks-are i) (k ∷ length (merges t) ∷ []) }) ∙ sym (accepted-end good)
+    outcome-good : outcomeBy x v mask (o .centred) ≡ asked9 (finished s F t)
+    outcome-good =
+        ap (λ (y : Finding). outcomeBy y v mask (o .centred)) (found-yes good)
+        ∙ (λ i. accepted (counts-are i) (marks-are i) k (length (merges t))) ∙ sym (accepted-end good)
       where
-        accepted-end : mergesInRange t ≡ true → ending (asked9 (finished s F t)) (lent cs ds p) ≡ record {
-          number = 0;
-          memory = lent (tabulate (length mask) (λ g. gateCount (offsetOf s (final t)) (getD mask g 0) (countOf (final t .regions) (getD L g 0))))
-              (tabulate (length mask) (λ g. markOf (trace t (merges t)) (getD L g 0))) (k ∷ length (merges t) ∷ []);
-        }
-        accepted-end e = unfold ending asked9 answered firstNo finished in rw e refl
+        accepted-end : mergesInRange t ≡ true → asked9 (finished s F t) ≡ accepted
+            (tabulate (length mask) (λ g. gateCount (offsetOf s (final t)) (getD mask g 0) (countOf (final t .regions) (getD L g 0))))
+            (tabulate (length mask) (λ g. markOf (trace t (merges t)) (getD L g 0))) k (length (merges t))
+        accepted-end e = unfold asked9 answered firstNo finished in rw e refl
 
-  written-bad : mergesInRange t ≡ false → (cs : List ℤ) (ds p : List ℕ) → written x v mask (o .centred) cs ds p ≡ ending (asked9 (finished s F t)) (lent cs ds p)
-  written-bad e cs ds p = ap (λ (y : Finding). written y v mask (o .centred) cs ds p) (found-no e) ∙ sym (refused-end e)
+  outcome-bad : mergesInRange t ≡ false → outcomeBy x v mask (o .centred) ≡ asked9 (finished s F t)
+  outcome-bad e = ap (λ (y : Finding). outcomeBy y v mask (o .centred)) (found-no e) ∙ sym (refused-end e)
     where
-      refused-end : mergesInRange t ≡ false → ending (asked9 (finished s F t)) (lent cs ds p) ≡ record { number = 9; memory = lent cs ds p }
-      refused-end e = unfold ending asked9 answered firstNo finished in rw e refl
+      refused-end : mergesInRange t ≡ false → asked9 (finished s F t) ≡ refused 9
+      refused-end e = unfold asked9 answered firstNo finished in rw e refl
 
-  pub written-is : (cs : List ℤ) (ds p : List ℕ) → written x v mask (o .centred) cs ds p ≡ ending (asked9 (unfoldedBy s F)) (lent cs ds p)
-  written-is cs ds p =
-      go (mergesInRange t) refl ∙ (unfold networkOf in ap (λ (y : Outcome). ending y (lent cs ds p)) (ends-same s F))
+  pub outcome-is : outcomeBy x v mask (o .centred) ≡ asked9 (unfoldedBy s F)
+  outcome-is = go (mergesInRange t) refl ∙ (unfold networkOf in ends-same s F)
     where
-      go : (b : Bool) → mergesInRange t ≡ b → written x v mask (o .centred) cs ds p ≡ ending (asked9 (finished s F t)) (lent cs ds p)
-      go true e = written-good e cs ds p
-      go false e = written-bad e cs ds p
+      go : (b : Bool) → mergesInRange t ≡ b → outcomeBy x v mask (o .centred) ≡ asked9 (finished s F t)
+      go true e = outcome-good e
+      go false e = outcome-bad e

@@ -46,7 +46,7 @@ use Rattle.sweep.specs.Questions.{
 }
 use Rattle.sweep.specs.declared.questions.Room.{Room}
 use Rattle.sweep.specs.Entry.{answerOf}
-use Rattle.sweep.proofs.QuestionLaws.{orElse, list-after, zero-none, none-all}
+use Rattle.sweep.proofs.QuestionLaws.{orElse, list-after, first-yes, zero-none, none-all}
 
 -- what a yes to all seven questions gives, whatever an entry's own part of question 2 is
 pub record Passed (s : Sweep) (r : Room) : Type 0 where
@@ -165,17 +165,9 @@ module _ (s : Sweep) (r : Room) where
   unfolding seven all
   seven-none k e h = zero-none (seven s r) refl (sym e ∙ h)
 
-  -- questions 1 to 8 are questions 1 to 7 and then question 8
-  pub eight-after : firstNo (eight s r) ≡ orElse (firstNo (seven s r)) (firstNo (ask 8 (limitsFew s) ∷ []))
-  eight-after = list-after (seven s r) (ask 8 (limitsFew s) ∷ [])
-
   -- where none of the eight gets a no, none of the first seven does
   pub seven-of-eight : firstNo (eight s r) ≡ none → firstNo (seven s r) ≡ none
-  seven-of-eight h = go (firstNo (seven s r)) (sym (eight-after) ∙ h)
-    where
-      go : (o : Option ℕ) → orElse o (firstNo (ask 8 (limitsFew s) ∷ [])) ≡ none → o ≡ none
-      go none q = refl
-      go (some k) q = q
+  seven-of-eight = first-yes (seven s r) (ask 8 (limitsFew s) ∷ [])
 
 -- two slices as long as they are to be
 pub two-are : (a n b m : ℕ) → (eqb a n && eqb b m) ≡ true → (a ≡ n) × (b ≡ m)

@@ -1,30 +1,26 @@
--- Question 8 and the plan of a sweep's limits, for any entry: the questions by the plan's number, and what a plan that is given says. Assumes nothing.
+-- Question 8 and the plan of the limits, for any entry: the question by the plan's number, and what a plan that is given says. Assumes nothing.
 use Prim.Native.Nat.{ℕ, _≤_}
 use native.Mathlib.Omega.{arith}
 use mathlib.Core.Path.{_≡_, refl, sym, ap, _∙_, subst}
 use mathlib.Core.Bool.{Bool, true, false}
-use mathlib.Core.List.{[], _∷_}
+use mathlib.Core.List.{List, [], _∷_}
 use mathlib.Core.Option.{Option, none, some, Option·none-ne-some}
 use lib.Dec.{T}
 use lib.Signed.{leZ}
 use lib.IntN.{ℤ, pos, negsuc}
-use lib.ListN.{getD}
-use lib.Ieee.{nan, binary32, fits}
+use lib.Ieee.{Float, binary32, fits}
 use borrow.Author.Tests.{leb-true}
-use Rattle.arithmetic.specs.Inside.Asked.{Rising}
-use Rattle.arithmetic.specs.Intervals.{valid, range, atLeast0, limitsOf, numberFor}
+use Rattle.arithmetic.specs.Inside.Asked.{Asked, ExtremesInRange, Held, Rising}
+use Rattle.arithmetic.specs.Intervals.{atLeast0, limitsOf, limitsFor, numberFor}
+use Rattle.arithmetic.specs.declared.intervals.Extremes.{Extremes}
 use Rattle.arithmetic.specs.declared.intervals.Plan.{Plan}
 use Rattle.arithmetic.proofs.Plans.{plan-number, plan-limits-are}
-use Rattle.arithmetic.proofs.Rising.{sweep-limits-rise}
+use Rattle.arithmetic.proofs.Rising.{asked-limits-rise}
 use Rattle.sweep.specs.Sweep.{Sweep}
-use Rattle.sweep.specs.Questions.{ask, firstNo, seven, eight, limitsFew, atMost, ownLimits}
-use Rattle.sweep.specs.Entry.{answerOf}
-use Rattle.sweep.specs.Inside.Planning.{ownPlan, planningBy}
-use Rattle.sweep.specs.declared.questions.Room.{Room}
+use Rattle.sweep.specs.Questions.{Question, ask, firstNo, rangeOf, fewFor, atMost, ownLimits}
+use Rattle.sweep.specs.Inside.Planning.{planFor, ownPlan, planningBy}
 use Rattle.sweep.specs.declared.entry.Planning.{Planning}
 use Rattle.sweep.specs.declared.entry.Planning.the-variants.{Limits, Missed}
-use Rattle.sweep.proofs.QuestionLaws.{orElse}
-use Rattle.sweep.proofs.PassedLaws.{Passed, eight-after}
 
 -- question 8 as the code puts it
 pub limits-test : (z : ℤ) → leZ z (pos 10000) ≡ atMost 10000 z
@@ -37,42 +33,36 @@ unfolding atMost
 limits-yes (pos n) t = leb-true n 10000 t
 limits-yes (negsuc n) t = omega arith
 
--- ---- p being the plan of the sweep's own limits
-module _ (s : Sweep) (p : Plan) (e : p ≡ ownPlan s) where
-  pub limits-are : limitsOf (s .nyquist) (s .splits) (p .«add_start») (p .«add_end») (p .number) ≡ ownLimits s
-  unfolding ownLimits
-  limits-are = plan-limits-are p (s .nyquist) (s .splits) (range (valid (s .vel) (s .mask))) (range (valid (s .vel) (s .mask))) e refl
+-- ---- p being the plan of the limits for a least and a greatest velocity
+module _ (nyq : Float) (S : ℕ) (e : Extremes) (p : Plan) (q : p ≡ planFor nyq S e) where
+  pub plan-limits : limitsOf nyq S (p .«add_start») (p .«add_end») (p .number) ≡ limitsFor nyq S e
+  plan-limits = plan-limits-are p nyq S e e q refl
 
-  number-is : p .number ≡ numberFor (s .nyquist) (s .splits) (range (valid (s .vel) (s .mask)))
-  number-is = plan-number p (s .nyquist) (s .splits) (range (valid (s .vel) (s .mask))) (range (valid (s .vel) (s .mask))) e refl
+  number-is : p .number ≡ numberFor nyq S e
+  number-is = plan-number p nyq S e e q refl
 
-  module _ (r : Room) where
-    -- a no to one of questions 1 to 7
-    pub plan-missed : (k : ℕ) → k ≡ answerOf (firstNo (seven s r)) → (k ≡ 0 → ⊥) → Missed k ≡ planningBy (firstNo (eight s r)) p
-    plan-missed k q h = go (firstNo (seven s r)) q (eight-after s r)
-      where
-        go : (o : Option ℕ) → k ≡ answerOf o → firstNo (eight s r) ≡ orElse o (firstNo (ask 8 (limitsFew s) ∷ [])) → Missed k ≡ planningBy (firstNo (eight s r)) p
-        go none q t = absurd (h q)
-        go (some j) q t = ap Missed q ∙ sym (ap (λ (o : Option ℕ). planningBy o p) t)
+  -- question 8's answer
+  eight-by : {b : Bool} → atMost 10000 (p .number) ≡ b → firstNo (ask 8 (fewFor nyq S e) ∷ []) ≡ elim b [ true ↦ none | false ↦ some 8 ]
+  unfolding firstNo
+  eight-by t = rw (ap (atMost 10000) (sym number-is) ∙ t) refl
 
-    module _ (h : firstNo (seven s r) ≡ none) where
-      -- question 8's answer
-      eight-by : {b : Bool} → atMost 10000 (p .number) ≡ b → firstNo (eight s r) ≡ elim b [ true ↦ none | false ↦ some 8 ]
-      unfolding limitsFew firstNo
-      eight-by t = eight-after s r ∙ rw h (rw (ap (atMost 10000) (sym number-is) ∙ t) refl)
+  pub plan-many : atMost 10000 (p .number) ≡ false → Missed 8 ≡ planningBy (firstNo (ask 8 (fewFor nyq S e) ∷ [])) (planFor nyq S e)
+  plan-many t = sym (ap (λ (o : Option ℕ). planningBy o (planFor nyq S e)) (eight-by t))
 
-      pub plan-many : atMost 10000 (p .number) ≡ false → Missed 8 ≡ planningBy (firstNo (eight s r)) p
-      plan-many t = sym (ap (λ (o : Option ℕ). planningBy o p) (eight-by t))
+  pub plan-given : atMost 10000 (p .number) ≡ true → Limits p ≡ planningBy (firstNo (ask 8 (fewFor nyq S e) ∷ [])) (planFor nyq S e)
+  plan-given t = ap Limits q ∙ sym (ap (λ (o : Option ℕ). planningBy o (planFor nyq S e)) (eight-by t))
 
-      pub plan-given : atMost 10000 (p .number) ≡ true → Limits p ≡ planningBy (firstNo (eight s r)) p
-      plan-given t = sym (ap (λ (o : Option ℕ). planningBy o p) (eight-by t))
+  pub limits-rise : T (fits binary32 nyq) → Held e → Asked nyq S → ExtremesInRange e → atMost 10000 (p .number) ≡ true → Rising (limitsOf nyq S (p .«add_start») (p .«add_end») (p .number))
+  limits-rise f g a h t = subst Rising (sym plan-limits) (asked-limits-rise nyq S e f g a h (subst (λ (z : ℤ). atLeast0 z ≤ 10000) number-is (limits-yes (p .number) t)))
 
-    pub limits-rise : Passed s r → T (fits binary32 (s .nyquist)) → ((i : ℕ) → T (fits binary32 (getD (s .vel) i nan))) → atMost 10000 (p .number) ≡ true
-        → Rising (limitsOf (s .nyquist) (s .splits) (p .«add_start») (p .«add_end») (p .number))
-    unfolding ownLimits
-    limits-rise k f g t =
-        subst Rising (sym limits-are)
-        (sweep-limits-rise (s .nyquist) (s .splits) (s .vel) (s .mask) f g (k .asked) (k .velocityInRange) (subst (λ (z : ℤ). atLeast0 z ≤ 10000) number-is (limits-yes (p .number) t)))
+-- the limits of a sweep's own plan are its own
+pub limits-are : (s : Sweep) (p : Plan) → p ≡ ownPlan s → limitsOf (s .nyquist) (s .splits) (p .«add_start») (p .«add_end») (p .number) ≡ ownLimits s
+unfolding ownLimits
+limits-are s p e = plan-limits (s .nyquist) (s .splits) (rangeOf s) p e
+
+-- a no is not planned further, and where there is none a plan is as it is
+pub plan-missed : (qs : List Question) (d : Plan) (k : ℕ) → firstNo qs ≡ some k → Missed k ≡ planningBy (firstNo qs) d
+plan-missed qs d k h = sym (ap (λ (o : Option ℕ). planningBy o d) h)
 
 -- ---- what a plan that is given, or a number, says of the questions
 abbrev noOf : Planning → Option ℕ

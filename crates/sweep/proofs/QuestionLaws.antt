@@ -49,6 +49,30 @@ list-after (q ∷ qs) rs = go (q .yes) (list-after qs rs)
     go true ih = ih
     go false ih = refl
 
+module _ (qs rs : List Question) where
+  -- a list that gets a yes to each goes on with the next
+  pub goes-on : firstNo qs ≡ none → firstNo (qs ++ rs) ≡ firstNo rs
+  goes-on h = list-after qs rs ∙ ap (λ (o : Option ℕ). orElse o (firstNo rs)) h
+
+  -- where none of two lists gets a no, none of the first does
+  pub first-yes : firstNo (qs ++ rs) ≡ none → firstNo qs ≡ none
+  first-yes h = go (firstNo qs) (sym (list-after qs rs) ∙ h)
+    where
+      go : (o : Option ℕ) → orElse o (firstNo rs) ≡ none → o ≡ none
+      go none q = refl
+      go (some k) q = q
+
+  pub rest-yes : firstNo (qs ++ rs) ≡ none → firstNo rs ≡ none
+  rest-yes h = sym (goes-on (first-yes h)) ∙ h
+
+  -- a number other than 0 is the first no's of both lists
+  pub first-no : (k : ℕ) → k ≡ answerOf (firstNo qs) → (k ≡ 0 → ⊥) → firstNo (qs ++ rs) ≡ some k
+  first-no k q h = list-after qs rs ∙ go (firstNo qs) q
+    where
+      go : (o : Option ℕ) → k ≡ answerOf o → orElse o (firstNo rs) ≡ some k
+      go none q = absurd (h q)
+      go (some j) q = ap some (sym q)
+
 -- the first no has the number of one of the questions: it meets every test that all of their numbers meet
 pub no-meets : (t : ℕ → Bool) (qs : List Question) (k : ℕ) → all (λ q. t (q .number)) qs ≡ true → firstNo qs ≡ some k → t k ≡ true
 unfolding firstNo all

@@ -17,11 +17,11 @@ use Rattle.network.specs.declared.options.Options.{Options}
 use Rattle.network.specs.declared.find.Run.{Run}
 use Rattle.network.specs.declared.find.Finding.{Finding}
 use Rattle.network.specs.declared.find.Finding.the-variants.{Regions, Refused}
-use Rattle.sweep.specs.Sweep.{unfoldedBy, unfolded, regionsOf}
+use Rattle.sweep.specs.Sweep.{unfolded, regionsOf}
 use Rattle.sweep.specs.Questions.{Outcome, refused, accepted, asked9}
 use Rattle.sweep.specs.Call.{Answer, ending, memoryOf, answerBy}
 use Rattle.sweep.specs.Entry.{sweepBy}
-use Rattle.sweep.specs.Inside.Finish.{WritesFound, lent, written, allZero}
+use Rattle.sweep.specs.Inside.Finish.{WritesFound, lent, outcomeBy, allZero}
 use Rattle.sweep.proofs.MergeLaws as M
 
 -- counts, marks and pair of an answer, with these work memories
@@ -35,7 +35,7 @@ end-in (accepted c x r k) cs ds p W D = refl
 
 module _ (o : Options) (p : Plan) (vel : List Float) (mask w : List ℕ) (d : List Float) (q : Finds o p vel mask w d) (v : List ℕ) (x : Finding) (same : length v ≡ length w)
     (R : Leaves (regionsBy o p vel mask) (networkFor o (regionsBy o p vel mask) vel) (length vel) v x) where
-  pub room : 96 * length vel + 64 ≤ length v
+  pub room : 77 * length vel + 64 ≤ length v
   room = omega (arith, same, q .words)
 
   pub few : regionsBy o p vel mask .number ≤ length vel
@@ -69,12 +69,17 @@ module _ (o : Options) (p : Plan) (vel : List Float) (mask w : List ℕ) (d : Li
   pub write-asks : (c b two : ℕ) → c ≡ length vel → b ≡ length vel → two ≡ 2 → WritesFound x v mask c b two
   write-asks = M.ready o vel mask F (length vel) v x R (q .limited .masks) (q .limited .small) room few long low
 
-  pub solved-is : (r : ℕ) (cs cs' : List ℤ) (ds ds' ps ps' W : List ℕ) (D : List Float) → _≡_ {A = Answer} (record { number = r; memory = lent cs' ds' ps' }) (written x v mask (o .centred) cs ds ps)
+  -- the outcome of what was found
+  pub outcome-is : outcomeBy x v mask (o .centred) ≡ asked9 (unfolded (sweepBy o vel mask) (limitsBy o p))
+  unfolding unfolded regionsOf
+  outcome-is = M.outcome-is o vel mask F (length vel) v x R (q .limited .masks) (q .limited .small) room few long low
+
+  pub solved-is : (r : ℕ) (cs cs' : List ℤ) (ds ds' ps ps' W : List ℕ) (D : List Float)
+      → _≡_ {A = Answer} (record { number = r; memory = lent cs' ds' ps' }) (ending (outcomeBy x v mask (o .centred)) (lent cs ds ps))
       → W ≡ replicate (length w) 0 → D ≡ replicate (length d) (real (pos 0))
       → answerBy r cs' ds' ps' W D ≡ ending (asked9 (unfolded (sweepBy o vel mask) (limitsBy o p))) (allZero (memoryOf cs ds ps w d))
-  unfolding unfolded regionsOf
   solved-is r cs cs' ds ds' ps ps' W D e g h =
-      let y : Outcome = asked9 (unfoldedBy (sweepBy o vel mask) F) in
-      ap (in-memory W D) (e ∙ M.written-is o vel mask F (length vel) v x R (q .limited .masks) (q .limited .small) room few long low cs ds ps)
+      let y : Outcome = asked9 (unfolded (sweepBy o vel mask) (limitsBy o p)) in
+      ap (in-memory W D) (e ∙ ap (λ (z : Outcome). ending z (lent cs ds ps)) outcome-is)
       ∙ end-in y cs ds ps W D
       ∙ (λ i. ending y (memoryOf cs ds ps (g i) (h i)))

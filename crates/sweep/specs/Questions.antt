@@ -10,6 +10,7 @@ use lib.Ieee.{Float}
 use Rattle.lists.specs.Seq.{all}
 use Rattle.memory.specs.Size.{largest}
 use Rattle.arithmetic.specs.Intervals.{valid, range, numberFor, limitsFor, nyquistInRange, velocityInRange}
+use Rattle.arithmetic.specs.declared.intervals.Extremes.{Extremes}
 use Rattle.sweep.specs.Sweep.{Sweep, Unfolded, unfolded}
 use Rattle.sweep.specs.declared.questions.Room.{Room}
 
@@ -76,13 +77,21 @@ unfoldable pub atMost : ℕ → ℤ → Bool
 atMost k (pos n) = leb n k
 atMost k (negsuc n) = true
 
--- question 8: the number of limits
+-- the least and the greatest valid velocity of a sweep
+abbrev pub rangeOf : Sweep → Extremes
+rangeOf s = range (valid (s .vel) (s .mask))
+
+-- question 8 of the limits for a least and a greatest velocity: their number
+abbrev pub fewFor : Float → ℕ → Extremes → Bool
+fewFor nyq splits e = atMost 10000 (numberFor nyq splits e)
+
+-- question 8 of a sweep's own limits
 unfoldable pub limitsFew : Sweep → Bool
-limitsFew s = atMost 10000 (numberFor (s .nyquist) (s .splits) (range (valid (s .vel) (s .mask))))
+limitsFew s = fewFor (s .nyquist) (s .splits) (rangeOf s)
 
 -- a sweep's own limits
 unfoldable pub ownLimits : Sweep → List Float
-ownLimits s = limitsFor (s .nyquist) (s .splits) (range (valid (s .vel) (s .mask)))
+ownLimits s = limitsFor (s .nyquist) (s .splits) (rangeOf s)
 
 -- questions 1 to 7 of an entry that works on a sweep, in their order
 unfoldable pub seven : Sweep → Room → List Question

@@ -1,43 +1,38 @@
 // The call of the sweep entry: questions 1 to 8, then the sweep by its own limits.
 use memory::layout;
 ghost use mathlib.Core.Path.{_≡_};
+ghost use mathlib.Core.List.{[], _∷_};
 ghost use mathlib.Core.Option.{none};
-ghost use lib.Dec.{T};
-ghost use lib.ListN.{length};
-ghost use Rattle.lists.specs.Seq.{all};
-ghost use Rattle.arithmetic.specs.Inside.Asked.{Asked};
-ghost use Rattle.arithmetic.specs.Intervals.{range, adds, planOf, velocityInRange};
-ghost use Rattle.arithmetic.specs.Intervals as I;
+ghost use Rattle.arithmetic.specs.Inside.Asked.{Asked, ExtremesInRange, Held};
 ghost use Rattle.arithmetic.specs.declared.intervals.Plan.{Plan};
 ghost use Rattle.network.specs.Inside.Find.{limitsBy};
 ghost use Rattle.sweep.specs.Sweep.{unfolded};
-ghost use Rattle.sweep.specs.Questions.{firstNo, sevenOf, eight, asked9, gatesIn};
+ghost use Rattle.sweep.specs.Questions.{ask, firstNo, fewFor, sevenOf, eight, asked9, gatesIn};
 ghost use Rattle.sweep.specs.Call.{call, ending, clearedFor, lengths, memoryOf, answerBy};
 ghost use Rattle.sweep.specs.Entry.{sweepBy};
-ghost use Rattle.sweep.specs.Inside.Planning.{ownPlan, planningBy, Fit};
+ghost use Rattle.sweep.specs.Inside.Planning.{planFor, ownPlan, planningBy, Fit};
 ghost use Rattle.sweep.specs.declared.entry.Planning.the-variants.{Limits};
 
-// The plan of a sweep's limits, or the number of the first of questions 1 to 8 that gets a no.
+// The plan of the limits, or the number of the first of questions 1 to 8 that gets a no.
 pub enum Planning {
     Limits(arithmetic::intervals::Plan),
     Missed(u32),
 }
 
-// The adds and the number of limits of a sweep.
-pub fn plan_of(
-    o: network::options::Options,
-    velocity: &[f32],
-    valid: &[u8],
-) -> arithmetic::intervals::Plan
-    requires { ⌜ Asked (o .nyquist) (o .splits) × T (all velocityInRange (I.valid (now velocity) (now valid))) ⌝ }
-    requires { ⌜ length (now valid) ≡ length (now velocity) ⌝ }
-    ensures { λ r. ⌜ r ≡ planOf (o .splits) (adds (o .nyquist) (o .splits) (range (I.valid (now (velocity .entry)) (now (valid .entry))))) ⌝ }
+// Question 8, of a least and a greatest velocity in range: the plan of their limits. A plan that is given has at most 10,000, and they never fall.
+pub fn plan_by(o: network::options::Options, e: arithmetic::intervals::Extremes) -> Planning
+    requires { ⌜ Asked (o .nyquist) (o .splits) × ExtremesInRange e × Held e ⌝ }
+    ensures { λ r. ⌜ r ≡ planningBy (firstNo (ask 8 (fewFor (o .nyquist) (o .splits) e) ∷ [])) (planFor (o .nyquist) (o .splits) e) ⌝ }
+    ensures { λ r. ⌜ ((p : Plan) → r ≡ Limits p → Fit o p) ⌝ }
 {
-    let e = arithmetic::intervals::least_and_greatest(velocity, valid);
-    arithmetic::intervals::plan_limits(o.nyquist, o.splits, e)
+    let p = arithmetic::intervals::plan_limits(o.nyquist, o.splits, e);
+    if !crate::questions::limits_few(p) {
+        return Planning::Missed(8);
+    }
+    Planning::Limits(p)
 }
 
-// Questions 1 to 8 of an entry that works on a sweep. A plan that is given has at most 10,000 limits, and they never fall.
+// Questions 1 to 8 of an entry that works on a sweep.
 pub fn plan_sweep(
     o: network::options::Options,
     velocity: &[f32],
@@ -54,11 +49,10 @@ pub fn plan_sweep(
     if missed != 0 {
         return Planning::Missed(missed);
     }
-    let p = plan_of(o, velocity, valid);
-    if !crate::questions::limits_few(p) {
-        return Planning::Missed(8);
-    }
-    Planning::Limits(p)
+    plan_by(
+        o,
+        arithmetic::intervals::least_and_greatest(velocity, valid),
+    )
 }
 
 // The sweep by the limits of a plan, questions 1 to 8 having got a yes: just as much of the work memory as is asked for is used.

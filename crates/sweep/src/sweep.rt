@@ -16,7 +16,7 @@ ghost use Rattle.sweep.specs.Inside.Mean.{sumFrom, sizeAt, heldAt, Table
 ghost use Rattle.sweep.specs.Questions.{asked9};
 ghost use Rattle.sweep.specs.Call.{ending, memoryOf, answerBy};
 ghost use Rattle.sweep.specs.Entry.{sweepBy};
-ghost use Rattle.sweep.specs.Inside.Finish.{offsetBy, countsBy, marksBy, WritesMarks, Finishes, WritesFound, lent, written, allZero};
+ghost use Rattle.sweep.specs.Inside.Finish.{offsetBy, countsBy, marksBy, WritesMarks, Finishes, WritesFound, lent, outcomeBy, allZero};
 
 // Counts are kept with 1,000 added (layout::ZERO): the word of 0, for sums and for signed numbers.
 const ZERO_U64: u64 = 1000;
@@ -143,7 +143,7 @@ pub fn write(
     requires { ⌜ WritesFound f (now w) (now valid) (length (now folds)) (length (now doubtful)) (length (now pair)) ⌝ }
     ensures { λ r. ⌜
         record { number = r; memory = lent (now (folds .exit)) (now (doubtful .exit)) (now (pair .exit)) }
-        ≡ written f (now (w .entry)) (now (valid .entry)) centred (now (folds .entry)) (now (doubtful .entry)) (now (pair .entry))
+        ≡ ending (outcomeBy f (now (w .entry)) (now (valid .entry)) centred) (lent (now (folds .entry)) (now (doubtful .entry)) (now (pair .entry)))
         ⌝ }
 {
     match f {

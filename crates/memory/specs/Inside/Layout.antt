@@ -147,10 +147,10 @@ mergeParts n k e =
     ∷ part (tablesAt n + nodeSizeAt e (k + 1)) (k + 1) ∷ part (tablesAt n + elenAt e (k + 1)) (k + 1) ∷ part (tablesAt n + rlenAt e (k + 1)) (k + 1)
     ∷ part (tablesAt n + nodeCountAt e (k + 1)) (k + 1) ∷ part (tablesAt n + nodeMarkAt e (k + 1)) (k + 1) ∷ part (tablesAt n + logAt e (k + 1)) (6 * e) ∷ []
 
--- the parts of every stage lie apart, and fit into 77n + 32 of the 96n + 64 words that question 4 asks for, and a quarter of the floats
+-- the parts of every stage lie apart, and fit into 77n + 64 of the 96n + 64 words that question 4 asks for, and a quarter of the floats
 pub record Laid (n k m e : ℕ) : Type 0 where
-  pub regions : InTurn 0 (regionParts n) (77 * n + 32)
-  pub sort : InTurn 0 (sortParts n k m) (77 * n + 32)
-  pub gather : InTurn 0 (gatherParts n m e) (77 * n + 32)
-  pub merge : InTurn 0 (mergeParts n k e) (77 * n + 32)
+  pub regions : InTurn 0 (regionParts n) (77 * n + 64)
+  pub sort : InTurn 0 (sortParts n k m) (77 * n + 64)
+  pub gather : InTurn 0 (gatherParts n m e) (77 * n + 64)
+  pub merge : InTurn 0 (mergeParts n k e) (77 * n + 64)
   pub differences : InTurn 0 (part 0 e ∷ []) (4 * n)

@@ -76,14 +76,14 @@ pub record Merges (o : Options) (vel : List Float) (w : List ℕ) (d : List Floa
   pub label : (g : ℕ) → g < length vel → getD w g 0 ≤ k
   pub small : length vel ≤ gatesOfLargest
   pub whole : length vel ≡ o .rays * o .gates
-  pub words : 96 * length vel + 64 ≤ length w
+  pub words : 77 * length vel + 64 ≤ length w
   pub floats : 16 * length vel + 16 ≤ length d
 
 -- what finding asks: a plan whose limits never fall, and the work memory
 pub record Finds (o : Options) (p : Plan) (vel : List Float) (mask w : List ℕ) (d : List Float) : Type 0 where
   pub limited : Limited o p vel mask (length w)
   pub whole : length vel ≡ o .rays * o .gates
-  pub words : 96 * length vel + 64 ≤ length w
+  pub words : 77 * length vel + 64 ≤ length w
   pub floats : 16 * length vel + 16 ≤ length d
 
 -- the answer of finding k regions by the run's

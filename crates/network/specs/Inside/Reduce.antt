@@ -25,7 +25,7 @@ pub record Reduces (f : Shape) (w : List ℕ) (d vel : List Float) (n k : ℕ) :
   pub small : n ≤ gatesOfLargest
   pub vels : length vel ≡ n
   pub label : (j : ℕ) → j < n → getD w j 0 ≤ k
-  pub words : 96 * n + 64 ≤ length w
+  pub words : 77 * n + 64 ≤ length w
   pub floats : 16 * n + 16 ≤ length d
 
 -- what keeping the tables asks: e edges of k regions of n gates, and the words
@@ -34,7 +34,7 @@ pub record Keeps (n e k : ℕ) (w : List ℕ) : Type 0 where
   pub few : k ≤ n
   pub edges : e ≤ 4 * n
   pub small : n ≤ gatesOfLargest
-  pub words : 96 * n + 64 ≤ length w
+  pub words : 77 * n + 64 ≤ length w
 
 -- the counts, the marks and the log copied from the tables, and label 0's count 0 and mark 0
 abbrev pub countsKept : ℕ → ℕ → ℕ → List ℕ → List ℕ

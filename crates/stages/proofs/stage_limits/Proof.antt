@@ -5,10 +5,10 @@ use Prim.Native.Nat.{_≤_}
 use lib.IntN.{ℤ}
 use lib.Ieee.{Float}
 use borrow.Author.Needs.{needs}
-use Rattle.arithmetic.specs.Inside.Asked.{front}
-use Rattle.arithmetic.specs.Intervals.{valid, range, numberFor, limitsOf, limitsFor, atLeast0}
+use Rattle.arithmetic.specs.Inside.Asked.{ExtremesInRange, front}
+use Rattle.arithmetic.specs.Intervals.{valid, range, adds, planOf, numberFor, limitsOf, limitsFor, atLeast0}
 use Rattle.arithmetic.specs.declared.intervals.Extremes.{Extremes}
-use Rattle.arithmetic.proofs.Plans.{no-nan, plan-number, plan-limits-are}
+use Rattle.arithmetic.proofs.Plans.{no-nan, range-fair, plan-number, plan-limits-are}
 use Rattle.stages.proofs.stage_limits.Statement.{statement}
 use Rattle.stages.proofs.stage_limits.Tie as tie
 
@@ -16,19 +16,26 @@ use Rattle.stages.proofs.stage_limits.Tie as tie
 abbrev rangeAt : tie.Start → Extremes
 rangeAt s = range (valid (s .args .velocity .now) (s .args .valid .now))
 
-abbrev at-start : tie.After-plan-of → tie.Start
-at-start c = c .before .before .before .before
+abbrev at-start : tie.After-plan-limits → tie.Start
+at-start c = c .before .before .before .before .before
 
-number-is : (c : tie.After-plan-of) → c .plan-of .result .number ≡ numberFor (at-start c .args .nyquist) (at-start c .args .splits) (rangeAt (at-start c))
-number-is c = let s = at-start c in plan-number (c .plan-of .result) (s .args .nyquist) (s .args .splits) (rangeAt s) (rangeAt s) (c .plan-of .ensures) refl
+-- the plan is that of their limits
+planned : (c : tie.After-plan-limits) → c .plan-limits .result ≡ planOf (at-start c .args .splits) (adds (at-start c .args .nyquist) (at-start c .args .splits) (rangeAt (at-start c)))
+planned c = let s = at-start c in c .plan-limits .ensures ∙ ap (λ (e : Extremes). planOf (s .args .splits) (adds (s .args .nyquist) (s .args .splits) e)) (c .before .least-and-greatest .ensures)
 
-limits-are : (c : tie.After-plan-of)
-    → limitsOf (at-start c .args .nyquist) (at-start c .args .splits) (c .plan-of .result .«add_start») (c .plan-of .result .«add_end») (c .plan-of .result .number)
+number-is : (c : tie.After-plan-limits) → c .plan-limits .result .number ≡ numberFor (at-start c .args .nyquist) (at-start c .args .splits) (rangeAt (at-start c))
+number-is c = let s = at-start c in plan-number (c .plan-limits .result) (s .args .nyquist) (s .args .splits) (rangeAt s) (rangeAt s) (planned c) refl
+
+limits-are : (c : tie.After-plan-limits)
+    → limitsOf (at-start c .args .nyquist) (at-start c .args .splits) (c .plan-limits .result .«add_start») (c .plan-limits .result .«add_end») (c .plan-limits .result .number)
     ≡ limitsFor (at-start c .args .nyquist) (at-start c .args .splits) (rangeAt (at-start c))
-limits-are c = let s = at-start c in plan-limits-are (c .plan-of .result) (s .args .nyquist) (s .args .splits) (rangeAt s) (rangeAt s) (c .plan-of .ensures) refl
+limits-are c = let s = at-start c in plan-limits-are (c .plan-limits .result) (s .args .nyquist) (s .args .splits) (rangeAt s) (rangeAt s) (planned c) refl
 
-plan-of-requires : tie.Need-plan-of-requires
-plan-of-requires c κs = search needs
+least-and-greatest-requires : tie.Need-least-and-greatest-requires
+least-and-greatest-requires c κs = search needs
+
+plan-limits-requires : tie.Need-plan-limits-requires
+plan-limits-requires c κs = let s = c .before .before .before .before in (s .pre .0 .0, subst ExtremesInRange (sym (c .least-and-greatest .ensures)) (range-fair _ (s .pre .0 .1)))
 
 limits-requires : tie.Need-limits-requires
 limits-requires c κs =
@@ -45,4 +52,4 @@ returns c =
     (u .limits .ensures .0 ∙ ap atLeast0 (number-is d), u .limits .ensures .1 ∙ ap (λ (l : List Float). front l (at-start d .args .out .now)) (limits-are d))
 
 pub stage-limits-spec : {M : Type 1} → statement M
-stage-limits-spec = tie.close (tie.spec plan-of-requires limits-requires same-length returns)
+stage-limits-spec = tie.close (tie.spec least-and-greatest-requires plan-limits-requires limits-requires same-length returns)

@@ -2,7 +2,7 @@
 use Prim.Native.Nat.{ℕ, _+_, _*_, _≤_, _<_, _^_}
 use mathlib.Core.Path.{_≡_}
 use mathlib.Core.Bool.{cond}
-use mathlib.Core.List.{List, [], _∷_}
+use mathlib.Core.List.{List, []}
 use lib.Dec.{eqb}
 use lib.IntN.{ℤ, pos, subℕ}
 use lib.ListN.{length, getD, replicate}
@@ -15,7 +15,8 @@ use Rattle.network.specs.declared.find.Run.{Run}
 use Rattle.network.specs.declared.find.Finding.{Finding}
 use Rattle.network.specs.declared.find.Finding.the-variants.{Regions, Refused}
 use Rattle.sweep.specs.Sweep.{orZero, gateCount}
-use Rattle.sweep.specs.Call.{Memory, Answer, memoryOf}
+use Rattle.sweep.specs.Questions.{Outcome, refused, accepted}
+use Rattle.sweep.specs.Call.{Memory, memoryOf}
 use Rattle.sweep.specs.Inside.Mean.{sumFrom, sizeAt, heldAt, Tabled}
 
 -- the mean of sums: gates, and counts with 1,000 added to each
@@ -52,13 +53,10 @@ pub record Finishes (w : List ℕ) (n k : ℕ) (mask : List ℕ) (long : ℕ) : 
 abbrev pub lent : List ℤ → List ℕ → List ℕ → Memory
 lent cs ds p = record { counts = cs; doubtful = ds; pair = p; words = []; floats = [] }
 
--- what was found in these words, written: counts, marks and pair, or the refusal by question 9
-abbrev pub written : Finding → List ℕ → List ℕ → ℕ → List ℤ → List ℕ → List ℕ → Answer
-written (Regions r) w mask centred cs ds p = record {
-  number = 0;
-  memory = lent (countsBy w (length mask) (r .regions) mask centred) (marksBy w (length mask) (r .regions)) (r .regions ∷ r .merges ∷ []);
-}
-written Refused w mask centred cs ds p = record { number = 9; memory = lent cs ds p }
+-- what was found in these words: counts, marks and pair, or the refusal by question 9
+abbrev pub outcomeBy : Finding → List ℕ → List ℕ → ℕ → Outcome
+outcomeBy (Regions r) w mask centred = accepted (countsBy w (length mask) (r .regions) mask centred) (marksBy w (length mask) (r .regions)) (r .regions) (r .merges)
+outcomeBy Refused w mask centred = refused 9
 
 -- what writing asks
 pub record WritesFound (f : Finding) (w mask : List ℕ) (long bytes two : ℕ) : Type 0 where

@@ -32,8 +32,8 @@ shared-slice-read-f32-to-f64-with-nan c = search needs
 f32-to-f64-with-nan-requires : tie.Need-f32-to-f64-with-nan-requires Inv-loop μ-loop
 f32-to-f64-with-nan-requires c κs = tt
 
-include-requires : tie.Need-include-requires Inv-loop μ-loop
-include-requires c κs = tt
+widen-requires : tie.Need-widen-requires Inv-loop μ-loop
+widen-requires c κs = tt
 
 add-i : tie.Need-add-i Inv-loop μ-loop
 add-i c = search needs
@@ -73,7 +73,7 @@ least-and-greatest-spec =
     mul-f32-to-f64-with-nan
     shared-slice-read-f32-to-f64-with-nan
     f32-to-f64-with-nan-requires
-    include-requires
+    widen-requires
     add-i
     loop-less
     loop-again

@@ -1,7 +1,8 @@
 -- `sweep::sweep::write` meets its contract. Assumes nothing.
 use mathlib.Core.Path.{sym, ap, _∙_}
 use borrow.Author.Needs.{needs}
-use Rattle.sweep.specs.Inside.Finish.{lent, written}
+use Rattle.sweep.specs.Inside.Finish.{lent, outcomeBy}
+use Rattle.sweep.specs.Call.{ending}
 use Rattle.network.specs.declared.find.Finding.{Finding}
 use Rattle.sweep.proofs.sweep.write.Statement.{statement}
 use Rattle.sweep.proofs.sweep.write.Tie as tie
@@ -31,13 +32,15 @@ same-length-3 : tie.Need-same-length-3
 same-length-3 c = search needs
 
 returns : tie.Need-returns
+unfolding ending
 returns c =
     let a = c .before .before .before .before .before .before .before .before .before .before .before .before .before .before .before .before .before .before .args in
     (λ i. record { number = 0; memory = lent (c .before .before .before .before .before .before .before .before .before .settle .ensures i) (c .before .before .before .before .before .before .write-marks .ensures i) (c .before .before .write-pair .ensures i) })
-    ∙ ap (λ (y : Finding). written y (a .w .now) (a .valid .now) (a .centred) (a .folds .now) (a .doubtful .now) (a .pair .now)) (sym (c .before .before .before .before .before .before .before .before .before .before .before .before .f .given .1))
+    ∙ ap (λ (y : Finding). ending (outcomeBy y (a .w .now) (a .valid .now) (a .centred)) (lent (a .folds .now) (a .doubtful .now) (a .pair .now))) (sym (c .before .before .before .before .before .before .before .before .before .before .before .before .f .given .1))
 
 returns-2 : tie.Need-returns-2
-returns-2 c = let a = c .before .before .before .before .before .before .args in ap (λ (y : Finding). written y (a .w .now) (a .valid .now) (a .centred) (a .folds .now) (a .doubtful .now) (a .pair .now)) (sym (c .enum-told .given .1))
+unfolding ending
+returns-2 c = let a = c .before .before .before .before .before .before .args in ap (λ (y : Finding). ending (outcomeBy y (a .w .now) (a .valid .now) (a .centred)) (lent (a .folds .now) (a .doubtful .now) (a .pair .now))) (sym (c .enum-told .given .1))
 
 pub write-spec : {M : Type 1} → statement M
 write-spec =

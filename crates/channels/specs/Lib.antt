@@ -1,0 +1,4 @@
+pub mod Call
+pub mod Theorems
+pub mod Evaluating
+pub mod Inside
