@@ -1,7 +1,8 @@
 //! Times the proved sweep entry beside the Rust on made weather and on test sweeps from seed 1, in one process, and the entry's stages one by one. Every
 //! count of both sides is compared. Prints a table, and writes it to the file given: rows of comma-separated fields, for plot.py. Below the table stand
 //! the crc32 of the test sweeps' fold counts and the time of one fill. Or, with `once`, `stages` or `two` and a weather sweep's rays, gates and
-//! roughness, makes one call, times the stages alone, or times one call for two channels beside two sweep calls.
+//! roughness, makes one call, times the stages alone, or times one call for two channels beside two sweep calls; with `window`, rays and gates, times one
+//! arrival at a window of eight sweeps (window.rs).
 extern crate radish_oracle;
 use radish_oracle::dealias::dealias_region_based;
 use radish_oracle::make::weather;
@@ -19,6 +20,7 @@ use filled::{crc32, fill, filled};
 #[allow(dead_code)]
 mod stages;
 use stages::*;
+mod window;
 
 /// What a call is lent.
 struct Lent {
@@ -277,6 +279,9 @@ fn main() {
     }
     if words.first().is_some_and(|x| x == "two") {
         return two(&words[1..]);
+    }
+    if words.first().is_some_and(|x| x == "window") {
+        return window::window(&words[1..]);
     }
     let file = words.first().expect("a file to write the rows to");
     println!("| rays × gates | sweep | regions | merges | Rust s | entry s | ratio | without clearing | plain fill s | {} |", STAGES.join(" | "));

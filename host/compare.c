@@ -4,7 +4,6 @@
 #include "calls.h"
 
 #include <stdio.h>
-#include <stdlib.h>
 
 const char program[] = "compare";
 
@@ -39,21 +38,18 @@ static int read_number(const char *word, uint32_t *number)
 /* Prints the line of a sweep that has memory for its velocities and mask. Answers 0 where the library refused. */
 static int print_line(const sweep *s, uint32_t seed, size_t n)
 {
-    uint32_t state = seed, pair[2] = {0, 0};
+    uint32_t state = seed;
     uint32_t answer = jivakkol_test_sweep(s->rays, s->gates, &state, 1, s->velocity, n, s->valid, n);
     if (answer != 0)
-        return refused("the test sweep", answer);
+        return refused(s->name, answer);
     work_memory work = lent_work(n);
-    int32_t *folds = lent(n, sizeof *folds);
-    uint8_t *doubtful = lent(n, 1);
-    int found = sweep_folds(s, work, folds, doubtful, pair);
+    findings f = lent_findings(n);
+    int found = sweep_folds(s, work, &f);
     if (found)
         printf("seed %u, %u x %u: %u regions, %u merges, state after the last gate %u, crc32 of the fold counts %08x\n", seed, s->rays, s->gates,
-               pair[0], pair[1], state, crc32(folds, n));
-    free(work.words);
-    free(work.floats);
-    free(folds);
-    free(doubtful);
+               f.regions, f.merges, state, crc32(f.folds, n));
+    free_work(&work);
+    free_findings(&f);
     return found;
 }
 
@@ -67,13 +63,13 @@ int main(int count, char **word)
     for (int i = 1; i < count; i++)
         if (!read_number(word[i], &number[i - 1]))
             return 2;
-    sweep s = {.rays = number[1], .gates = number[2], .splits = 3, .skip_rays = 100, .skip_gates = 100, .centered = 1, .wrap = 1, .nyquist = JIVAKKOL_TEST_NYQUIST};
+    sweep s = {.name = "the test sweep", .rays = number[1], .gates = number[2], .splits = 3, .skip_rays = 100, .skip_gates = 100,
+               .centered = 1, .wrap = 1, .nyquist = JIVAKKOL_TEST_NYQUIST};
     /* A size that is not permitted gets no memory: the library refuses it first. */
     size_t n = s.rays <= JIVAKKOL_MOST_RAYS && s.gates <= JIVAKKOL_MOST_GATES ? (size_t)s.rays * s.gates : 0;
     s.velocity = lent(n, sizeof *s.velocity);
     s.valid = lent(n, 1);
     int done = print_line(&s, number[0], n);
-    free(s.velocity);
-    free(s.valid);
+    free_sweep(&s);
     return done ? 0 : 2;
 }

@@ -5,12 +5,12 @@
 enum { sign_wide = 5, sign_high = 7, sign_step = 6, signs_a_line = 16 };
 
 /* Every sign stands in the drawing below at its place in this list; one that is not listed is left blank. */
-static const char font_signs[] = "0123456789-./acdefghilmnorstuwyb";
+static const char font_signs[] = "0123456789-./acdefghilmnorstuwybp,";
 
-/* g and y hang below the line by two points. */
-static const char font_hanging[] = "gy";
+/* g, y, p and the comma hang below the line by two points. */
+static const char font_hanging[] = "gyp,";
 
-static const char *const font_rows[2][7] = {
+static const char *const font_rows[3][7] = {
     {
         " ###    #    ###   ###     #  #####   ##  #####  ###   ###                  #                 #",
         "#   #  ##   #   # #   #   ##  #      #        # #   # #   #                 #                 #",
@@ -28,6 +28,15 @@ static const char *const font_rows[2][7] = {
         "#####  #     #### #   #   #     #   # # # #   # #   # #      ###   #    #   # # # #  #### #   #",
         "#      #        # #   #   #     #   # # # #   # #   # #         #  #    #  ## # # #     # #   #",
         " ###   #     ###  #   #  ###   ###  # # # #   #  ###  #     ####    ##   ## #  # #   ###  #### ",
+    },
+    {
+        "####       ",
+        "#   #      ",
+        "#   #      ",
+        "#   #  ##  ",
+        "####   ##  ",
+        "#       #  ",
+        "#      #   ",
     },
 };
 

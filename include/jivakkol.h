@@ -1,12 +1,13 @@
 /* The exported entries of Jivakkol: fold counts and marks of a radar sweep, its merge book, the same of two channels at once, its region map, its
- * unfolded velocities, sweep files, and test sweeps.
+ * unfolded velocities, the wind over the last sweeps, sweep files, and test sweeps.
  *
  * Every slice is a pointer and a length. What a host must see to: no slice that a call writes overlaps another that it is given; memory is
  * initialised, and no other thread uses it while the call lasts (calls on different memory may run at once); the thread has about 80 KB of stack
  * left; the processor rounds to nearest and does not flush subnormals.
  * For each input the answer and all memory lent are what crates/sweep/specs/Call.antt (`call`), crates/sweep_book/specs/Book.antt (`callBook`),
  * crates/channels/specs/Call.antt (`callTwo`), crates/map/specs/Map.antt (`callMap`), crates/sweep/specs/Velocity.antt (`callVelocity`),
- * crates/files/specs/Calls.antt (`callRead`, `callWrite`, `callSize`) and crates/test_sweep/specs/Call.antt (`callTest`) say.
+ * crates/window/specs/Window.antt (`callWindow`), crates/files/specs/Calls.antt (`callRead`, `callWrite`, `callSize`) and
+ * crates/test_sweep/specs/Call.antt (`callTest`) say.
  */
 #ifndef JIVAKKOL_H
 #define JIVAKKOL_H
@@ -120,6 +121,27 @@ uint32_t jivakkol_unfold_velocity(
     uint32_t rays, uint32_t gates, float nyquist,
     const float *velocity, size_t velocity_len, const uint8_t *valid, size_t valid_len,
     const int32_t *folds, size_t folds_len, const uint32_t *labels, size_t labels_len, double *unfolded, size_t unfolded_len);
+
+/* The sweeps that a window holds at most. */
+#define JIVAKKOL_WINDOW_PLACES 8
+
+/* The wind over the last sweeps: a sweep's winds taken into a window of at most eight, and the picture of their medians.
+ *
+ * rays to labels are the input of jivakkol_unfold_velocity. The window is of one size, m = rays * gates of its own: window has 4 words, its rays, its gates
+ * per ray, the sweeps held (0 to 8) and the next place (0 to 7); winds and shown have 8 * m elements, eight places of m gates; picture and marks have m.
+ * To begin, write the size and two zeros into window; winds, shown, picture and marks may hold anything. From then on only these calls write them.
+ * An accepted sweep takes the next place, and with it that of the oldest where eight are held; no sweep is moved. Each gate of the picture gets the median of the
+ * winds that it shows in the sweeps held, of an even number the lower of the two middle ones, and mark 0; where it shows none, 0 and mark 1.
+ * Nyquist may differ from sweep to sweep; a sweep that is masked all over counts as one.
+ * Answers 0, or the number of the first question that got a no, with all five unchanged:
+ *   1 rays above 720 or gates above 1,200, of the sweep or of the window      2 a slice of another length, more than eight held, or a next place above 7
+ *   3, 5, 7, 10 as jivakkol_unfold_velocity      14 a sweep of other rays or gates than the window's */
+uint32_t jivakkol_window_add(
+    uint32_t rays, uint32_t gates, float nyquist,
+    const float *velocity, size_t velocity_len, const uint8_t *valid, size_t valid_len,
+    const int32_t *folds, size_t folds_len, const uint32_t *labels, size_t labels_len,
+    uint32_t *window, size_t window_len, double *winds, size_t winds_len, uint8_t *shown, size_t shown_len,
+    double *picture, size_t picture_len, uint8_t *marks, size_t marks_len);
 
 /* The sweep of a file: velocity_bits gets the bits of each gate's velocity, valid its mask byte, and header eight numbers: rays, gates,
  * Nyquist's bits, interval_splits, skip_between_rays, skip_along_ray, centered, rays_wrap_around.

@@ -30,6 +30,12 @@ extern "C" {
         rays: u32, gates: u32, nyquist: f32, velocity: *const f32, velocity_len: usize, valid: *const u8, valid_len: usize,
         folds: *const i32, folds_len: usize, labels: *const u32, labels_len: usize, unfolded: *mut f64, unfolded_len: usize,
     ) -> u32;
+    pub fn jivakkol_window_add(
+        rays: u32, gates: u32, nyquist: f32, velocity: *const f32, velocity_len: usize, valid: *const u8, valid_len: usize,
+        folds: *const i32, folds_len: usize, labels: *const u32, labels_len: usize,
+        window: *mut u32, window_len: usize, winds: *mut f64, winds_len: usize, shown: *mut u8, shown_len: usize,
+        picture: *mut f64, picture_len: usize, marks: *mut u8, marks_len: usize,
+    ) -> u32;
     pub fn jivakkol_read_sweep(
         file: *const u8, file_len: usize, velocity_bits: *mut u32, velocity_len: usize, valid: *mut u8, valid_len: usize,
         header: *mut u32, header_len: usize,

@@ -1,7 +1,8 @@
 //! Feeds the same made sweeps to the proved entries (the static library) and to the Rust, in one process, and compares every result: answer
 //! number, counts, marks, pair, labels, number of regions, and every word of lent memory that must or must not change. Sweep files: files.rs.
 //! Edge records, from the stages of a call: records.rs. Merges at and beside a near tie: marks.rs. The merge book: books.rs. The second entry: velocity.rs.
-//! Test sweeps from a seed number: seeds.rs. Two channels with the same limits: two.rs, and pairs.rs makes them.
+//! Test sweeps from a seed number: seeds.rs. Two channels with the same limits: two.rs, and pairs.rs makes them. The wind over the last sweeps:
+//! windows.rs, and arrivals.rs makes what arrives.
 extern crate radish_oracle;
 use radish_oracle::make::{sized, small, weather, Rng};
 use radish_oracle::Sweep;
@@ -10,6 +11,7 @@ use std::collections::BTreeMap;
 #[path = "../../include/jivakkol.rs"]
 mod jivakkol;
 use jivakkol::{jivakkol_dealias_sweep, jivakkol_region_map};
+mod arrivals;
 mod books;
 mod files;
 mod filled;
@@ -19,6 +21,7 @@ mod records;
 mod seeds;
 mod two;
 mod velocity;
+mod windows;
 
 /// What a call is lent; filled with values that a call must not leave where it clears, and must leave where it does not.
 #[derive(Clone)]
@@ -360,6 +363,7 @@ fn main() {
     }
     println!("sizes or lengths off: {}, by answer {:?}, of the region map {:?}", count / 10, offs[0], offs[1]);
     velocity::run(count);
+    windows::run(count);
     marks::run(15 * count);
     files::run(count);
     records::run(count / 2);

@@ -128,7 +128,8 @@ pub const SLICES: [&str; 12] = [
 /// How often each slice was one element too short, and one too long; work memory may be longer than asked.
 pub type Lengths = [[u64; 12]; 2];
 
-fn resize<T: Default + Clone>(slice: &mut Vec<T>, asked: usize, longer: bool) -> bool {
+/// One element longer than asked, or shorter where there is one: whether longer.
+pub fn resize<T: Default + Clone>(slice: &mut Vec<T>, asked: usize, longer: bool) -> bool {
     let longer = longer || asked == 0;
     slice.resize(if longer { asked + 1 } else { asked - 1 }, T::default());
     longer

@@ -35,13 +35,13 @@ pub fn compare_left(s: &Sweep, counts: &[i32], labels: &[u32]) -> Result<(), Str
     }
 }
 
-/// What a call is given and lent.
+/// What a call is given and lent. A window (windows.rs) is given the same; no velocities are lent to it.
 #[derive(Clone)]
-struct Given {
-    sweep: Sweep,
-    counts: Vec<i32>,
-    labels: Vec<u32>,
-    unfolded: Vec<f64>,
+pub struct Given {
+    pub sweep: Sweep,
+    pub counts: Vec<i32>,
+    pub labels: Vec<u32>,
+    pub unfolded: Vec<f64>,
 }
 
 /// Labels that few maps have, or none; among them some that a program would take for 0 that looks at low bits alone.
@@ -51,22 +51,22 @@ const NO_VELOCITIES: [f32; 7] = [f32::NAN, f32::INFINITY, f32::NEG_INFINITY, 163
 const NYQUISTS: [f32; 8] = [0.125, 1024.0, 0.0, -1.0, 0.12499999, 1024.0001, f32::NAN, f32::INFINITY];
 
 /// Any label but 0.
-fn label(r: &mut Rng) -> u32 {
+pub fn label(r: &mut Rng) -> u32 {
     if r.below(3) > 0 { r.one_of(&LABELS) } else { (r.next() as u32).max(1) }
 }
 
 /// A count that question 10 takes, often the last.
-fn within(r: &mut Rng) -> i32 {
+pub fn within(r: &mut Rng) -> i32 {
     if r.below(4) == 0 { r.one_of(&[-2000, -1999, -1, 0, 1, 1999, 2000]) } else { r.below(4001) as i32 - 2000 }
 }
 
 /// A count that question 10 does not take, often the first; any i32 in some cases, of which few are within.
-fn beyond(r: &mut Rng) -> i32 {
+pub fn beyond(r: &mut Rng) -> i32 {
     if r.below(3) > 0 { r.one_of(&[-2001, 2001, -2001, 2001, 65_536, -65_536, i32::MIN, i32::MAX]) } else { r.next() as i32 }
 }
 
 /// These labels with some put to 0 and some zeros to a label, also at masked gates; in some cases none stays, or no 0.
-fn relabelled(r: &mut Rng, labels: &[u32]) -> Vec<u32> {
+pub fn relabelled(r: &mut Rng, labels: &[u32]) -> Vec<u32> {
     let (taken, given) = r.one_of(&[(0, 0), (1, 1), (3, 3), (1, 8), (8, 1), (10, 0), (0, 10)]);
     let changed = |&l: &u32| match r.below(10) {
         part if l == 0 && part < given => label(r),
@@ -78,7 +78,7 @@ fn relabelled(r: &mut Rng, labels: &[u32]) -> Vec<u32> {
 
 /// What a gate is to the second entry.
 #[derive(Clone, Copy, PartialEq)]
-enum Kind {
+pub enum Kind {
     Shown,
     Masked,
     Unlabelled,
@@ -91,7 +91,7 @@ impl Given {
         Given { sweep: s.clone(), counts: vec![0; labels.len()], labels, unfolded }
     }
 
-    fn kind(&self, g: usize) -> Kind {
+    pub fn kind(&self, g: usize) -> Kind {
         match (self.sweep.mask[g], self.labels[g]) {
             (1, 0) => Kind::Unlabelled,
             (1, _) => Kind::Shown,
@@ -104,7 +104,7 @@ impl Given {
     }
 
     /// Some counts beyond 2,000 where no wind is shown. Where one is shown none in half of the cases, else a single one or a few.
-    fn with_counts(mut self, r: &mut Rng) -> Given {
+    pub fn with_counts(mut self, r: &mut Rng) -> Given {
         let (few, others) = (r.below(4) == 0, r.one_of(&[0, 3, 10]));
         for g in 0..self.counts.len() {
             let wild = if self.kind(g) == Kind::Shown { few && r.below(50) == 0 } else { r.below(10) < others };
@@ -118,7 +118,7 @@ impl Given {
     }
 
     /// In some cases one or two valid gates of label 0 get what is no velocity.
-    fn with_velocities(mut self, r: &mut Rng) -> Given {
+    pub fn with_velocities(mut self, r: &mut Rng) -> Given {
         let unlabelled = self.gates(Kind::Unlabelled);
         if !unlabelled.is_empty() && r.below(5) == 0 {
             (0..1 + r.below(2)).for_each(|_| self.sweep.velocities[r.one_of(&unlabelled)] = r.one_of(&NO_VELOCITIES));
@@ -126,21 +126,24 @@ impl Given {
         self
     }
 
-    /// One to three changes that miss question 3, 5, 7 or 10, or nearly do; in half of the cases with no label at all.
+    /// One change that misses question 3, 5, 7 or 10, or nearly does.
+    pub fn change(&mut self, r: &mut Rng) {
+        let n = self.labels.len() as u64;
+        let (g, s) = (r.below(n.max(1)) as usize, &mut self.sweep);
+        match r.below(4) {
+            0 if n > 0 => s.mask[g] = 2 + r.below(254) as u8,
+            1 if n > 0 => (s.mask[g], s.velocities[g]) = (1, r.one_of(&NO_VELOCITIES)),
+            2 if n > 0 => (s.mask[g], self.counts[g]) = (1, beyond(r)),
+            _ => s.nyquist = r.one_of(&NYQUISTS),
+        }
+    }
+
+    /// One to three such changes; in half of the cases with no label at all.
     fn with_faults(mut self, r: &mut Rng) -> Given {
         if r.below(2) == 0 {
             self.labels.fill(0);
         }
-        let n = self.labels.len() as u64;
-        for _ in 0..1 + r.below(3) {
-            let (g, s) = (r.below(n.max(1)) as usize, &mut self.sweep);
-            match r.below(4) {
-                0 if n > 0 => s.mask[g] = 2 + r.below(254) as u8,
-                1 if n > 0 => (s.mask[g], s.velocities[g]) = (1, r.one_of(&NO_VELOCITIES)),
-                2 if n > 0 => (s.mask[g], self.counts[g]) = (1, beyond(r)),
-                _ => s.nyquist = r.one_of(&NYQUISTS),
-            }
-        }
+        (0..1 + r.below(3)).for_each(|_| self.change(r));
         self
     }
 

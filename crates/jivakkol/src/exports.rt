@@ -6,6 +6,7 @@ ghost use Rattle.sweep_book.specs.Book.{callBook, bookAnswerBy};
 ghost use Rattle.channels.specs.Call.{channelOf, twoMemoryOf, twoAnswerBy, callTwo};
 ghost use Rattle.map.specs.Map.{callMap, mapMemoryOf, mapAnswerBy};
 ghost use Rattle.sweep.specs.Velocity.{callVelocity, counted, velocityAnswerBy};
+ghost use Rattle.window.specs.Window.{windowOf, windowAnswerBy, callWindow};
 ghost use Rattle.files.specs.Format.{optionsOf};
 ghost use Rattle.test_sweep.specs.Call.{slicesOf, callTest, testAnswerBy};
 ghost use Rattle.files.specs.Calls.{callRead, readAnswerBy, callWrite, writtenBy, callSize, sizeAnswerBy};
@@ -220,6 +221,44 @@ pub extern "C" fn jivakkol_unfold_velocity(
         folds,
         labels,
         unfolded,
+    )
+}
+
+// A sweep's winds taken into the window of the last eight, and the picture of their medians drawn anew.
+#[no_mangle]
+pub extern "C" fn jivakkol_window_add(
+    rays: u32,
+    gates: u32,
+    nyquist: f32,
+    velocity: &[f32],
+    valid: &[u8],
+    folds: &[i32],
+    labels: &[u32],
+    window: &mut [u32],
+    winds: &mut [f64],
+    shown: &mut [u8],
+    picture: &mut [f64],
+    marks: &mut [u8],
+) -> u32
+    ensures { λ r. ⌜ (
+        let u = counted rays gates nyquist (now (velocity .entry)) (now (valid .entry)) (now (folds .entry)) (now (labels .entry)) in
+        let w = windowOf (now (window .entry)) (now (winds .entry)) (now (shown .entry)) (now (picture .entry)) (now (marks .entry)) in
+        windowAnswerBy r (now (window .exit)) (now (winds .exit)) (now (shown .exit)) (now (picture .exit)) (now (marks .exit)) ≡ callWindow u w
+        ) ⌝ }
+{
+    window::entry::window_add(
+        rays,
+        gates,
+        nyquist,
+        velocity,
+        valid,
+        folds,
+        labels,
+        window,
+        winds,
+        shown,
+        picture,
+        marks,
     )
 }
 

@@ -19,6 +19,7 @@ use Rattle.sweep.specs.Call.{Memory, Answer, lengths, clearedFor, call}
 use Rattle.sweep.specs.Entry.{answerOf}
 use Rattle.sweep.specs.Velocity.{Counted, VelocityAnswer, velocities, askedVelocity, callVelocity}
 use Rattle.channels.specs.Call.{TwoMemory, callTwo}
+use Rattle.window.specs.Window.{Window, wordsOf, callWindow}
 use Rattle.test_sweep.specs.Call.{Slices, callTest}
 use Rattle.locality.specs.Demand3.{Apart, MergeList, Does, labelAt, first, countAt, markAt, Alike, offset, Agree}
 
@@ -137,6 +138,17 @@ VelocitiesAre = (u : Counted) (out : List Float) (a : VelocityAnswer) → Called
 -- `test-one-is-size`: it answers 1 exactly if the sweep is larger than the largest
 abbrev pub TestSize : Type 0
 TestSize = (rays gates : ℕ) (word : List ℕ) (m : Slices) → OneIsSize rays gates (callTest rays gates word m .number)
+
+-- ---- the window's entry: its other statements stand in window
+
+-- an answer is 1 exactly if the sweep, or the window of these rays and gates, is larger than the largest
+pub record OneIsEither (rays gates windowRays windowGates number : ℕ) : Type 0 where
+  pub refused : Larger rays gates ⊎ Larger windowRays windowGates → number ≡ 1
+  pub larger : number ≡ 1 → Larger rays gates ⊎ Larger windowRays windowGates
+
+-- `window-one-is-size`: it answers 1 exactly so
+abbrev pub WindowSize : Type 0
+WindowSize = (u : Counted) (w : Window) → OneIsEither (u .rays) (u .gates) (wordsOf w .rays) (wordsOf w .gates) (callWindow u w .number)
 
 -- ---- the entry for two channels: its other statements stand in channels
 

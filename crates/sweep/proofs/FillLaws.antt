@@ -1,4 +1,4 @@
--- A slice filled place by place from its front, and one of a single word. Assumes nothing.
+-- A slice, or a part of it, filled place by place, and one of a single word. Assumes nothing.
 use Prim.Native.Nat.{ℕ, _+_, _-_, _≤_}
 use native.Mathlib.Omega.{arith}
 use mathlib.Core.Path.{_≡_, refl, sym, ap, _∙_}
@@ -28,17 +28,25 @@ module _ {A : Type 0} where
       (lt-or-le j (length vs)))
 
   module _ (f : ℕ → A) (w₀ : List A) where
-    pub fill-begin : w₀ ≡ put w₀ 0 (tabulate 0 f)
+    -- a part of it, from b on
+    pub part-begin : (b : ℕ) → w₀ ≡ put w₀ b (tabulate 0 f)
     unfolding tabulate upto
-    fill-begin = sym (put-nil w₀ 0)
+    part-begin b = sym (put-nil w₀ b)
+
+    pub part-on : (b : ℕ) (w : List A) (i : ℕ) (x : A) → w ≡ put w₀ b (tabulate i f) → x ≡ f i → set w (b + i) x ≡ put w₀ b (tabulate (i + 1) f)
+    part-on b w i x e h =
+        ap (λ (l : List A). set l (b + i) x) e
+        ∙ ap (λ (y : A). set (put w₀ b (tabulate i f)) (b + i) y) h
+        ∙ ap (λ (j : ℕ). set (put w₀ b (tabulate i f)) (b + j) (f i)) (sym (tab-length f i))
+        ∙ put-snoc w₀ b (tabulate i f) (f i)
+        ∙ ap (put w₀ b) (sym (tab-snoc f i))
+
+    -- from the front
+    pub fill-begin : w₀ ≡ put w₀ 0 (tabulate 0 f)
+    fill-begin = part-begin 0
 
     pub fill-on : (w : List A) (i : ℕ) (x : A) → w ≡ put w₀ 0 (tabulate i f) → x ≡ f i → set w i x ≡ put w₀ 0 (tabulate (i + 1) f)
-    fill-on w i x e h =
-        ap (λ (l : List A). set l i x) e
-        ∙ ap (λ (y : A). set (put w₀ 0 (tabulate i f)) i y) h
-        ∙ ap (λ (j : ℕ). set (put w₀ 0 (tabulate i f)) j (f i)) {x = i} {y = 0 + length (tabulate i f)} (omega (arith, tab-length f i))
-        ∙ put-snoc w₀ 0 (tabulate i f) (f i)
-        ∙ ap (put w₀ 0) (sym (tab-snoc f i))
+    fill-on w i x e h = ap (λ (j : ℕ). set w j x) {x = i} {y = 0 + i} (omega arith) ∙ part-on 0 w i x e h
 
     pub fill-front : (w : List A) (i n : ℕ) → w ≡ put w₀ 0 (tabulate i f) → i ≡ n → n ≤ length w₀ → w ≡ tabulate n f ++ drop n w₀
     fill-front w i n e h l =

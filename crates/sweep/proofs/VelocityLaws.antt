@@ -90,6 +90,11 @@ module _ (z : ℤ) (f : SFits w32 z) where
 
 -- ---- the questions and the call
 
+-- questions 7 and 10, put gate by gate
+pub gates-are : (u : Counted) → length (u .vel) ≡ u .rays * u .gates → gatesAsked (u .vel) (u .mask) (u .counts) (u .labels) ≡ firstNo (ask 7 (velocitiesInRange (u .vel) (u .mask)) ∷ ask 10 (countsInRange u) ∷ [])
+unfolding gatesAsked countsInRange
+gates-are u b = ap (λ (j : ℕ). firstNo (ask 7 (velocitiesInRange (u .vel) (u .mask)) ∷ ask 10 (all (countTest (u .mask) (u .counts) (u .labels)) (upto j 0)) ∷ [])) b
+
 module _ (u : Counted) (k : ℕ) where
   -- the code's own question 2, n being its product
   pub length-is : (r own : Bool) (n : ℕ) → r ≡ lengthsFit n (u .vel) (u .mask) own → own ≡ (eqb (length (u .counts)) n && eqb (length (u .labels)) n && eqb k n) → n ≡ u .rays * u .gates
@@ -114,11 +119,6 @@ module _ (u : Counted) (k : ℕ) where
       let q = long-are n (u .vel) (u .mask) (ownLong u k) h in
       let l = three-are (length (u .counts)) n (length (u .labels)) n k n (q .2) in
       record { vel = q .0; mask = q .1; counts = l .0; labels = l .1; written = l .2 }
-
-  -- its questions 7 and 10, put gate by gate
-  pub gates-are : length (u .vel) ≡ u .rays * u .gates → gatesAsked (u .vel) (u .mask) (u .counts) (u .labels) ≡ firstNo (ask 7 (velocitiesInRange (u .vel) (u .mask)) ∷ ask 10 (countsInRange u) ∷ [])
-  unfolding gatesAsked countsInRange
-  gates-are b = ap (λ (j : ℕ). firstNo (ask 7 (velocitiesInRange (u .vel) (u .mask)) ∷ ask 10 (all (countTest (u .mask) (u .counts) (u .labels)) (upto j 0)) ∷ [])) b
 
   -- no question has the number 0
   pub none-missed : (r : ℕ) → r ≡ answerOf (askedVelocity u k) → r ≡ 0 → askedVelocity u k ≡ none

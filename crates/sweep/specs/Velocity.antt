@@ -11,7 +11,7 @@ use Rattle.lists.specs.Seq.{upto, all, tabulate}
 use Rattle.arithmetic.specs.Rounding.{real}
 use Rattle.arithmetic.specs.Intervals.{twoNyquist, nyquistInRange}
 use Rattle.network.specs.Network.{bounded}
-use Rattle.sweep.specs.Questions.{ask, firstNo, sizeInRange, lengthsFit, maskIsBits, velocitiesInRange}
+use Rattle.sweep.specs.Questions.{Question, ask, firstNo, sizeInRange, lengthsFit, maskIsBits, velocitiesInRange}
 
 -- the inputs of a call of the second entry
 pub record Counted : Type 0 where
@@ -55,16 +55,21 @@ countPasses m c l = not (showsWind m l) || bounded 2000 c
 unfoldable pub countsInRange : Counted → Bool
 countsInRange u = all (λ g. countPasses (getD (u .mask) g 0) (getD (u .counts) g (pos 0)) (getD (u .labels) g 0)) (upto (u .rays * u .gates) 0)
 
+-- questions 3, 5, 7 and 10, which follow the size and the lengths
+abbrev pub afterLengths : Counted → List Question
+afterLengths u =
+    ask 3 (maskIsBits (u .mask))
+    ∷ ask 5 (nyquistInRange (u .nyquist))
+    ∷ ask 7 (velocitiesInRange (u .vel) (u .mask))
+    ∷ ask 10 (countsInRange u)
+    ∷ []
+
 -- questions 1, 2, 3, 5, 7 and 10
 unfoldable pub askedVelocity : Counted → ℕ → Option ℕ
 askedVelocity u k = firstNo (
     ask 1 (sizeInRange (u .rays) (u .gates))
     ∷ ask 2 (lengthsFit (u .rays * u .gates) (u .vel) (u .mask) (ownLong u k))
-    ∷ ask 3 (maskIsBits (u .mask))
-    ∷ ask 5 (nyquistInRange (u .nyquist))
-    ∷ ask 7 (velocitiesInRange (u .vel) (u .mask))
-    ∷ ask 10 (countsInRange u)
-    ∷ []
+    ∷ afterLengths u
     )
 
 -- an answer number and the velocities written

@@ -2,17 +2,15 @@
 use memory::layout;
 ghost use mathlib.Core.Path.{_≡_};
 ghost use mathlib.Core.Bool.{_&&_};
-ghost use Prim.Native.Nat.{_*_, _≤_};
+ghost use Prim.Native.Nat.{ℕ, _*_, _≤_};
 ghost use lib.Dec.{eqb, leb};
-ghost use lib.ListN.{length, getD};
-ghost use lib.IntN.{pos};
+ghost use lib.ListN.{length};
 ghost use Rattle.memory.specs.Size.{gatesOfLargest};
-ghost use Rattle.lists.specs.Seq.{upto, all};
 ghost use Rattle.arithmetic.specs.Intervals.{nyquistInRange, velocityInRange};
 ghost use Rattle.network.specs.Network.{bounded};
 ghost use Rattle.sweep.specs.Questions.{firstNo, seven, room, atMost, wordsFor, floatsFor, sizeInRange, lengthsFit, maskIsBits, velocitiesInRange};
 ghost use Rattle.sweep.specs.Entry.{sweepBy, answerOf};
-ghost use Rattle.sweep.specs.Velocity.{counted, showsWind, askedVelocity};
+ghost use Rattle.sweep.specs.Velocity.{counted, showsWind, afterLengths, askedVelocity};
 ghost use Rattle.sweep.specs.Inside.Gates.{gateAsked, gatesAsked};
 
 // The ranges that the questions ask for.
@@ -255,6 +253,27 @@ pub fn first_missed(o: network::options::Options, velocity: &[f32], valid: &[u8]
     0
 }
 
+// Questions 3, 5, 7 and 10 of the second entry's input, whose lengths fit: the number of the first that gets a no, or 0.
+pub fn missed_after_lengths(
+    nyquist: f32,
+    velocity: &[f32],
+    valid: &[u8],
+    folds: &[i32],
+    labels: &[u32],
+) -> u32
+    requires { ⌜ (length (now valid) ≡ length (now velocity)) × (length (now folds) ≡ length (now velocity)) × (length (now labels) ≡ length (now velocity)) ⌝ }
+    ensures { λ r. ⌜ ((rays gates : ℕ) → length (now (velocity .entry)) ≡ rays * gates → r
+        ≡ answerOf (firstNo (afterLengths (counted rays gates nyquist (now (velocity .entry)) (now (valid .entry)) (now (folds .entry)) (now (labels .entry)))))) ⌝ }
+{
+    if !mask_is_bits(valid) {
+        return 3;
+    }
+    if !nyquist_in_range(nyquist) {
+        return 5;
+    }
+    gates_missed(velocity, valid, folds, labels)
+}
+
 // The second entry's questions, 1, 2, 3, 5, 7 and 10: the number of the first that gets a no, or 0. `unfolded` is a length.
 pub fn first_missed_velocity(
     rays: u32,
@@ -279,11 +298,5 @@ pub fn first_missed_velocity(
     if !lengths_fit(n, velocity, valid, own) {
         return 2;
     }
-    if !mask_is_bits(valid) {
-        return 3;
-    }
-    if !nyquist_in_range(nyquist) {
-        return 5;
-    }
-    gates_missed(velocity, valid, folds, labels)
+    missed_after_lengths(nyquist, velocity, valid, folds, labels)
 }

@@ -18,7 +18,7 @@ fn unfolded_at(nyquist: f32, v: f32, valid: u8, count: i32, label: u32) -> f64
 }
 
 // Every gate's unfolded velocity.
-fn unfold_gates(
+pub fn unfold_gates(
     nyquist: f32,
     velocity: &[f32],
     valid: &[u8],

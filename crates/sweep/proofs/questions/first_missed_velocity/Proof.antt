@@ -1,16 +1,15 @@
 -- `sweep::questions::first_missed_velocity` meets its contract. Assumes nothing.
 use mathlib.Core.Bool.{true}
 use mathlib.Core.Path.{_≡_, sym, ap, _∙_}
-use mathlib.Core.List.{List, [], _∷_}
+use mathlib.Core.List.{List, _∷_}
 use Prim.Native.Nat.{_*_}
 use lib.ListN.{drop}
 use borrow.Author.Needs.{needs}
-use Rattle.sweep.proofs.VelocityLaws.{Long, length-is, lengths, gates-are}
+use Rattle.sweep.proofs.VelocityLaws.{Long, length-is, lengths}
 use Rattle.sweep.proofs.PassedLaws.{answer-no, answer-yes}
 use Rattle.sweep.proofs.QuestionLaws.{on, no}
-use Rattle.arithmetic.specs.Intervals.{nyquistInRange}
-use Rattle.sweep.specs.Velocity.{Counted, counted, ownLong, countsInRange, askedVelocity}
-use Rattle.sweep.specs.Questions.{Question, ask, sizeInRange, maskIsBits, velocitiesInRange, firstNo, lengthsFit}
+use Rattle.sweep.specs.Velocity.{Counted, counted, ownLong, afterLengths, askedVelocity}
+use Rattle.sweep.specs.Questions.{Question, ask, sizeInRange, firstNo, lengthsFit}
 use Rattle.sweep.specs.Entry.{answerOf}
 use Rattle.sweep.proofs.questions.first_missed_velocity.Statement.{statement}
 use Rattle.sweep.proofs.questions.first_missed_velocity.Tie as tie
@@ -20,7 +19,7 @@ abbrev countedAt : tie.Start → Counted
 countedAt s = counted (s .args .rays) (s .args .gates) (s .args .nyquist) (s .args .velocity .now) (s .args .valid .now) (s .args .folds .now) (s .args .labels .now)
 
 abbrev asks : tie.Start → List Question
-asks s = let u = countedAt s in ask 1 (sizeInRange (u .rays) (u .gates)) ∷ ask 2 (lengthsFit (u .rays * u .gates) (u .vel) (u .mask) (ownLong u (s .args .unfolded))) ∷ ask 3 (maskIsBits (u .mask)) ∷ ask 5 (nyquistInRange (u .nyquist)) ∷ ask 7 (velocitiesInRange (u .vel) (u .mask)) ∷ ask 10 (countsInRange u) ∷ []
+asks s = let u = countedAt s in ask 1 (sizeInRange (u .rays) (u .gates)) ∷ ask 2 (lengthsFit (u .rays * u .gates) (u .vel) (u .mask) (ownLong u (s .args .unfolded))) ∷ afterLengths u
 
 -- where the call began, from each place after a yes
 abbrev at-1 : tie.Else1 → tie.Start
@@ -28,12 +27,6 @@ at-1 c = c .before .before .before .before .before
 
 abbrev at-2 : tie.Else2 → tie.Start
 at-2 c = at-1 (c .before .before .before .before)
-
-abbrev at-3 : tie.Else3 → tie.Start
-at-3 c = at-2 (c .before .before)
-
-abbrev at-4 : tie.Else4 → tie.Start
-at-4 c = at-3 (c .before .before)
 
 -- what each yes says, and the questions that are left after it
 long-yes : (c : tie.Else2) → lengthsFit (at-2 c .args .rays * at-2 c .args .gates) (at-2 c .args .velocity .now) (at-2 c .args .valid .now) (ownLong (countedAt (at-2 c)) (at-2 c .args .unfolded)) ≡ true
@@ -45,15 +38,9 @@ left-1 c = on _ _ (answer-yes (c .before .size-in-range .ensures) (c .if1 .left)
 left-2 : (c : tie.Else2) → firstNo (asks (at-2 c)) ≡ firstNo (drop 2 (asks (at-2 c)))
 left-2 c = left-1 (c .before .before .before .before) ∙ on _ _ (long-yes c)
 
-left-3 : (c : tie.Else3) → firstNo (asks (at-3 c)) ≡ firstNo (drop 3 (asks (at-3 c)))
-left-3 c = left-2 (c .before .before) ∙ on _ _ (answer-yes (c .before .mask-is-bits .ensures) (c .if3 .left))
-
-left-4 : (c : tie.Else4) → firstNo (asks (at-4 c)) ≡ firstNo (drop 4 (asks (at-4 c)))
-left-4 c = left-3 (c .before .before) ∙ on _ _ (answer-yes (c .before .nyquist-in-range .ensures) (c .if4 .left))
-
--- the lengths, where the gates are asked
-long-here : (c : tie.Else4) → Long (countedAt (at-4 c)) (at-4 c .args .unfolded)
-long-here c = lengths _ _ (long-yes (c .before .before .before .before))
+-- the lengths, where they got a yes
+long-here : (c : tie.Else2) → Long (countedAt (at-2 c)) (at-2 c .args .unfolded)
+long-here c = lengths _ _ (long-yes c)
 
 size-in-range-requires : tie.Need-size-in-range-requires
 size-in-range-requires c κs = search needs
@@ -75,28 +62,12 @@ returns-2 : tie.Need-returns-2
 unfolding askedVelocity
 returns-2 c = let s = c .before .before .before .before .before .before .before .before .before in sym (ap answerOf (left-1 (c .before .before .before .before) ∙ no _ _ (answer-no (length-is (countedAt s) (s .args .unfolded) _ _ _ (c .before .lengths-fit .ensures) (c .before .before .three-long .ensures) (c .before .before .before .gates-in .ensures)) (c .if2 .taken))))
 
-mask-is-bits-requires : tie.Need-mask-is-bits-requires
-mask-is-bits-requires c κs = search needs
+missed-after-lengths-requires : tie.Need-missed-after-lengths-requires
+missed-after-lengths-requires c κs = let l = long-here c in (l .mask ∙ sym (l .vel), l .counts ∙ sym (l .vel), l .labels ∙ sym (l .vel))
 
 returns-3 : tie.Need-returns-3
 unfolding askedVelocity
-returns-3 c = sym (ap answerOf (left-2 (c .before .before) ∙ no _ _ (answer-no (c .before .mask-is-bits .ensures) (c .if3 .taken))))
-
-nyquist-in-range-requires : tie.Need-nyquist-in-range-requires
-nyquist-in-range-requires c κs = search needs
-
-returns-4 : tie.Need-returns-4
-unfolding askedVelocity
-returns-4 c = sym (ap answerOf (left-3 (c .before .before) ∙ no _ _ (answer-no (c .before .nyquist-in-range .ensures) (c .if4 .taken))))
-
-gates-missed-requires : tie.Need-gates-missed-requires
-gates-missed-requires c κs = let l = long-here c in (l .mask ∙ sym (l .vel), l .counts ∙ sym (l .vel), l .labels ∙ sym (l .vel))
-
-returns-5 : tie.Need-returns-5
-unfolding askedVelocity
-returns-5 c =
-    let s = at-4 (c .before) in
-    c .gates-missed .ensures ∙ ap answerOf (gates-are (countedAt s) (s .args .unfolded) (long-here (c .before) .vel) ∙ sym (left-4 (c .before)))
+returns-3 c = let s = at-2 (c .before) in c .missed-after-lengths .ensures (s .args .rays) (s .args .gates) (long-here (c .before) .vel) ∙ sym (ap answerOf (left-2 (c .before)))
 
 pub first-missed-velocity-spec : {M : Type 1} → statement M
 first-missed-velocity-spec =
@@ -108,9 +79,5 @@ first-missed-velocity-spec =
     three-long-requires
     lengths-fit-requires
     returns-2
-    mask-is-bits-requires
-    returns-3
-    nyquist-in-range-requires
-    returns-4
-    gates-missed-requires
-    returns-5)
+    missed-after-lengths-requires
+    returns-3)

@@ -1,0 +1,13 @@
+pub mod RingNumbers
+pub mod MedianLaws
+pub mod MedianMeaning
+pub mod PlaceLaws
+pub mod AskLaws
+pub mod TakeLaws
+pub mod CallLaws
+pub mod VelocityLaws
+pub mod RingLaws
+pub mod Numbers
+pub mod SequenceLaws
+pub mod PictureLaws
+pub mod Theorems
