@@ -70,9 +70,10 @@ marks : map (λ k. afterCalls (window 1 1) (take k calls) .marks) (upto 4 1) ≡
 unfolding evaluating
 marks = refl
 
--- sweeps held and next place after each call
+-- the four words, sweeps held and next place the last two, after calls 1 to 3 and 12 to 14: a refusal leaves them
 places : map (λ k. afterCalls (window 1 1) (take k calls) .words) (upto 3 1 ++ upto 3 12)
-    ≡ (1 ∷ 1 ∷ 1 ∷ 1 ∷ []) ∷ (1 ∷ 1 ∷ 2 ∷ 2 ∷ []) ∷ (1 ∷ 1 ∷ 2 ∷ 2 ∷ []) ∷ (1 ∷ 1 ∷ 8 ∷ 2 ∷ []) ∷ (1 ∷ 1 ∷ 8 ∷ 3 ∷ []) ∷ (1 ∷ 1 ∷ 8 ∷ 4 ∷ []) ∷ []
+    ≡ (1 ∷ 1 ∷ 1 ∷ 1 ∷ []) ∷ (1 ∷ 1 ∷ 2 ∷ 2 ∷ []) ∷ (1 ∷ 1 ∷ 2 ∷ 2 ∷ [])
+    ∷ (1 ∷ 1 ∷ 8 ∷ 2 ∷ []) ∷ (1 ∷ 1 ∷ 8 ∷ 3 ∷ []) ∷ (1 ∷ 1 ∷ 8 ∷ 4 ∷ []) ∷ []
 unfolding evaluating
 places = refl
 
