@@ -1,6 +1,7 @@
 #!/usr/bin/env python3
 """Writes a series of sweep files, 01.sweep to 12.sweep: rain and the sample's vortex drift past the radar, which measures them every 30 s.
-usage: host/make_series.py DIR, which is made if need be. In the last sweep the vortex lies as in the sample; the rain reaches further.
+usage: host/make_series.py DIR [WIDER]. DIR is made if need be. In the last sweep the vortex lies as in the sample. WIDER (0.5) says how much further than in
+the sample the rain reaches; where its parts lie apart, folds are often wrong (tests/series/run).
 """
 import math
 import os
@@ -16,7 +17,7 @@ SWEEPS = 12
 # Gates of 500 m; rain and vortex go with a wind of 20 m/s from the west and 2 m/s from the south: so many gates in 30 s.
 EAST, NORTH = 20.0 * 30.0 / 500.0, 2.0 * 30.0 / 500.0
 
-# How much further than in the sample the rain reaches: its parts touch, so that their folds are certain.
+# How much further than in the sample the rain reaches, unless said.
 WIDER = 0.5
 
 # Two sweeps are measured with a faster train of pulses.
@@ -34,7 +35,7 @@ def inside(chance, x, y, places):
     return any(math.hypot(x - east, y - north) < share * reach for east, north, reach in places)
 
 
-def series_sweep(number):
+def series_sweep(number, wider):
     """The file of one sweep. Noise is 0.6 m/s, more where the rain is weak and gates are lost. A few gates, and patches where an earlier pulse's echo
     comes in, have any velocity; other patches, and three rays in two places, are masked."""
     chance = random.Random(100 + number)
@@ -44,7 +45,7 @@ def series_sweep(number):
     lost = [math.radians(chance.randrange(360)) for _ in range(2)]
 
     def measure(x, y, azimuth):
-        depth = rain(x - east, y - north) + WIDER
+        depth = rain(x - east, y - north) + wider
         if math.hypot(x, y) < GAP or depth <= 0.0 or any(abs(azimuth - ray) < math.radians(1.5) for ray in lost):
             return None
         weak = max(0.0, 1.0 - depth / 0.3)
@@ -58,12 +59,13 @@ def series_sweep(number):
 
 
 def main():
-    if len(sys.argv) != 2:
+    if len(sys.argv) not in (2, 3):
         sys.exit(__doc__)
+    wider = float(sys.argv[2]) if len(sys.argv) == 3 else WIDER
     os.makedirs(sys.argv[1], exist_ok=True)
     for number in range(1, SWEEPS + 1):
         with open(os.path.join(sys.argv[1], f"{number:02}.sweep"), "wb") as out:
-            out.write(series_sweep(number))
+            out.write(series_sweep(number, wider))
 
 
 if __name__ == "__main__":
