@@ -2,6 +2,8 @@
 // entries and the sums of weights and of gates moved (printout: `print_book`).
 // No file of at most 128 gates has more than 2,178 bytes: a longer input prints nothing, and no more of it is read (`longer-prints-nothing`).
 
+#![tactic(auto)]
+
 fn main() {
     let mut file = [0u8; 2179];
     let got = io::read_full(0, &mut file);

@@ -1,3 +1,5 @@
 // Which regions see each other, and the edges between them.
+#![tactic(auto)]
+
 pub mod edges;
 pub mod pairs;

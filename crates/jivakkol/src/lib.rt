@@ -1,2 +1,4 @@
 // The library's boundary: what a host links.
+#![tactic(auto)]
+
 pub mod exports;

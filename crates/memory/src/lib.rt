@@ -1,4 +1,6 @@
 // Tools over one lent slice: fill and copy, a stable counting sort, and a winner tree.
+#![tactic(auto)]
+
 pub mod layout;
 pub mod sort;
 pub mod tree;

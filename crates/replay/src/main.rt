@@ -1,5 +1,7 @@
 // Replays recorded sweeps: reads them from standard input, puts each to the exported entries and writes their answers, a line a call.
 // Memory is for 128 gates. A longer sweep, or text that is no list of sweeps, ends the run with a line that says so.
+#![tactic(auto)]
+
 mod arrays;
 mod gates;
 mod left;

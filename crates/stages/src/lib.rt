@@ -1,6 +1,8 @@
 // The stages of a sweep call, exported one by one so that bench/ can time them and tests can look at them. Each is a call of the functions
 // that the entry uses, and asks of its caller what they ask, and promises what they promise: callers get there by the stages before, on sweeps that
 // the entry accepts.
+#![tactic(auto)]
+
 ghost use Rattle.std.specs.Prelude.{◌≡◌, cond, List, ◌+◌, ◌*◌, ◌≤◌, pos, length, replicate, Float, T};
 ghost use Rattle.lists.specs.Inside.Seg.{seg, put, Disjoint};
 ghost use Rattle.lists.specs.Seq.{tabulate, all};

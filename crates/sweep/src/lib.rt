@@ -1,4 +1,6 @@
 // The sweep call and the second entry, and the questions that they put.
+#![tactic(auto)]
+
 pub mod entry;
 pub mod questions;
 pub mod sweep;

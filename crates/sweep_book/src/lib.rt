@@ -1,3 +1,5 @@
 // The sweep entry with a book of its merges.
+#![tactic(auto)]
+
 pub mod book;
 pub mod entry;

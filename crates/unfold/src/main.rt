@@ -1,6 +1,8 @@
 // Unfolds the sweep of a file on standard input: one line a ray, counts parted by one space (printout: `print_file`).
 // No file of at most 128 gates has more than 2,178 bytes: a longer input prints nothing, and no more of it is read (`longer-prints-nothing`).
 
+#![tactic(auto)]
+
 fn main() {
     let mut file = [0u8; 2179];
     let got = io::read_full(0, &mut file);

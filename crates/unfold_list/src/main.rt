@@ -1,5 +1,7 @@
 // Prints for every file of a recorded list a line with `=` and its number, and then what the program `unfold` prints (printout: list, `print_file`).
 
+#![tactic(auto)]
+
 // The next file of the list, read and printed; false where there is none.
 fn print_next() -> bool {
     let mut file = printout::list::memory();
