@@ -1,6 +1,6 @@
 -- What it is to have no array of one's own, said of the code that is proved and compiled. Each function's proof begins with it. Assumes nothing.
 use Rattle.std.specs.Prelude.{◌≡◌, Bool, true, false, ◌&&◌, List, [], ◌∷◌}
-use mir.Syntax.{Ty, ty_int, ty_bool, ty_float, ty_ptr, ty_ref, ty_array, ty_unit, ty_struct, ty_enum, ty_named, Tys, tnil, tcons, Tyss, ttnil, ttcons, Local, local, Fn}
+use mir.Syntax.{Ty, ty_int, ty_bool, ty_float, ty_ptr, ty_ref, ty_array, ty_unit, ty_struct, ty_enum, ty_named, ty_param, ty_const, ty_array_p, Tys, tnil, tcons, Tyss, ttnil, ttcons, Local, local, Fn}
 
 abbrev mutual
   -- a value of this type holds no array; what a reference leads to is lent, and not the function's own
@@ -14,7 +14,10 @@ abbrev mutual
   holds_none ty_unit = true
   holds_none (ty_struct s ts) = fields_hold_none ts
   holds_none (ty_enum s tss) = variants_hold_none tss
-  holds_none (ty_named h) = false
+  holds_none (ty_named h ts) = false
+  holds_none (ty_param p) = false
+  holds_none (ty_const p) = false
+  holds_none (ty_array_p t p) = false
 
   pub fields_hold_none : Tys → Bool
   fields_hold_none tnil = true

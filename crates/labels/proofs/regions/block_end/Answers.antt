@@ -1,0 +1,8 @@
+-- `labels::regions::block_end` meets its contract. Assumes nothing.
+use Rattle.std.proofs.Common.{refl}
+use Rattle.labels.specs.Locals.{NoArray}
+use Rattle.labels.proofs.regions.block_end.Code.Mir.{function}
+use Rattle.labels.proofs.regions.block_end.Goals as goal
+
+no_array : NoArray function
+no_array = refl
