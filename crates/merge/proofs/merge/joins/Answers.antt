@@ -1,0 +1,19 @@
+-- `merge::merge::joins` meets its contract. Assumes nothing.
+use Rattle.merge.proofs.Leaf.{joins_out, joins_dead, joins_first, joins_second, joins_none}
+use Rattle.std.proofs.Common.{◌-◌}
+use Rattle.merge.proofs.merge.joins.Goals as goal
+
+pub returns-then-f-m : goal.returns-then-f-m
+returns-then-f-m c = let a = c.args in joins_out a.m a.n a.w.now a.d.now c.requires a.b a.c a.f c.if-f-m.true
+
+pub returns-then-w-f-eq0 : goal.returns-then-w-f-eq0
+returns-then-w-f-eq0 c = let a = c.args in joins_dead a.m a.n a.w.now a.d.now c.requires a.b a.c a.f c.if-f-m.false c.if-w-f-eq0.true
+
+pub returns-then-x-b : goal.returns-then-x-b
+returns-then-x-b c = let a = c.args in joins_first a.m a.n a.w.now a.d.now c.requires a.b a.c a.f c.if-f-m.false c.if-w-f-eq0.false c.if-x-b.true
+
+pub returns-then-x-c : goal.returns-then-x-c
+returns-then-x-c c = let a = c.args in joins_second a.m a.n a.w.now a.d.now c.requires a.b a.c a.f c.if-f-m.false c.if-w-f-eq0.false c.if-x-b.false c.if-x-c.true
+
+pub returns : goal.returns
+returns c = let a = c.args in joins_none a.m a.n a.w.now a.d.now c.requires a.b a.c a.f c.if-f-m.false c.if-w-f-eq0.false c.if-x-b.false c.if-x-c.false
