@@ -9,14 +9,14 @@ ghost use Rattle.arithmetic.specs.declared.intervals.Extremes.TheVariants.{Both}
 ghost use Rattle.arithmetic.specs.Inside.Asked.{Asked, ExtremesInRange, front};
 
 // The least and the greatest valid velocity, or that there is none.
-#[derive(Drop)]
+#[derive(Clone, Copy)]
 pub enum Extremes {
     Both(f64, f64),
     NoneValid,
 }
 
 // How far the limits are widened, and how many there are; none where the number is not above 0.
-#[derive(Drop)]
+#[derive(Clone, Copy)]
 pub struct Plan {
     pub add_start: i32,
     pub add_end: i32,

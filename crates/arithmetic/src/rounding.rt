@@ -6,7 +6,7 @@ ghost use Rattle.std.specs.Float.Ieee.Positive.{num, den, positive};
 ghost use Rattle.arithmetic.specs.Rounding.{within, ceiling, round_even, ceil_of};
 
 // A whole number, or that the float is beyond 2^30 either way, an infinity or a NaN.
-#[derive(Drop)]
+#[derive(Clone, Copy)]
 pub enum Rounded {
     Whole(i32),
     Outside,

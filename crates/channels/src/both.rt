@@ -12,7 +12,7 @@ ghost use Rattle.channels.specs.Inside.Both.{behind, FindsBoth, LeavesBoth, is_r
 use memory::layout;
 
 // What was found of each channel.
-#[derive(Drop)]
+#[derive(Clone, Copy)]
 pub struct Findings {
     pub horizontal: network::find::Finding,
     pub vertical: network::find::Finding,

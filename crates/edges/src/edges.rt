@@ -12,7 +12,7 @@ ghost use Rattle.edges.specs.Inside.Sees.{answer, sighted, Inside, Looks};
 use memory::layout;
 
 // Two labels, the number of their pairs, the sums of the velocities at either end, and how many of the pairs are bridged.
-#[derive(Drop)]
+#[derive(Clone, Copy)]
 pub struct EdgeRecord {
     pub one: u32,
     pub two: u32,
@@ -23,7 +23,7 @@ pub struct EdgeRecord {
 }
 
 // Rays, gates per ray, the two skips, and whether rays wrap.
-#[derive(Drop)]
+#[derive(Clone, Copy)]
 pub struct Shape {
     pub rays: usize,
     pub gates: usize,
@@ -32,7 +32,7 @@ pub struct Shape {
     pub wrap: u32,
 }
 
-#[derive(Drop)]
+#[derive(Clone, Copy)]
 pub enum Direction {
     Left,
     Right,
@@ -41,14 +41,14 @@ pub enum Direction {
 }
 
 // One step: the gate it leads to, or none where it leaves the sweep.
-#[derive(Drop)]
+#[derive(Clone, Copy)]
 pub enum Seen {
     At(usize),
     Nothing,
 }
 
 // A look: the gate seen in one step, the gate seen in more, or none.
-#[derive(Drop)]
+#[derive(Clone, Copy)]
 pub enum Sight {
     Near(usize),
     Bridged(usize),
@@ -197,7 +197,7 @@ pub fn sort_pairs(w: &mut [u32], n: usize, m: usize, k: usize)
 }
 
 // Two labels, the velocities at either end, and whether the look was bridged.
-#[derive(Drop)]
+#[derive(Clone, Copy)]
 pub struct Raw {
     pub one: u32,
     pub two: u32,
@@ -207,14 +207,14 @@ pub struct Raw {
 }
 
 // The record being gathered, and how many there were before it.
-#[derive(Drop)]
+#[derive(Clone, Copy)]
 pub struct Gathering {
     pub record: EdgeRecord,
     pub edges: usize,
 }
 
 // Two labels.
-#[derive(Drop)]
+#[derive(Clone, Copy)]
 pub struct Labels {
     pub one: u32,
     pub two: u32,

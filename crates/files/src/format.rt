@@ -5,7 +5,7 @@ ghost use Rattle.files.specs.Format.{u16_at, u32_at, u16_bytes, u32_bytes, ray_a
 
 // The header's numbers. Nyquist is given by its bits. In a file rays begin at byte 3, gates at 5, Nyquist at 7, splits at 11, the skips at 13 and 15,
 // and byte 17 has the options.
-#[derive(Drop)]
+#[derive(Clone, Copy)]
 pub struct Header {
     pub rays: u32,
     pub gates: u32,

@@ -11,7 +11,7 @@ ghost use Rattle.files.specs.Calls.{no_header, read_by, read};
 use crate::{bits, format};
 
 // The answer and the header; velocities and mask go to the slices lent.
-#[derive(Drop)]
+#[derive(Clone, Copy)]
 pub struct Reading {
     pub number: u32,
     pub header: format::Header,

@@ -11,14 +11,14 @@ ghost use Rattle.network.specs.Inside.Find.{limits_by, regions_by, found_in, net
 use memory::layout;
 
 // How many regions there are, and how many merges there were.
-#[derive(Drop)]
+#[derive(Clone, Copy)]
 pub struct Run {
     pub regions: usize,
     pub merges: usize,
 }
 
 // The regions found and merged, or the refusal by question 9.
-#[derive(Drop)]
+#[derive(Clone, Copy)]
 pub enum Finding {
     Regions(Run),
     Refused,

@@ -14,7 +14,7 @@ ghost use Rattle.merge.specs.Inside.Leaves.{LeavesTables};
 use memory::layout;
 
 // The heaviest live edge: its ends, its difference after the division by its weight, whether that is doubtful, and its number.
-#[derive(Drop)]
+#[derive(Clone, Copy)]
 pub struct PoppedEdge {
     pub node1: u32,
     pub node2: u32,
@@ -24,7 +24,7 @@ pub struct PoppedEdge {
 }
 
 // That edge, or that none is live.
-#[derive(Drop)]
+#[derive(Clone, Copy)]
 pub enum Popped {
     Edge(PoppedEdge),
     Nothing,
@@ -87,7 +87,7 @@ fn number(q: f64) -> u32
 }
 
 // A turn: a merge was done, or no edge is live, or question 9 says no.
-#[derive(Drop)]
+#[derive(Clone, Copy)]
 pub enum Turned {
     Merged,
     Ended,
@@ -154,7 +154,7 @@ fn turn(w: &mut [u32], d: &mut [f64], m: usize, n: usize, k: usize) -> Turned
 }
 
 // The run: how many merges there were, or a refusal.
-#[derive(Drop)]
+#[derive(Clone, Copy)]
 pub enum Ran {
     Settled(usize),
     Refused,

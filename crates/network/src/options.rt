@@ -2,7 +2,7 @@
 ghost use Rattle.std.specs.Prelude.{◌≡◌};
 ghost use Rattle.network.specs.Inside.Find.{shape_of};
 
-#[derive(Drop)]
+#[derive(Clone, Copy)]
 pub struct Options {
     pub rays: u32,
     pub gates: u32,

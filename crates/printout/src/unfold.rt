@@ -17,7 +17,7 @@ use sweep_book::entry::dealias_sweep_book;
 const MOST_PRINTED: usize = 128;
 
 // The number of the first question that got a no, or 0, and how many bytes of text there are.
-#[derive(Drop)]
+#[derive(Clone, Copy)]
 pub struct Printing {
     pub number: u32,
     pub bytes: usize,

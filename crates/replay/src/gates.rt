@@ -9,7 +9,7 @@ use crate::words;
 use files::bits;
 
 // What a sweep is called with, but for its gates; how much memory it is lent; and what is added to each count before the second entry.
-#[derive(Drop)]
+#[derive(Clone, Copy)]
 pub struct Setting {
     pub rays: u32,
     pub gates: u32,
@@ -29,7 +29,7 @@ pub struct Setting {
 }
 
 // The start of a sweep, the end of the list, or text that is neither.
-#[derive(Drop)]
+#[derive(Clone, Copy)]
 pub enum Start {
     Sweep(Setting),
     End,

@@ -7,7 +7,7 @@ use crate::arrays;
 use memory::layout;
 
 // All of it unchanged; the work memory asked for zero and any further one unchanged; or neither.
-#[derive(Drop)]
+#[derive(Clone, Copy)]
 pub enum Left {
     Kept,
     Cleared,

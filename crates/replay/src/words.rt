@@ -4,14 +4,14 @@ ghost use Rattle.std.specs.Prelude.{◌≡◌, true, ℕ, ◌+◌, ◌*◌, ◌�
 ghost use Rattle.replay.specs.Inside.Words.{digit_of, digits_from, word_at, Words, all_words, got_by};
 
 // A word's number, or that no word stands there.
-#[derive(Drop)]
+#[derive(Clone, Copy)]
 pub enum Word {
     Number(u32),
     Malformed,
 }
 
 // What a read of numbers found: all of them, no byte more, or text that is cut short or is no list of words.
-#[derive(Drop)]
+#[derive(Clone, Copy)]
 pub enum Got {
     Numbers,
     End,

@@ -14,7 +14,7 @@ ghost use Rattle.sweep.specs.declared.entry.Planning.TheVariants.{Limits};
 use memory::layout;
 
 // The plan of the limits, or the number of the first of questions 1 to 8 that gets a no.
-#[derive(Drop)]
+#[derive(Clone, Copy)]
 pub enum Planning {
     Limits(arithmetic::intervals::Plan),
     Missed(u32),

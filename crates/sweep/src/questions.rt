@@ -191,7 +191,7 @@ fn gates_missed(velocity: &[f32], valid: &[u8], folds: &[i32], labels: &[u32]) -
 }
 
 // What an entry lends beside the sweep: whether its own slices are as long as they are to be, and the two work memories' lengths.
-#[derive(Drop)]
+#[derive(Clone, Copy)]
 pub struct Room {
     pub own: bool,
     pub words: usize,

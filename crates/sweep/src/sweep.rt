@@ -22,7 +22,7 @@ const ZERO_U64: u64 = 1000;
 const ZERO_I32: i32 = 1000;
 
 // The gates of all regions, and their counts, with 1,000 added to each, summed over them.
-#[derive(Drop)]
+#[derive(Clone, Copy)]
 struct Totals {
     pub gates: u64,
     pub held: u64,

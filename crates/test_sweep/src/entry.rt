@@ -4,7 +4,7 @@ ghost use Rattle.sweep.specs.Entry.{answer_of};
 ghost use Rattle.test_sweep.specs.Call.{slices_of, asked_test, fill_answer_by, call_fill, test_answer_by, call_test};
 
 // A call's answer: its number, and the state after the last gate, which is the state given where it is refused.
-#[derive(Drop)]
+#[derive(Clone, Copy)]
 pub struct Filled {
     pub number: u32,
     pub state: u32,

@@ -7,7 +7,7 @@ const MULTIPLIER: u32 = 1664525;
 const INCREMENT: u32 = 1013904223;
 
 // A gate of a test sweep.
-#[derive(Drop)]
+#[derive(Clone, Copy)]
 pub struct Gate {
     pub velocity: f32,
     pub valid: u8,

@@ -6,7 +6,7 @@ ghost use Rattle.window.specs.Window as W;
 ghost use Rattle.window.specs.Inside.Drawing.{four_of, floor_of, drawn_of, Held};
 
 // The four least so far; infinity where there are fewer.
-#[derive(Drop)]
+#[derive(Clone, Copy)]
 pub struct Four {
     pub a: f64,
     pub b: f64,
@@ -15,7 +15,7 @@ pub struct Four {
 }
 
 // A gate of the picture, and its mark.
-#[derive(Drop)]
+#[derive(Clone, Copy)]
 pub struct Drawn {
     pub wind: f64,
     pub mark: u8,

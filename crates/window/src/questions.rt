@@ -12,7 +12,7 @@ const PLACES: usize = 8;
 const MOST_HELD: u32 = 8;
 
 // The window's four words.
-#[derive(Drop)]
+#[derive(Clone, Copy)]
 pub struct Words {
     pub rays: u32,
     pub gates: u32,
@@ -21,7 +21,7 @@ pub struct Words {
 }
 
 // How long the window's slices are.
-#[derive(Drop)]
+#[derive(Clone, Copy)]
 pub struct Lent {
     pub words: usize,
     pub winds: usize,
