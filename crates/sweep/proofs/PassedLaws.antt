@@ -54,11 +54,11 @@ pub record Passed (s : Sweep) (r : Room) : Type 0 where
 
 -- ---- an answer that the code negates
 
-pub answer_no : {r q : Bool} → r ≡ q → not r ≡ true → q ≡ false
-answer_no {r} e h = sym e ∙ not-true r h
+pub answer_no : {r q : Bool} → r ≡ q → r ≡ false → q ≡ false
+answer_no e h = sym e ∙ h
 
-pub answer_yes : {r q : Bool} → r ≡ q → not r ≡ false → q ≡ true
-answer_yes {r} e h = sym e ∙ not-false r h
+pub answer_yes : {r q : Bool} → r ≡ q → r ≡ true → q ≡ true
+answer_yes e h = sym e ∙ h
 
 -- ---- each question's yes
 

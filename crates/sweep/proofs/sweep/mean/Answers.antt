@@ -1,0 +1,34 @@
+-- `sweep::sweep::mean` meets its contract. Assumes nothing.
+-- the quotient of the two floats is the mean's
+use Rattle.std.proofs.Common.{◌≡◌, ℕ, ◌*◌, ℤ, pos, ◌-ℤ◌, ap, ◌∙◌, w64, to_z, of_z}
+use Rattle.arithmetic.specs.Rounding.{real}
+use lib.IntN.{sub_ℕ}
+use lib.Ieee.{Float, binary64, div, of_int}
+use Rattle.arithmetic.specs.Rounding.{round_even}
+use Rattle.sweep.proofs.SignedLaws.{total_fits, total_back, mean_whole, mean_none}
+use Rattle.sweep.proofs.sweep.mean.Goals as goal
+
+quotient : (x y : Float) (t z : ℤ) (g : ℕ) → x ≡ of_int binary64 t → t ≡ z → y ≡ of_int binary64 (pos g) → div binary64 x y ≡ div binary64 (real z) (real (pos g))
+unfolding real
+quotient x y t z g a b d = ap (λ (q : Float). div binary64 q y) (a ∙ ap (of_int binary64) b) ∙ ap (λ (q : Float). div binary64 (of_int binary64 z) q) d
+
+pub overflow_sub-total : goal.overflow_sub-total
+overflow_sub-total c = total_fits c.args.s.held c.args.s.gates c.requires.0 c.requires.1
+
+pub returns-in-Whole : goal.returns-in-Whole
+returns-in-Whole c =
+    let n = c.nearest_i64_to_f64 in
+    let n' = c.nearest_u64_to_f64 in
+    let p = c.requires in
+    let a = c.args.s in let f = c.round_even in mean_whole (div binary64 (real (sub_ℕ a.held (1000 * a.gates))) (real (pos a.gates))) f.result c.in-Whole.z (f.ensures ∙ ap round_even (quotient n.result n'.result (to_z w64 (of_z w64 (to_z w64 a.held -ℤ to_z w64 (1000 * a.gates)))) (sub_ℕ a.held (1000 * a.gates)) a.gates n.ensures (total_back a.held a.gates p.0 p.1) n'.ensures))
+    c.in-Whole.is (record { sfits = c.in-Whole.known_told-1-own.given.0.1 })
+
+pub returns-in-Outside : goal.returns-in-Outside
+returns-in-Outside c =
+    let n = c.nearest_i64_to_f64 in
+    let n' = c.nearest_u64_to_f64 in
+    let p = c.requires in
+    let a = c.args.s in let f = c.round_even in
+    mean_none (div binary64 (real (sub_ℕ a.held (1000 * a.gates))) (real (pos a.gates))) f.result (f.ensures
+    ∙ ap round_even (quotient n.result n'.result (to_z w64 (of_z w64 (to_z w64 a.held -ℤ to_z w64 (1000 * a.gates)))) (sub_ℕ a.held (1000 * a.gates)) a.gates n.ensures
+    (total_back a.held a.gates p.0 p.1) n'.ensures)) c.in-Outside.is
