@@ -1,0 +1,21 @@
+-- `test_sweep::generator::fill_gates` meets its contract. The invariant: the first g gates are written, the rest is as it was. Assumes nothing.
+-- gate g's velocity and mask byte
+use Rattle.std.proofs.Common.{◌≡◌, ℕ, ◌-◌, ◌≤◌, length}
+use lib.Ieee.{Float}
+use Rattle.lists.specs.Inside.Seg.{put}
+use Rattle.lists.specs.Seq.{tabulate}
+use Rattle.test_sweep.specs.Generator.{state_after, gate_at}
+use Rattle.test_sweep.proofs.generator.fill_gates.Given as goal
+
+abbrev pub velocity_at : ℕ → ℕ → Float
+velocity_at state g = (gate_at state g).velocity
+
+abbrev pub valid_at : ℕ → ℕ → ℕ
+valid_at state g = (gate_at state g).valid
+
+abbrev pub invariant-loop-g : goal.invariant-loop-g
+invariant-loop-g l = (l.g ≤ length l.initial.velocity) × (l.here ≡ state_after l.g l.state) × (l.velocity ≡ put l.initial.velocity 0 (tabulate l.g (velocity_at l.state))) × (l.valid ≡ put l.initial.valid 0 (tabulate l.g (valid_at l.state)))
+    × (length l.velocity ≡ length l.initial.velocity) × (length l.valid ≡ length l.initial.valid)
+
+abbrev pub decreases-loop-g : goal.decreases-loop-g
+decreases-loop-g l = length l.initial.velocity - l.g
