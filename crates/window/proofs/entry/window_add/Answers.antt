@@ -1,0 +1,26 @@
+-- `window::entry::window_add` meets its contract. Assumes nothing.
+-- the arrival and the window that the parameters are
+use mathlib.Core.Path.{◌≡◌}
+use mathlib.Core.Option.{none}
+use native.Mathlib.Omega.{arith}
+use Rattle.sweep.specs.Velocity.{counted}
+use Rattle.window.specs.Window.{window_of, asked_window}
+use Rattle.window.proofs.CallLaws.{call_missed, call_asked, call_taken}
+use Rattle.window.proofs.entry.window_add.Goals.{Else-missed-gt0}
+use Rattle.window.proofs.entry.window_add.Goals as goal
+
+-- every question got a yes
+none_missed : (c : Else-missed-gt0) → c.first_missed-missed.result ≡ 0
+none_missed c = omega (arith, c.if-missed-gt0.false)
+
+all_yes : (c : Else-missed-gt0) → asked_window (counted c.args.rays c.args.gates c.args.nyquist c.args.velocity.now c.args.valid.now c.args.folds.now c.args.labels.now) (window_of c.args.window.now c.args.winds.now c.args.shown.now c.args.picture.now c.args.marks.now) ≡ none
+all_yes c = call_asked (counted c.args.rays c.args.gates c.args.nyquist c.args.velocity.now c.args.valid.now c.args.folds.now c.args.labels.now) (window_of c.args.window.now c.args.winds.now c.args.shown.now c.args.picture.now c.args.marks.now) _ _ c.words_in-words.ensures c.first_missed-missed.ensures (none_missed c)
+
+pub returns-then-missed-gt0 : goal.returns-then-missed-gt0
+returns-then-missed-gt0 c = call_missed (counted c.args.rays c.args.gates c.args.nyquist c.args.velocity.now c.args.valid.now c.args.folds.now c.args.labels.now) (window_of c.args.window.now c.args.winds.now c.args.shown.now c.args.picture.now c.args.marks.now) _ _ c.words_in-words.ensures c.first_missed-missed.ensures (λ e. absurd (omega (arith, c.if-missed-gt0.true)))
+
+pub take_in-requires : goal.take_in-requires
+take_in-requires c = all_yes (goal.at.take_in-requires c).Else-missed-gt0
+
+pub returns : goal.returns
+returns c = call_taken (counted c.args.rays c.args.gates c.args.nyquist c.args.velocity.now c.args.valid.now c.args.folds.now c.args.labels.now) (window_of c.args.window.now c.args.winds.now c.args.shown.now c.args.picture.now c.args.marks.now) _ (none_missed (goal.at.returns c).Else-missed-gt0) _ (all_yes (goal.at.returns c).Else-missed-gt0) c.take_in.ensures

@@ -1,0 +1,10 @@
+-- `window::median::one_if` meets its contract. Assumes nothing.
+use borrow.Author.Tests.{eq-eqb, ne_eqb}
+use mathlib.Core.Path.{refl}
+use Rattle.window.proofs.median.one_if.Goals as goal
+
+pub returns-then-byte-eq1 : goal.returns-then-byte-eq1
+returns-then-byte-eq1 c = rw (eq-eqb _ _ c.if-byte-eq1.true) refl
+
+pub returns : goal.returns
+returns c = rw (ne_eqb _ _ c.if-byte-eq1.false) refl
