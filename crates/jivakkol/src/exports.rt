@@ -1,4 +1,5 @@
-// The entries that a host calls, under the names and in the order of include/jivakkol.h. Each hands its parameters on whole.
+// The entries that a host calls, under the names and in the order of include/jivakkol.h. Each hands its parameters on whole. The static library
+// (crate jivakkol_c) exports them.
 ghost use Rattle.std.specs.Prelude.{◌≡◌};
 ghost use Rattle.sweep.specs.Call.{call, memory_of, answer_by};
 ghost use Rattle.sweep.specs.Entry.{sweep_of};
@@ -12,8 +13,7 @@ ghost use Rattle.test_sweep.specs.Call.{slices_of, call_test, test_answer_by};
 ghost use Rattle.files.specs.Calls.{call_read, read_answer_by, call_write, written_by, call_size, size_answer_by};
 
 // A sweep's fold counts and the marks of its doubtful merges, with the numbers of regions and of merges.
-#[unsafe(no_mangle)]
-pub extern "C" fn jivakkol_dealias_sweep(
+pub fn jivakkol_dealias_sweep(
     rays: u32,
     gates: u32,
     nyquist: f32,
@@ -48,8 +48,7 @@ pub extern "C" fn jivakkol_dealias_sweep(
 }
 
 // The same with a book of its merges, one entry a merge.
-#[unsafe(no_mangle)]
-pub extern "C" fn jivakkol_dealias_sweep_book(
+pub fn jivakkol_dealias_sweep_book(
     rays: u32,
     gates: u32,
     nyquist: f32,
@@ -87,8 +86,7 @@ pub extern "C" fn jivakkol_dealias_sweep_book(
 }
 
 // The fold counts of two polarisations of one antenna by limits that both share, with the marks, regions and merges of each.
-#[unsafe(no_mangle)]
-pub extern "C" fn jivakkol_dealias_two(
+pub fn jivakkol_dealias_two(
     rays: u32,
     gates: u32,
     nyquist: f32,
@@ -134,8 +132,7 @@ pub extern "C" fn jivakkol_dealias_two(
 }
 
 // A sweep's region map: the label of each gate, with the number of regions.
-#[unsafe(no_mangle)]
-pub extern "C" fn jivakkol_region_map(
+pub fn jivakkol_region_map(
     rays: u32,
     gates: u32,
     nyquist: f32,
@@ -169,8 +166,7 @@ pub extern "C" fn jivakkol_region_map(
 }
 
 // Unfolded velocities from fold counts and labels.
-#[unsafe(no_mangle)]
-pub extern "C" fn jivakkol_unfold_velocity(
+pub fn jivakkol_unfold_velocity(
     rays: u32,
     gates: u32,
     nyquist: f32,
@@ -189,8 +185,7 @@ pub extern "C" fn jivakkol_unfold_velocity(
 }
 
 // A sweep's winds taken into the window of the last eight, and the picture of their medians drawn anew.
-#[unsafe(no_mangle)]
-pub extern "C" fn jivakkol_window_add(
+pub fn jivakkol_window_add(
     rays: u32,
     gates: u32,
     nyquist: f32,
@@ -214,8 +209,7 @@ pub extern "C" fn jivakkol_window_add(
 }
 
 // Reads a sweep file: the velocities' bits and the mask of its gates, and the header's eight numbers.
-#[unsafe(no_mangle)]
-pub extern "C" fn jivakkol_read_sweep(
+pub fn jivakkol_read_sweep(
     file: &[u8],
     velocity_bits: &mut [u32],
     valid: &mut [u8],
@@ -228,8 +222,7 @@ pub extern "C" fn jivakkol_read_sweep(
 }
 
 // Writes a sweep file.
-#[unsafe(no_mangle)]
-pub extern "C" fn jivakkol_write_sweep(
+pub fn jivakkol_write_sweep(
     rays: u32,
     gates: u32,
     nyquist: f32,
@@ -259,16 +252,14 @@ pub extern "C" fn jivakkol_write_sweep(
 }
 
 // The rays and gates that a sweep file's header announces.
-#[unsafe(no_mangle)]
-pub extern "C" fn jivakkol_sweep_size(file: &[u8], size: &mut [u32]) -> u32
+pub fn jivakkol_sweep_size(file: &[u8], size: &mut [u32]) -> u32
     ensures { size_answer_by result size.new ≡ call_size file.now size.old }
 {
     files::entry::sweep_size(file, size)
 }
 
 // A test sweep from a seed number; the one word of state is replaced.
-#[unsafe(no_mangle)]
-pub extern "C" fn jivakkol_test_sweep(
+pub fn jivakkol_test_sweep(
     rays: u32,
     gates: u32,
     state: &mut [u32],
