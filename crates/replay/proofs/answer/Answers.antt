@@ -1,11 +1,11 @@
 -- `replay::answer` meets its contract: `held` says that each part that is lent lies within its array. Assumes nothing.
--- what the record asks for lies within the arrays
 use Rattle.lists.proofs.PartLaws.{part}
 use Rattle.replay.proofs.RecordLaws.{Held, held_parts}
 use native.Mathlib.Omega.{arith}
 use Rattle.replay.proofs.answer.Goals.{Start}
 use Rattle.replay.proofs.answer.Goals as goal
 
+-- what the record asks for lies within the arrays
 holding : (c : Start) → Held c.args.s
 holding c = held_parts c.args.s c.requires.1
 

@@ -1,5 +1,4 @@
 -- `replay::call_map` is safe: `held` says that the part that is lent lies within its array. Assumes nothing.
--- the words for the number of regions lie within their array
 use Rattle.lists.proofs.PartLaws.{part}
 use Rattle.replay.proofs.RecordLaws.{held_parts}
 use native.Mathlib.Omega.{arith}
@@ -7,6 +6,7 @@ use Prim.Native.Nat.{◌≤◌}
 use Rattle.replay.proofs.call_map.Goals.{After-regions-regions}
 use Rattle.replay.proofs.call_map.Goals as goal
 
+-- the words for the number of regions lie within their array
 one_less_fits : (c : After-regions-regions) → c.one_less-r.result ≤ 4
 one_less_fits c = omega (arith, c.one_less-r.ensures, (held_parts c.args.s c.requires.1).pair)
 

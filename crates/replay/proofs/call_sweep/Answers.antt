@@ -1,6 +1,4 @@
 -- `replay::call_sweep` is safe: at most 128 gates, and a call keeps each slice's length. Assumes nothing.
--- where the function began, from the place after the sweep call; that place from the one after looking at counts, marks and pair; and that one from
--- the place after the region map
 use Rattle.replay.proofs.call_sweep.Goals as goal
 
 pub left_by-left-requires : goal.left_by-left-requires

@@ -1,5 +1,4 @@
 -- `replay::put_map` is safe: at most 128 gates, and a call keeps each slice's length. Assumes nothing.
--- where the function began, from the place after the call; and that place from the one after looking at labels and number
 use Rattle.replay.proofs.put_map.Goals as goal
 
 pub left_by-left-requires : goal.left_by-left-requires

@@ -1,5 +1,4 @@
 -- `stages::stage_limits` meets its contract. Assumes nothing.
--- the least and the greatest of the valid velocities
 use mathlib.Core.List.{List}
 use mathlib.Core.Path.{◌≡◌, refl, sym, ap, subst, ◌∙◌}
 use Prim.Native.Nat.{◌≤◌}

@@ -1,5 +1,4 @@
 -- `arithmetic::ceil_size` meets its contract: the cut number is below x exactly where the division leaves something. Assumes nothing.
--- a whole number against x, as a test on whole numbers
 use Rattle.std.proofs.Common.{◌≡◌, ℕ, suc, ◌+◌, ◌*◌, ◌/◌, ◌%◌, ◌^◌, ◌<◌, ◌≤◌, Bool, true, false, cond, not, T, eqb, ltb, pos, sym, refl, ap, ◌∙◌, subst, true≢false, le_trans, lt_of_lt_of_le, lt_of_mul-lt-mul_right, mul-lt-mul_of_pos_right, div-add-mod', mul-one, mul_right_comm, add-one, arith, lit≤, eqb→eq, ltb→lt, lt→ltb, nltb→le}
 use lib.Dec.{not_T}
 use lib.Ieee.{Float, nan, inf, fin, binary64, up, down, round, of_int, lt}
@@ -12,6 +11,7 @@ use Rattle.arithmetic.specs.Rounding.{ceiling}
 use Rattle.arithmetic.proofs.RangeLaws.{within_size}
 use Rattle.arithmetic.proofs.rounding.ceil_size.Goals as goal
 
+-- a whole number against x, as a test on whole numbers
 lt_whole : (y x : Float) (t : ℕ) → HasValue y false t 1 → T (positive x) → lt y x ≡ ltb (t * den x) (num x)
 unfolding lt
 lt_whole nan x t v p = absurd v

@@ -1,5 +1,4 @@
 -- `arithmetic::round_even` meets its contract: each return is one case of the tests (`Ranges.antt`). Assumes nothing.
--- where the range test passes, the answer is the whole number
 use Rattle.std.proofs.Common.{◌≡◌, ℕ, Bool, true, T, ℤ, pos, neg_ℤ, sym, ap, ◌∙◌, subst}
 use lib.Ieee.{Float, neg, of_bits}
 use lib.Ieee.Positive.{positive}
@@ -9,6 +8,7 @@ use Rattle.arithmetic.proofs.RangeLaws.{pos_within, pos_positive, neg_within, wi
 use Rattle.arithmetic.proofs.rounding.round_even.Goals.{Then-x-2, Then-x-4}
 use Rattle.arithmetic.proofs.rounding.round_even.Goals as goal
 
+-- where the range test passes, the answer is the whole number
 inside : (x : Float) (z : ℤ) → within x ≡ true → nearest_whole x ≡ z → Whole z ≡ if_within (within x) (nearest_whole x)
 inside x z w e = ap Whole (sym e) ∙ ap (λ (b : Bool). if_within b (nearest_whole x)) (sym w)
 

@@ -1,5 +1,4 @@
 -- `arithmetic::nearest_i64_to_f32` meets its contract: -(k + 1) goes by way of k, which fits at `i64::MIN` too. Assumes nothing.
--- z as the machine reads it back from its bits
 use Rattle.std.proofs.Common.{◌≡◌, ℕ, zero, suc, ◌+◌, ◌-◌, ◌^◌, ◌<◌, true, false, T, ℤ, pos, negsuc, ◌+ℤ◌, ◌-ℤ◌, neg_ℤ, nat_abs, sym, refl, ap, ◌∙◌, subst, true≢false, add-one, arith, w64, Fits, SFits, to_z, of_z}
 use mathlib.Core.Bool.{false≢true}
 use lib.Dec.{leb-zero}
@@ -11,6 +10,7 @@ use Rattle.arithmetic.proofs.RoundLaws.{neg_round}
 use Rattle.arithmetic.proofs.whole.nearest_i64_to_f32.Goals.{Else-n-ge0, Then-n-ge0}
 use Rattle.arithmetic.proofs.whole.nearest_i64_to_f32.Goals as goal
 
+-- z as the machine reads it back from its bits
 abbrev back : ℤ → ℤ
 back z = to_z w64 (of_z w64 z)
 

@@ -1,5 +1,4 @@
 -- `channels::entry::dealias_two` meets its contract. Assumes nothing.
--- the sweeps and the memory that the parameters are
 use mathlib.Core.Option.{none}
 use mathlib.Core.Path.{◌≡◌, sym, ◌∙◌}
 use Rattle.sweep.specs.Entry.{sweep_by}

@@ -1,5 +1,4 @@
 -- `channels::entry::plan_two` meets its contract. Assumes nothing.
--- the sweeps that the parameters are, and the questions put to them
 use mathlib.Core.List.{[], ◌∷◌, ◌++◌}
 use mathlib.Core.Option.{Option, none}
 use mathlib.Core.Path.{◌≡◌, sym, ap, subst, ◌∙◌}

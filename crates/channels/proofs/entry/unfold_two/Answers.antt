@@ -1,5 +1,4 @@
 -- `channels::entry::unfold_two` meets its contract. Assumes nothing.
--- horizontal's sweep and the memory that the parameters are
 use borrow.Rule.Slice.PartMut.{Post-is}
 use native.Mathlib.Omega.{arith}
 use Prim.Native.Nat.{◌+◌, ◌-◌, ◌*◌, ◌≤◌}

@@ -1,5 +1,4 @@
 -- `files::bits::velocities_of` meets its contract. Assumes nothing.
--- the velocity of pattern i
 use Prim.Native.Nat.{◌-◌, ◌<◌}
 use native.Mathlib.Omega.{arith}
 use mathlib.Core.Path.{refl, ◌∙◌}

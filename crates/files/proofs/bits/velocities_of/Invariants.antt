@@ -1,5 +1,4 @@
 -- `files::bits::velocities_of` meets its contract. Assumes nothing.
--- the velocity of pattern i
 use Prim.Native.Nat.{ℕ, ◌-◌, ◌≤◌}
 use mathlib.Core.List.{List}
 use mathlib.Core.Path.{◌≡◌}
@@ -8,6 +7,7 @@ use lib.ListN.{length, get_or}
 use Rattle.files.proofs.CodeLaws.{filled}
 use Rattle.files.proofs.bits.velocities_of.Given as goal
 
+-- the velocity of pattern i
 abbrev pub velocity_at : List ℕ → ℕ → Float
 velocity_at bits i = of_bits binary32 (get_or bits i 0)
 

@@ -1,5 +1,4 @@
 -- `files::reader::content_missed` meets its contract. Assumes nothing.
--- the sweep that is read, and its questions
 use mathlib.Core.Path.{◌≡◌, sym, ap, ◌∙◌}
 use mathlib.Core.List.{List, []}
 use lib.ListN.{drop}

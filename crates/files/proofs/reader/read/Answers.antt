@@ -1,5 +1,4 @@
 -- `files::reader::read` meets its contract. Assumes nothing.
--- where the call began, from each place after a part without a fault
 use mathlib.Core.Path.{◌≡◌, sym, ◌∙◌}
 use mathlib.Core.Option.{none}
 use lib.ListN.{length}

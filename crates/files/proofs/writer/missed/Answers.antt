@@ -1,5 +1,4 @@
 -- `files::writer::missed` meets its contract. Assumes nothing.
--- the sweep that is to be written, and its questions
 use native.Mathlib.Omega.{arith}
 use mathlib.Core.Bool.{true}
 use mathlib.Core.Path.{◌≡◌, sym, ap, ◌∙◌}

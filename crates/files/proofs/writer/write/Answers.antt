@@ -1,5 +1,4 @@
 -- `files::writer::write` meets its contract. Assumes nothing.
--- the sweep that is to be written
 use native.Mathlib.Omega.{arith}
 use mathlib.Core.Path.{◌∙◌}
 use lib.ListN.{length}

@@ -1,5 +1,4 @@
 -- `map::map::draw` meets its contract. Assumes nothing.
--- the memory that the parameters are
 use borrow.Rule.Slice.PartMut.{Post-is}
 use native.Mathlib.Omega.{arith}
 use Prim.Native.Nat.{◌+◌, ◌*◌, ◌≤◌}

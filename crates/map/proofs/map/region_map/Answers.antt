@@ -1,5 +1,4 @@
 -- `map::map::region_map` meets its contract. Assumes nothing.
--- the sweep and the memory that the parameters are
 use mathlib.Core.Option.{none}
 use mathlib.Core.Path.{◌≡◌, sym, ap, ◌∙◌}
 use Prim.Native.Nat.{ℕ}

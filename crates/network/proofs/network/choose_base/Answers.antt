@@ -1,5 +1,4 @@
 -- `network::network::choose_base` meets its contract. Assumes nothing.
--- the ends are nodes
 use Rattle.merge.specs.Inside.Leaves.{Gains, Fit}
 use Rattle.merge.specs.Inside.Tables.{view, Sound}
 use Rattle.network.proofs.LogIs.{noted_asks}
@@ -9,6 +8,7 @@ use Prim.Native.Nat.{◌-◌, ◌<◌}
 use Rattle.network.proofs.network.choose_base.Goals.{Start}
 use Rattle.network.proofs.network.choose_base.Goals as goal
 
+-- the ends are nodes
 ends : (c : Start) → (c.args.p < c.args.n) × (c.args.q < c.args.n)
 ends c =
     let a = c.args in

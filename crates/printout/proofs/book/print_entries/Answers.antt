@@ -1,5 +1,4 @@
 -- `printout::book::print_entries` meets its contract. Assumes nothing.
--- a file of at most 128 gates
 use Prim.Native.Nat.{◌≤◌}
 use native.Mathlib.Omega.{arith}
 use mathlib.Core.Bool.{true}
@@ -13,6 +12,7 @@ use Rattle.printout.proofs.UnfoldLaws.{refused_prints, text_front, nothing_print
 use Rattle.printout.proofs.book.print_entries.Goals.{Start}
 use Rattle.printout.proofs.book.print_entries.Goals as goal
 
+-- a file of at most 128 gates
 few : (c : Start) → file_gates c.args.file.now ≤ 128
 few c = omega (arith, c.requires.0, c.requires.1)
 

@@ -1,5 +1,4 @@
 -- `printout::count::put_count` meets its contract, by the count's sign. Assumes nothing.
--- what `magnitude` gave
 use Prim.Native.Nat.{ℕ, ◌+◌, ◌≤◌}
 use native.Mathlib.Omega.{arith}
 use mathlib.Core.Path.{◌≡◌, sym, ap, ◌∙◌}
@@ -15,6 +14,7 @@ use Rattle.printout.proofs.CountLaws.{size_most, text_below, text_plain}
 use Rattle.printout.proofs.count.put_count.Goals.{After-magnitude-n}
 use Rattle.printout.proofs.count.put_count.Goals as goal
 
+-- what `magnitude` gave
 sized : (c : After-magnitude-n) → c.magnitude-n.result ≡ nat_abs c.args.count
 sized c = c.magnitude-n.ensures ∙ ap nat_abs (to_z-of_z w32 c.args.count c.ranges.count)
 

@@ -1,5 +1,4 @@
 -- `printout::count::put_decimal` meets its contract: what `io::decimal` gives is the number's text. Assumes nothing.
--- what `io::decimal` gave
 use Prim.Native.Nat.{ℕ, ◌+◌}
 use native.Mathlib.Omega.{arith}
 use mathlib.Core.Path.{ap, ◌∙◌}

@@ -1,5 +1,4 @@
 -- `printout::unfold::print_by` meets its contract. Assumes nothing.
--- the gates that the code takes a file's sweep to have
 use Prim.Native.Nat.{ℕ, ◌*◌, ◌≤◌}
 use native.Mathlib.Omega.{arith}
 use mathlib.Core.Bool.{Bool, true, false}
@@ -16,6 +15,7 @@ use Rattle.printout.proofs.UnfoldLaws.{fault_prints, many_print, few_print, noth
 use Rattle.printout.proofs.unfold.print_by.Goals.{After-read_u16-gates, Else-rays-gates-gt-MOST_PRINTED}
 use Rattle.printout.proofs.unfold.print_by.Goals as goal
 
+-- the gates that the code takes a file's sweep to have
 gates_read : (c : After-read_u16-gates) → c.read_u16-rays.result * c.read_u16-gates.result ≡ file_gates c.args.file.now
 gates_read c = gates_are _ _ _ _ c.read_u16-rays.ensures.0 c.read_u16-gates.ensures.0 refl
 

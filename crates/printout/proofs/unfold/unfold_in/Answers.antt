@@ -1,5 +1,4 @@
 -- `printout::unfold::unfold_in` meets its contract. Assumes nothing.
--- the memory lent, and its lengths
 use native.Mathlib.Omega.{arith}
 use mathlib.Core.Path.{◌≡◌}
 use Rattle.sweep.specs.Call.{memory_of, lengths}

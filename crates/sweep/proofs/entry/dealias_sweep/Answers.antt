@@ -1,5 +1,4 @@
 -- `sweep::entry::dealias_sweep` meets its contract. Assumes nothing.
--- the sweep and the memory that the parameters are
 use mathlib.Core.Option.{none}
 use Rattle.std.proofs.Common.{◌≡◌, ℕ, sym, ap, ◌∙◌}
 use Rattle.sweep.proofs.CallLaws.{call_missed, call_goes_on}

@@ -1,5 +1,4 @@
 -- `sweep::entry::plan_sweep` meets its contract. Assumes nothing.
--- the sweep that the parameters are
 use Rattle.std.proofs.Common.{◌≡◌, [], ◌∷◌, sym, ap, ◌∙◌, subst, arith}
 use mathlib.Core.Option.{Option, none}
 use Rattle.arithmetic.specs.Inside.Asked.{ExtremesInRange, Held}

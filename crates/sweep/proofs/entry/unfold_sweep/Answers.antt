@@ -1,5 +1,4 @@
 -- `sweep::entry::unfold_sweep` meets its contract. Assumes nothing.
--- the memory that the parameters are
 use borrow.Rule.Slice.PartMut.{Post-is}
 use Rattle.std.proofs.Common.{◌+◌, ◌-◌, ◌*◌, ◌≤◌, length, take, arith}
 use Rattle.memory.specs.Size.{gates_of_largest}

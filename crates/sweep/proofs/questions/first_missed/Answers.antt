@@ -1,5 +1,4 @@
 -- `sweep::questions::first_missed` meets its contract. Assumes nothing.
--- the sweep that the parameters are, and its questions
 use Rattle.std.proofs.Common.{◌≡◌, true, [], drop, sym, ap, ◌∙◌}
 use Rattle.sweep.proofs.PassedLaws.{answer_no, answer_yes, size_product, long_are, length_is, room_is, options_are}
 use Rattle.sweep.proofs.QuestionLaws.{on, no}

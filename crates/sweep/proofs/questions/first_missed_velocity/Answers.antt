@@ -1,5 +1,4 @@
 -- `sweep::questions::first_missed_velocity` meets its contract. Assumes nothing.
--- the inputs that the parameters are, and the questions put to them
 use Rattle.std.proofs.Common.{◌≡◌, ◌*◌, true, ◌∷◌, drop, sym, ap, ◌∙◌}
 use Rattle.sweep.proofs.VelocityLaws.{Long, length_is, lengths}
 use Rattle.sweep.proofs.PassedLaws.{answer_no, answer_yes}

@@ -1,5 +1,4 @@
 -- `sweep::questions::gate_missed` meets its contract. Assumes nothing.
--- after a yes to question 7
 use Rattle.std.proofs.Common.{◌≡◌, true, sym, ap, ◌∙◌, ⊎_elim, w32}
 use borrow.Author.Tests.{not-true, not-false}
 use mir.ValLaws.{to_z-of_z}

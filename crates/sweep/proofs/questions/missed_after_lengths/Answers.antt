@@ -1,5 +1,4 @@
 -- `sweep::questions::missed_after_lengths` meets its contract. Assumes nothing.
--- the inputs that the parameters are, for any rays and gates
 use Rattle.std.proofs.Common.{◌≡◌, ℕ, drop, sym, ap, ◌∙◌}
 use Rattle.sweep.proofs.VelocityLaws.{gates_are}
 use Rattle.sweep.proofs.PassedLaws.{answer_no, answer_yes}

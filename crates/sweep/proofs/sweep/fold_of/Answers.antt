@@ -1,5 +1,4 @@
 -- `sweep::sweep::fold_of` meets its contract. Assumes nothing.
--- the offset's word means the offset
 use Rattle.std.proofs.Common.{◌≡◌, ◌^◌, ◌≤◌, ℤ, nat_abs, sym, ap, ◌∙◌, subst, w32, to_z, of_z}
 use mir.ValLaws.{to_z-of_z}
 use Rattle.merge.specs.Inside.Steps.{unbias}
@@ -8,6 +7,7 @@ use Rattle.sweep.proofs.SignedLaws.{first_fits, second_fits, valid_count, masked
 use Rattle.sweep.proofs.sweep.fold_of.Goals.{Start}
 use Rattle.sweep.proofs.sweep.fold_of.Goals as goal
 
+-- the offset's word means the offset
 same_offset : (c : Start) → to_z w32 (of_z w32 c.args.offset) ≡ c.args.offset
 same_offset c = to_z-of_z w32 c.args.offset c.ranges.offset
 

@@ -1,5 +1,4 @@
 -- `sweep::sweep::mean` meets its contract. Assumes nothing.
--- the quotient of the two floats is the mean's
 use Rattle.std.proofs.Common.{◌≡◌, ℕ, ◌*◌, ℤ, pos, ◌-ℤ◌, ap, ◌∙◌, w64, to_z, of_z}
 use Rattle.arithmetic.specs.Rounding.{real}
 use lib.IntN.{sub_ℕ}
@@ -8,6 +7,7 @@ use Rattle.arithmetic.specs.Rounding.{round_even}
 use Rattle.sweep.proofs.SignedLaws.{total_fits, total_back, mean_whole, mean_none}
 use Rattle.sweep.proofs.sweep.mean.Goals as goal
 
+-- the quotient of the two floats is the mean's
 quotient : (x y : Float) (t z : ℤ) (g : ℕ) → x ≡ of_int binary64 t → t ≡ z → y ≡ of_int binary64 (pos g) → div binary64 x y ≡ div binary64 (real z) (real (pos g))
 unfolding real
 quotient x y t z g a b d = ap (λ (q : Float). div binary64 q y) (a ∙ ap (of_int binary64) b) ∙ ap (λ (q : Float). div binary64 (of_int binary64 z) q) d

@@ -1,5 +1,4 @@
 -- `sweep::sweep::write_marks` meets its contract. Assumes nothing.
--- the mark of gate g
 use Rattle.memory.specs.Inside.Layout.{marks_at}
 use Rattle.sweep.proofs.FillLaws.{fill_begin, fill_on, fill_all}
 use Rattle.std.proofs.Common.{◌-◌, get_or, refl, arith, length-set}

@@ -1,11 +1,11 @@
 -- `sweep::sweep::write_marks` meets its contract. Assumes nothing.
--- the mark of gate g
 use Rattle.memory.specs.Inside.Layout.{marks_at}
 use Rattle.lists.specs.Inside.Seg.{put}
 use Rattle.lists.specs.Seq.{tabulate}
 use Rattle.std.proofs.Common.{◌≡◌, ℕ, ◌+◌, ◌-◌, ◌≤◌, List, length, get_or}
 use Rattle.sweep.proofs.sweep.write_marks.Given as goal
 
+-- the mark of gate g
 abbrev pub mark_in : List ℕ → ℕ → ℕ → ℕ → ℕ
 mark_in w n k g = get_or w (marks_at n k + get_or w g 0) 0
 

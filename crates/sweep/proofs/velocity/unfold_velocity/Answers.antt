@@ -1,5 +1,4 @@
 -- `sweep::velocity::unfold_velocity` meets its contract. Assumes nothing.
--- the inputs that the parameters are
 use mathlib.Core.Option.{none}
 use Rattle.std.proofs.Common.{◌≡◌, length, sym, ◌∙◌, arith}
 use Rattle.sweep.proofs.VelocityLaws.{none_missed, all_long, velocity_refused, unfolds}

@@ -1,5 +1,4 @@
 -- `sweep_book::entry::dealias_sweep_book` meets its contract. Assumes nothing.
--- the sweep and the memory that the parameters are
 use Rattle.sweep_book.proofs.CallLaws.{book_missed, book_goes_on}
 use Rattle.sweep.proofs.PlanLaws.{planned_none, planned_is, missed_some}
 use Rattle.sweep.proofs.PassedLaws.{seven_of_eight}

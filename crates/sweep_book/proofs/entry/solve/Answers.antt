@@ -1,5 +1,4 @@
 -- `sweep_book::entry::solve` meets its contract. Assumes nothing.
--- where the call began, from the place after the merges
 use Rattle.sweep_book.specs.Book.{book_answer_by}
 use Rattle.sweep_book.proofs.SolveLaws.{short_ends, held_ends, number_held, held_most, enter_asks, entered_is}
 use Rattle.sweep.proofs.SolveLaws.{write_asks, solved_is}

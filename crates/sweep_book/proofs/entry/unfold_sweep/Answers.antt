@@ -1,5 +1,4 @@
 -- `sweep_book::entry::unfold_sweep` meets its contract. Assumes nothing.
--- the memory that the parameters are
 use Rattle.sweep_book.specs.Book.{later, BookAnswer, end_book, book_answer_by}
 use Rattle.sweep.proofs.EndLaws.{small, words_room, floats_room, finds_ask, outputs, solved_ends}
 use Rattle.sweep.proofs.WorkLaws.{length_taken}

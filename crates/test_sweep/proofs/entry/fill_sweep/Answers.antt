@@ -1,5 +1,4 @@
 -- `test_sweep::entry::fill_sweep` meets its contract. Assumes nothing.
--- the slices that the parameters are
 use Rattle.std.proofs.Common.{◌≡◌, true, sym, ◌∙◌, arith}
 use mathlib.Core.Option.{none}
 use Rattle.test_sweep.specs.Call.{slices_of, asked_test}

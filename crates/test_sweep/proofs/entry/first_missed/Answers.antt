@@ -1,5 +1,4 @@
 -- `test_sweep::entry::first_missed` meets its contract. Assumes nothing.
--- the questions put to the parameters
 use Rattle.std.proofs.Common.{◌≡◌, ℕ, ◌*◌, [], ◌∷◌, drop, sym, ap, ◌∙◌}
 use Rattle.sweep.specs.Entry.{answer_of}
 use Rattle.sweep.specs.Questions.{ask, first_no, size_in_range, lengths_fit}

@@ -1,5 +1,4 @@
 -- `test_sweep::entry::test_sweep` meets its contract. Assumes nothing.
--- the slices that the parameters are
 use Rattle.std.proofs.Common.{arith}
 use Rattle.test_sweep.specs.Call.{slices_of, fill_answer_by}
 use Rattle.test_sweep.proofs.CallLaws.{test_other, test_done}

@@ -1,5 +1,4 @@
 -- `test_sweep::generator::fill_gates` meets its contract. The invariant: the first g gates are written, the rest is as it was. Assumes nothing.
--- gate g's velocity and mask byte
 use Rattle.std.proofs.Common.{◌≡◌, ℕ, ◌-◌, ◌≤◌, length}
 use lib.Ieee.{Float}
 use Rattle.lists.specs.Inside.Seg.{put}
@@ -7,6 +6,7 @@ use Rattle.lists.specs.Seq.{tabulate}
 use Rattle.test_sweep.specs.Generator.{state_after, gate_at}
 use Rattle.test_sweep.proofs.generator.fill_gates.Given as goal
 
+-- gate g's velocity and mask byte
 abbrev pub velocity_at : ℕ → ℕ → Float
 velocity_at state g = (gate_at state g).velocity
 

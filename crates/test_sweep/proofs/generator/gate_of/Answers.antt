@@ -1,11 +1,11 @@
 -- `test_sweep::generator::gate_of` meets its contract. Assumes nothing.
--- the velocity
 use Rattle.std.proofs.Common.{◌≡◌, ℕ, ◌<◌, cond, sym, ap, ◌∙◌, subst}
 use Rattle.test_sweep.specs.Generator.{twelve_bits, velocity_of, gate_of}
 use Rattle.test_sweep.proofs.StateLaws.{bits_few}
 use Rattle.test_sweep.proofs.generator.gate_of.Goals.{After-is_masked}
 use Rattle.test_sweep.proofs.generator.gate_of.Goals as goal
 
+-- the velocity
 velocity_is : (c : After-is_masked) → c.velocity_of-v.result ≡ velocity_of (twelve_bits c.args.state)
 velocity_is c = c.velocity_of-v.ensures ∙ ap velocity_of c.twelve_bits.ensures
 

@@ -1,5 +1,4 @@
 -- `window::entry::take_in` meets its contract. Assumes nothing.
--- the arrival and the window that the parameters are
 use Rattle.sweep.specs.Velocity.{counted}
 use Rattle.window.specs.Window.{window_of}
 use Rattle.window.proofs.RingNumbers.{after_below, more_few}

@@ -1,5 +1,4 @@
 -- `window::entry::window_add` meets its contract. Assumes nothing.
--- the arrival and the window that the parameters are
 use mathlib.Core.Path.{◌≡◌}
 use mathlib.Core.Option.{none}
 use native.Mathlib.Omega.{arith}

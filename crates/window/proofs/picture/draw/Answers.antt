@@ -1,5 +1,4 @@
 -- `window::picture::draw` meets its contract. The invariant: the first g gates of picture and marks are written. Assumes nothing.
--- a gate of the picture, and its mark
 use Rattle.sweep.proofs.FillLaws.{fill_begin, fill_on, fill_all}
 use Rattle.window.specs.Median.{mark}
 use Rattle.window.specs.declared.median.Drawn.{Drawn}

@@ -1,5 +1,4 @@
 -- `window::picture::draw` meets its contract. The invariant: the first g gates of picture and marks are written. Assumes nothing.
--- a gate of the picture, and its mark
 use lib.Ieee.{Float}
 use Rattle.lists.specs.Seq.{tabulate}
 use Rattle.lists.specs.Inside.Seg.{put}
@@ -11,6 +10,7 @@ use Prim.Native.Nat.{ℕ, ◌-◌, ◌≤◌}
 use lib.ListN.{length}
 use Rattle.window.proofs.picture.draw.Given as goal
 
+-- a gate of the picture, and its mark
 abbrev pub median_at : List Float → List ℕ → ℕ → ℕ → ℕ → ℕ → Float
 median_at ws bs n first held g = median (winds_from ws bs n g first held)
 

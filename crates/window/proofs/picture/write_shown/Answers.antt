@@ -1,5 +1,4 @@
 -- `window::picture::write_shown` meets its contract. The invariant: the first g bytes are written, and the rest is as it was. Assumes nothing.
--- a gate's byte, from the slices
 use Rattle.lists.specs.Seq.{tabulate}
 use Rattle.lists.specs.Inside.Seg.{put}
 use Rattle.sweep.proofs.FillLaws.{part_begin, part_on}

@@ -1,5 +1,4 @@
 -- `window::picture::write_shown` meets its contract. The invariant: the first g bytes are written, and the rest is as it was. Assumes nothing.
--- a gate's byte, from the slices
 use mathlib.Core.Bool.{cond}
 use Rattle.lists.specs.Seq.{tabulate}
 use Rattle.lists.specs.Inside.Seg.{put}
@@ -10,6 +9,7 @@ use Prim.Native.Nat.{ℕ, ◌-◌, ◌≤◌}
 use lib.ListN.{length, get_or}
 use Rattle.window.proofs.picture.write_shown.Given as goal
 
+-- a gate's byte, from the slices
 abbrev pub byte_from : List ℕ → List ℕ → ℕ → ℕ
 byte_from ms ls g = cond (shows_wind (get_or ms g 0) (get_or ls g 0)) 1 0
 

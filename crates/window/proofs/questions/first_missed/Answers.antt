@@ -1,5 +1,4 @@
 -- `window::questions::first_missed` meets its contract. Assumes nothing.
--- the arrival that the parameters are
 use mathlib.Core.Path.{◌≡◌, sym, ◌∙◌}
 use native.Mathlib.Omega.{arith}
 use Rattle.sweep.specs.Velocity.{counted, after_lengths}

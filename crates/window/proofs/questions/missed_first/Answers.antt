@@ -1,5 +1,4 @@
 -- `window::questions::missed_first` meets its contract. Assumes nothing.
--- the arrival that the parameters are
 use mathlib.Core.Bool.{true}
 use mathlib.Core.Path.{◌≡◌}
 use Rattle.sweep.specs.Questions.{size_in_range}
