@@ -1,5 +1,5 @@
 -- The valid velocities and their extremes, one gate more at a time; the tabulated limits, one more at a time. Assumes nothing.
-use Rattle.std.proofs.Common.{◌≡◌, ℕ, zero, suc, ◌+◌, ◌-◌, ◌<◌, ◌≤◌, Bool, true, false, cond, T, eqb, List, [], ◌∷◌, ◌++◌, length, get_or, take, drop, set, sym, refl, ap, ◌∙◌, append_assoc, add-one, arith, eqb→eq, length-append, length-take-le, drop-cons, take-suc}
+use Rattle.std.proofs.Common.{◌≡◌, ℕ, zero, suc, ◌+◌, ◌<◌, ◌≤◌, Bool, true, false, cond, T, eqb, List, [], ◌∷◌, ◌++◌, length, get_or, take, drop, set, sym, refl, ap, ◌∙◌, append_assoc, add-one, arith, eqb→eq, length-append, length-take-le, drop-cons, take-suc}
 use lib.Dec.{not_T}
 use lib.Ieee.Bits.{is_false}
 use lib.Seq.{set_at, take-length}

@@ -1,6 +1,6 @@
 -- Nyquist, the width of an interval and the numbers of widths to add, in units: what questions 5 to 7 give. The ceiling's argument is at most 2 ^ 30.
 -- Assumes nothing.
-use Rattle.std.proofs.Common.{◌≡◌, ℕ, zero, suc, ◌+◌, ◌-◌, ◌*◌, ◌/◌, ◌%◌, ◌^◌, ◌<◌, ◌≤◌, Bool, true, false, cond, not, T, eqb, ℤ, pos, negsuc, neg_ℤ, nat_abs, sym, refl, ap, ◌∙◌, subst, le_trans, le_of_eq, le_of_suc-le-suc, mul-le-mul_right, zero-lt-suc, add_comm, mul-le-mul_left, mul-pos, one-mul, lt_of_not-le, mul-one, div-mul-le_self, le_of_mul-le-mul_right, arith, lit<, lit≤, le→leb}
+use Rattle.std.proofs.Common.{◌≡◌, ℕ, zero, suc, ◌+◌, ◌*◌, ◌/◌, ◌%◌, ◌^◌, ◌<◌, ◌≤◌, Bool, true, false, cond, not, T, eqb, ℤ, pos, negsuc, neg_ℤ, nat_abs, sym, refl, ap, ◌∙◌, subst, le_trans, le_of_eq, le_of_suc-le-suc, mul-le-mul_right, zero-lt-suc, add_comm, mul-le-mul_left, mul-pos, one-mul, lt_of_not-le, mul-one, div-mul-le_self, le_of_mul-le-mul_right, arith, lit<, lit≤, le→leb}
 use lib.Ieee.{Float, nan, inf, fin, binary64, up, down, round, add, sub, mul, div, neg, le, fits, of_int}
 use lib.Ieee.Fits.{and_l, and_r, down_pos}
 use lib.Ieee.Exact.{HasValue}

@@ -1,5 +1,5 @@
 -- What the tests of `round_even` and `ceil` say: x against 0 and against 2 ^ 30 either way, and the i32 that is made of a size. Assumes nothing.
-use Rattle.std.proofs.Common.{◌≡◌, ℕ, zero, suc, ◌+◌, ◌-◌, ◌*◌, ◌/◌, ◌^◌, ◌<◌, ◌≤◌, Bool, true, false, cond, not, ◌&&◌, ◌||◌, T, eqb, ltb, leb, ◌⊎◌, ℤ, pos, ◌-ℤ◌, neg_ℤ, sym, refl, ap, ◌∙◌, subst, inl, inr, true≢false, le_of_eq, le_of_lt, eq-or-lt_of_le, zero-mul, mul-one, not-le_of_lt, arith, lit<, eqb→eq, ltb→lt, lt→ltb, leb→le, w32, SFits, to_z, of_z}
+use Rattle.std.proofs.Common.{◌≡◌, ℕ, zero, suc, ◌+◌, ◌*◌, ◌/◌, ◌^◌, ◌<◌, ◌≤◌, Bool, true, false, cond, not, ◌&&◌, ◌||◌, T, eqb, ltb, leb, ◌⊎◌, ℤ, pos, ◌-ℤ◌, neg_ℤ, sym, refl, ap, ◌∙◌, subst, inl, inr, true≢false, le_of_eq, le_of_lt, eq-or-lt_of_le, zero-mul, mul-one, not-le_of_lt, arith, lit<, eqb→eq, ltb→lt, lt→ltb, leb→le, w32, SFits, to_z, of_z}
 use mathlib.Core.Bool.{beq, false≢true}
 use Prim.Native.Nat.{compare, Ordering}
 use native.Mathlib.Nat.{zero-div, zero-mod}

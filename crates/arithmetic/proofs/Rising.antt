@@ -1,5 +1,5 @@
 -- THE LAW: for a sweep that passes questions 5 to 8 no limit is below the one before it. Assumes nothing.
-use Rattle.std.proofs.Common.{◌≡◌, ℕ, zero, suc, ◌+◌, ◌-◌, ◌*◌, ◌<◌, ◌≤◌, Bool, true, false, cond, T, eqb, List, [], ◌∷◌, ◌++◌, length, get_or, ℤ, pos, ◌+ℤ◌, sym, refl, ap, ◌∙◌, subst, inl, inr, le_trans, le_of_eq, eq-or-lt_of_le, zero-mul, arith, lit≤, length-append}
+use Rattle.std.proofs.Common.{◌≡◌, ℕ, zero, suc, ◌+◌, ◌*◌, ◌<◌, ◌≤◌, Bool, true, false, cond, T, eqb, List, [], ◌∷◌, ◌++◌, length, get_or, ℤ, pos, ◌+ℤ◌, sym, refl, ap, ◌∙◌, subst, inl, inr, le_trans, le_of_eq, eq-or-lt_of_le, zero-mul, arith, lit≤, length-append}
 use lib.ListN.{get_or-append}
 use lib.Seq.{get_or_at}
 use lib.Ieee.{Float, nan, binary32, binary64, mul, lt, le, fits}

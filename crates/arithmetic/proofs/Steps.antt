@@ -1,6 +1,6 @@
 -- Evenly spaced limits never fall: start + step * i grows with i, and the last one computed stays below the end, since three roundings move it by less than a 2 ^ 50th and
 -- it is one step short. Assumes nothing.
-use Rattle.std.proofs.Common.{◌≡◌, ℕ, suc, ◌+◌, ◌-◌, ◌*◌, ◌<◌, ◌≤◌, Bool, true, false, not, T, leb, pos, sym, ap, ◌∙◌, subst, le_trans, le_of_eq, le_of_suc-le-suc, mul-le-mul_right, zero-lt-suc, lt_of_mul-lt-mul_right, mul-le-mul_left, mul-pos, mul-one, le_of_mul-le-mul_right, arith, lit<, lit≤, leb→le}
+use Rattle.std.proofs.Common.{◌≡◌, ℕ, suc, ◌+◌, ◌*◌, ◌<◌, ◌≤◌, Bool, true, false, not, T, leb, pos, sym, ap, ◌∙◌, subst, le_trans, le_of_eq, le_of_suc-le-suc, mul-le-mul_right, zero-lt-suc, lt_of_mul-lt-mul_right, mul-le-mul_left, mul-pos, mul-one, le_of_mul-le-mul_right, arith, lit<, lit≤, leb→le}
 use lib.Dec.{nleb→lt}
 use lib.Ieee.{Float, binary64, round, sub, mul, le, fits, of_int}
 use lib.Ieee.Exact.{HasValue}

@@ -1,6 +1,6 @@
 -- Questions 5 and 7 of the number that a bit pattern is, by the bits: patterns without their sign are in the order of the sizes. Then bits of numbers,
 -- and numbers of bits, that may be a NaN's. Assumes nothing.
-use Prim.Native.Nat.{ℕ, zero, suc, ◌+◌, ◌-◌, ◌*◌, ◌/◌, ◌%◌, ◌^◌, ◌≤◌, ◌<◌}
+use Prim.Native.Nat.{ℕ, zero, suc, ◌+◌, ◌*◌, ◌/◌, ◌%◌, ◌^◌, ◌≤◌, ◌<◌}
 use native.Mathlib.Omega.{arith}
 use native.Mathlib.Nat.{mul-le-mul_right, mul-lt-mul_of_pos_right, le_of_mul-le-mul_right, mul_comm, mul_assoc, mul_left_comm, mul_right_comm, mul-pos, add-mul, mul-le-mul_left, mul-lt-mul_of_pos_left, lt_of_lt_of_le, le_of_eq, le_of_lt, pow-suc}
 use mathlib.Core.Path.{◌≡◌, refl, sym, ap, ◌∙◌, subst}

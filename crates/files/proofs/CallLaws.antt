@@ -9,7 +9,7 @@ use mathlib.Core.Option.{Option, none, some}
 use lib.Dec.{eqb, leb}
 use lib.ListN.{length, set, length-append}
 use borrow.Author.Tests.{eq-eqb, ne_eqb, eqb-true, leb-true}
-use Rattle.lists.specs.Seq.{all, each}
+use Rattle.lists.specs.Seq.{all}
 use Rattle.lists.specs.Inside.Seg.{put}
 use Rattle.lists.proofs.AllLaws.{and_left, and_right, and_three}
 use Rattle.sweep.specs.Questions.{Question, ask, first_no, size_in_range, options_in_range}

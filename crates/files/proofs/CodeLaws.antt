@@ -6,7 +6,6 @@ use native.Mathlib.Nat.{zero-add, mul-zero, mul-le-mul, mul-add, mul_assoc, mul_
 use mathlib.Core.Path.{◌≡◌, refl, sym, ap, ◌∙◌}
 use mathlib.Core.Bool.{Bool, true, false, cond, ◌&&◌}
 use mathlib.Core.List.{List, [], ◌∷◌, ◌++◌, append-nil, append_assoc, map}
-use mathlib.Core.Option.{some}
 use lib.Dec.{eqb, leb, ltb}
 use lib.ListN.{length, get_or, set, drop}
 use lib.ListN.{drop_of_length-le}

@@ -3,7 +3,7 @@ use Prim.Native.Nat.{ℕ, ◌≤◌, ◌<◌}
 use native.Mathlib.Omega.{arith}
 use mathlib.Core.Path.{◌≡◌, refl, sym, ap, ◌∙◌, subst}
 use mathlib.Core.Bool.{Bool, true, false, ◌&&◌}
-use mathlib.Core.List.{List, [], ◌∷◌, ◌++◌}
+use mathlib.Core.List.{List, [], ◌∷◌}
 use mathlib.Core.Option.{Option, none, some}
 use lib.Dec.{ltb}
 use lib.ListN.{length, get_or}
@@ -15,14 +15,13 @@ use Rattle.lists.proofs.SeqLaws.{tab_same}
 use Rattle.lists.proofs.AllLaws.{and_left, and_right}
 use Rattle.arithmetic.specs.Intervals.{two_nyquist_lem}
 use Rattle.labels.specs.Label.{Found}
-use Rattle.network.specs.Network.{merges, replay, count_of}
+use Rattle.network.specs.Network.{merges, count_of}
 use Rattle.network.specs.Book.{Entry, replayed}
 use Rattle.network.proofs.BookLaws.{book_counts, book_replays, book_holds_lem}
 use Rattle.sweep.specs.Sweep.{Sweep, Unfolded, regions_of, network_of, early, ended, finished, final, offset_of, gate_count, unfolded_by, unfolded}
-use Rattle.sweep.specs.Questions.{ask, first_no, eight_of, seven, gates_in, own_limits, asked, answered, asked9}
-use Rattle.sweep.specs.Call.{Memory, Answer, lengths, cleared_for, worked_on, ending, call}
-use Rattle.sweep.specs.Inside.Planning.{own_plan}
-use Rattle.sweep.proofs.QuestionLaws.{on, no, list_after, no_meets, or_else}
+use Rattle.sweep.specs.Questions.{ask, first_no, eight_of, seven, gates_in, own_limits, answered, asked9}
+use Rattle.sweep.specs.Call.{Memory, lengths, cleared_for, ending, call}
+use Rattle.sweep.proofs.QuestionLaws.{on, no, no_meets}
 use Rattle.sweep.proofs.CallLaws.{call_missed, call_on}
 use Rattle.sweep.proofs.Early.{early_merges, early_counts}
 use Rattle.sweep.proofs.EarlyEnd.{no_count}

@@ -1,6 +1,6 @@
 -- What a caller of `jivakkol_dealias_sweep_book` may rely on, from its contract alone: s is the sweep that the call's parameters are, m the memory
 -- and b the book lent at entry, a the answer and everything lent at exit. BookTheorems proves each. Statements only.
-use Rattle.std.specs.Prelude.{ℕ, ◌<◌, ◌≡◌, List, ◌∷◌, ◌++◌, length, get_or, ℤ, Float}
+use Rattle.std.specs.Prelude.{◌<◌, ◌≡◌, List, ◌∷◌, ◌++◌, length, get_or, ℤ, Float}
 use Rattle.lists.specs.Seq.{tabulate}
 use Rattle.network.specs.Book.{Entry, replayed}
 use Rattle.network.specs.BookTheorems.{EntryHolds}

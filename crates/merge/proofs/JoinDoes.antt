@@ -1,5 +1,5 @@
 -- `absorb`, `join_edge`, `moved_edge` and `take_edge` over plain values. Assumes nothing.
-use Rattle.std.proofs.Common.{◌≡◌, ℕ, ◌+◌, ◌-◌, ◌*◌, ◌<◌, ◌≤◌, true, false, T, eqb, List, length, get_or, set, sym, refl, ap, ◌∙◌, subst, length-set, le-ltb, lt-ltb, eq-eqb, ne_eqb}
+use Rattle.std.proofs.Common.{◌≡◌, ℕ, ◌+◌, ◌*◌, ◌<◌, ◌≤◌, true, false, T, eqb, List, length, get_or, set, sym, refl, ap, ◌∙◌, subst, length-set, le-ltb, lt-ltb, eq-eqb, ne_eqb}
 use lib.Ieee.{nan, binary32, fits, Float, neg, add}
 use Rattle.merge.specs.Inside.Tables.{Tables, view, HoldsTables, Sound}
 use Rattle.merge.specs.Inside.Table.{weight, first, second, bridged}

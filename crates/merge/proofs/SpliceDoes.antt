@@ -1,5 +1,5 @@
 -- `splice` and `grow` over plain values. Assumes nothing.
-use Rattle.std.proofs.Common.{◌≡◌, ℕ, ◌+◌, ◌-◌, ◌*◌, ◌<◌, ◌≤◌, List, length, get_or, set, ap, ◌∙◌, arith, length-set}
+use Rattle.std.proofs.Common.{◌≡◌, ℕ, ◌+◌, ◌*◌, ◌<◌, ◌≤◌, List, length, get_or, set, ap, ◌∙◌, arith, length-set}
 use Rattle.memory.proofs.TreeLaws.{tree_set}
 use Rattle.memory.specs.Inside.Layout.{table_words}
 use Rattle.merge.specs.Inside.Tables.{Tables, view, HoldsTables, store}

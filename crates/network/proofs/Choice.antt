@@ -11,7 +11,7 @@ use lib.ListN.{length, get_or}
 use borrow.Author.Tests.{le-leb, lt-leb, eqb-true}
 use Rattle.lists.proofs.SeqLaws.{eqb_refl}
 use Rattle.lists.proofs.AllLaws.{and_left}
-use Rattle.network.specs.Network.{Edge, Region, Plan, size_of, at, move, better, choose}
+use Rattle.network.specs.Network.{Edge, Region, Plan, size_of, move, better, choose}
 
 -- Edge i is the heaviest live one, and heavier than every live one before it.
 pub record Best (d : Edge) (es : List Edge) (i : ℕ) : Type 0 where

@@ -22,7 +22,7 @@ use Rattle.edges.specs.declared.edges.Shape.{Shape}
 use Rattle.network.specs.Book.{book}
 use Rattle.network.specs.Inside.Log.{Entries}
 use Rattle.network.proofs.LogIs.{entries_none}
-use Rattle.network.specs.Network.{size_in, merges, network_by}
+use Rattle.network.specs.Network.{size_in, network_by}
 use Rattle.network.specs.Inside.Reduce.{Reduces, Reduced, TablesLeft}
 use Rattle.network.proofs.Settles.{ran_yes}
 use Rattle.network.specs.Inside.Find.{shape_of, limits_by, regions_by, found_in, network_for, Labelled, Few, Merges, Finds, finding_of, Leaves}

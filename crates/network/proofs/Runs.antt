@@ -8,7 +8,7 @@ use Prim.Native.Nat.{ℕ, zero, suc, ◌+◌, ◌-◌, ◌≤◌, ◌<◌}
 use native.Mathlib.Omega.{arith}
 use lib.Ieee.{Float}
 use lib.ListN.{length, get_or}
-use Rattle.network.specs.Network.{Edge, State, Event, at, event, step, choose, in_range, marks, marked, follow, run, trace}
+use Rattle.network.specs.Network.{Edge, State, Event, event, step, choose, in_range, marks, marked, follow, run, trace}
 use Rattle.merge.specs.Inside.Tables.{Tables, view, HoldsTables}
 use Rattle.merge.specs.Inside.Table.{count, mark}
 use Rattle.network.specs.Book.{Entry, entry, book}

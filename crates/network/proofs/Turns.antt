@@ -13,7 +13,7 @@ use borrow.Author.Tests.{lt-ltb, le-ltb}
 use Rattle.lists.proofs.AllLaws.{mem_upto}
 use Rattle.lists.proofs.SeqLaws.{map-upto-length, map-upto_at, sum_one}
 use Rattle.network.specs.Book.{entry_of, entry}
-use Rattle.network.specs.Network.{Edge, Region, State, Plan, Event, size_of, at, turn_if, plan, plan_for, has, event_of, event, step, raised, better, choose, quotient, quot, bounded, in_range, whole, popped, marks, marked}
+use Rattle.network.specs.Network.{Edge, Region, State, Plan, Event, size_of, at, turn_if, plan, plan_for, event_of, event, step, raised, better, choose, quotient, quot, bounded, in_range, whole, popped, marks}
 use Rattle.network.proofs.Choice.{Best as Heaviest, best_chosen}
 use Rattle.memory.specs.Inside.Tree.{Best}
 use Rattle.merge.specs.Inside.Tables.{Tables, view, HoldsTables, Sound}

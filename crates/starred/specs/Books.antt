@@ -1,13 +1,12 @@
 -- A small sweep and its merge book, computed: the file of crates/book. Three merges, one by 0, one whose second end is the base, one along an edge that took up
 -- another. Assumes nothing.
-use Rattle.std.specs.Prelude.{ℕ, ◌≡◌, refl, List, [], ◌∷◌, map, ℤ, pos, negsuc, replicate}
+use Rattle.std.specs.Prelude.{ℕ, ◌≡◌, refl, List, [], ◌∷◌, map, pos, negsuc, replicate}
 use Rattle.std.specs.Float.{nan, binary32}
 use Rattle.std.specs.Float.Ieee.{of_int}
 use Rattle.lists.specs.Seq.{each}
 use Rattle.network.specs.Book.{Entry, numbers, replayed}
 use Rattle.sweep.specs.Sweep.{Sweep, regions_of}
 use Rattle.sweep.specs.Questions.{own_limits}
-use Rattle.sweep.specs.Call.{Memory}
 use Rattle.sweep_book.specs.Evaluating.{evaluating}
 use Rattle.sweep_book.specs.Book.{BookAnswer, book_of, call_book}
 

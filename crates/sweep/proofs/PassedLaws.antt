@@ -1,8 +1,7 @@
 -- Questions 1 to 7: what each yes gives, what a yes to all seven gives, and question 8 after them. Assumes nothing.
-use Rattle.std.proofs.Common.{◌≡◌, ℕ, ◌+◌, ◌*◌, ◌≤◌, Bool, true, false, not, ◌&&◌, T, eqb, leb, List, [], ◌∷◌, length, pos, negsuc, sym, refl, ap, ◌∙◌, mul-le-mul, arith, eqb-true, leb-true}
+use Rattle.std.proofs.Common.{◌≡◌, ℕ, ◌+◌, ◌*◌, ◌≤◌, Bool, true, false, ◌&&◌, T, eqb, leb, List, [], ◌∷◌, length, pos, negsuc, sym, refl, ap, ◌∙◌, mul-le-mul, arith, eqb-true, leb-true}
 use mathlib.Core.Option.{Option, none, some}
 use lib.Ieee.{Float, fin, le}
-use borrow.Author.Tests.{not-true, not-false}
 use Rattle.memory.specs.Size.{largest, gates_of_largest}
 use Rattle.lists.specs.Seq.{all}
 use Rattle.arithmetic.specs.Intervals.{valid, nyquist_in_range, velocity_in_range}

@@ -1,5 +1,5 @@
 -- A test sweep's velocities are whole multiples of 1/128 from −16 to 2,047/128, so questions 3 and 7 get a yes. Assumes nothing.
-use Rattle.std.proofs.Common.{◌≡◌, ℕ, zero, suc, ◌+◌, ◌*◌, ◌^◌, ◌<◌, ◌≤◌, Bool, true, false, cond, ◌&&◌, eqb, ltb, leb, List, [], ◌∷◌, map, ℤ, pos, negsuc, ◌-ℤ◌, sym, refl, ap, ◌∙◌, subst, le_refl, lt_of_le_of_lt, mul_assoc, mul-le-mul, arith, ltb→lt, lt-ltb}
+use Rattle.std.proofs.Common.{◌≡◌, ℕ, zero, suc, ◌+◌, ◌*◌, ◌^◌, ◌<◌, ◌≤◌, Bool, true, false, cond, ◌&&◌, eqb, leb, List, [], ◌∷◌, map, ℤ, pos, negsuc, ◌-ℤ◌, sym, refl, ap, ◌∙◌, subst, le_refl, lt_of_le_of_lt, mul_assoc, mul-le-mul, arith, ltb→lt, lt-ltb}
 use lib.Signed.{mag}
 use lib.Ieee.{Float, nan, inf, fin, binary32, up, down, unlike, round, div, of_int, le, lt, eq}
 use lib.Ieee.Fits.{down_pos}

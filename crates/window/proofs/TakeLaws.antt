@@ -1,5 +1,5 @@
 -- What the proof of `take_in` cites: what a yes to every question gives in the code's terms, and the window that the parts make. Assumes nothing.
-use Prim.Native.Nat.{ℕ, suc, ◌+◌, ◌-◌, ◌*◌, ◌≤◌, ◌<◌}
+use Prim.Native.Nat.{ℕ, suc, ◌+◌, ◌*◌, ◌≤◌, ◌<◌}
 use native.Mathlib.Omega.{arith}
 use native.Mathlib.Nat.{mul-le-mul, suc-mul}
 use mathlib.Core.Path.{◌≡◌, sym, ap, ◌∙◌}

@@ -1,5 +1,5 @@
 -- `arithmetic::intervals::ceil_of` meets its contract. Assumes nothing.
-use Rattle.std.proofs.Common.{◌≡◌, ℕ, ◌-◌, Bool, T, ℤ, sym, ap, ◌∙◌, arith, w32}
+use Rattle.std.proofs.Common.{◌≡◌, ℕ, Bool, T, ℤ, sym, ap, ◌∙◌, arith, w32}
 use lib.Ieee.{Float, binary64, div}
 use lib.Ieee.Bits.{is_true}
 use mir.ValLaws.{to_z-of_z}

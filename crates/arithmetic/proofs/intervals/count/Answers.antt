@@ -1,6 +1,5 @@
 -- `arithmetic::intervals::count` meets its contract. Assumes nothing.
 use Rattle.arithmetic.proofs.Plans.{wide_a, wide_b, first_fits, second_fits, sum_is}
-use Rattle.std.proofs.Common.{◌-◌}
 use Rattle.arithmetic.proofs.intervals.count.Goals as goal
 
 pub overflow_cast-result-2 : goal.overflow_cast-result-2

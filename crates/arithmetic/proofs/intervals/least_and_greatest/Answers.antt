@@ -1,6 +1,6 @@
 -- `arithmetic::intervals::least_and_greatest` meets its contract. Assumes nothing.
 use Rattle.arithmetic.proofs.IntervalLaws.{turn_yes, turn_no}
-use Rattle.std.proofs.Common.{◌≡◌, ◌-◌, ◌<◌, length, sym, ◌∙◌, ⊎_elim, arith, rules}
+use Rattle.std.proofs.Common.{◌≡◌, ◌<◌, length, sym, ◌∙◌, arith, rules}
 use Rattle.arithmetic.proofs.IntervalLaws.{up_none, up_all}
 use Rattle.arithmetic.proofs.intervals.least_and_greatest.Goals.{then-valid-i-eq1, else-valid-i-eq1}
 use Rattle.arithmetic.proofs.intervals.least_and_greatest.Goals as goal
@@ -19,7 +19,7 @@ loop-i-preserved c =
     let h : l.i < length vs = search rules in (
       search rules,
       elim c.if-valid-i-eq1.branch [
-        then-valid-i-eq1 w ↦ turn_yes vs ms l.i l.e c.if-valid-i-eq1.e w.f32_to_f64_with_nan-v.result h c.requires w.if-valid-i-eq1.true l.invariant.1 w.f32_to_f64_with_nan-v.ensures (w.e-is ∙ w.widen-e.ensures)
+        | then-valid-i-eq1 w ↦ turn_yes vs ms l.i l.e c.if-valid-i-eq1.e w.f32_to_f64_with_nan-v.result h c.requires w.if-valid-i-eq1.true l.invariant.1 w.f32_to_f64_with_nan-v.ensures (w.e-is ∙ w.widen-e.ensures)
         | else-valid-i-eq1 w ↦ w.e-is ∙ turn_no vs ms l.i l.e h c.requires w.if-valid-i-eq1.false l.invariant.1
       ],
     )

@@ -1,5 +1,5 @@
 -- `arithmetic::intervals::limits` meets its contract. Assumes nothing.
-use Rattle.std.proofs.Common.{◌-◌, ◌∙◌, w32, w64, to_z, of_z}
+use Rattle.std.proofs.Common.{◌∙◌, w32, w64, to_z, of_z}
 use mir.ValLaws.{to_z-of_z}
 use Rattle.arithmetic.proofs.Plans.{limits_are}
 use Rattle.arithmetic.proofs.intervals.limits.Goals as goal

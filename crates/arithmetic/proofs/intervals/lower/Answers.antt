@@ -1,5 +1,5 @@
 -- `arithmetic::intervals::lower` meets its contract. Assumes nothing.
-use Rattle.std.proofs.Common.{◌-◌, Bool, cond, sym, ap}
+use Rattle.std.proofs.Common.{Bool, cond, sym, ap}
 use Rattle.arithmetic.proofs.intervals.lower.Goals as goal
 
 pub returns-then-v-x : goal.returns-then-v-x

@@ -1,5 +1,5 @@
 -- `arithmetic::intervals::place` meets its contract. Assumes nothing.
-use Rattle.std.proofs.Common.{ℕ, ◌-◌, ◌≤◌, length, sym, ap, ◌∙◌, subst}
+use Rattle.std.proofs.Common.{ℕ, ◌≤◌, length, sym, ap, ◌∙◌, subst}
 use Rattle.arithmetic.specs.Intervals.{spaced, at_least0}
 use Rattle.arithmetic.proofs.IntervalLaws.{lin_nil}
 use Rattle.arithmetic.proofs.Plans.{length_is, length_fits, none_is}

@@ -1,5 +1,5 @@
 -- `arithmetic::intervals::plan_limits` meets its contract. Assumes nothing.
-use Rattle.std.proofs.Common.{◌-◌, false, not, negsuc, ◌∙◌, rules}
+use Rattle.std.proofs.Common.{false, not, negsuc, ◌∙◌, rules}
 use lib.Ieee.{fin, binary64, fits, is_nan}
 use lib.Ieee.Fits.{and_i}
 use Rattle.arithmetic.proofs.Plans.{no_nan, fair_both, plan_wide, plan_plain, plan_none, beyond_first, beyond_second}

@@ -1,5 +1,5 @@
 -- `arithmetic::intervals::upper` meets its contract. Assumes nothing.
-use Rattle.std.proofs.Common.{◌-◌, Bool, cond, sym, ap}
+use Rattle.std.proofs.Common.{Bool, cond, sym, ap}
 use Rattle.arithmetic.proofs.intervals.upper.Goals as goal
 
 pub returns-then-x-v : goal.returns-then-x-v

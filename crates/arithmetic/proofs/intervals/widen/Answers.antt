@@ -2,7 +2,7 @@
 use Rattle.arithmetic.specs.declared.intervals.Extremes.{Extremes}
 use Rattle.arithmetic.specs.declared.intervals.Extremes.TheVariants.{Both}
 use Rattle.arithmetic.specs.Intervals.{over_both}
-use Rattle.std.proofs.Common.{◌-◌, sym, ap, ◌∙◌}
+use Rattle.std.proofs.Common.{sym, ap, ◌∙◌}
 use Rattle.arithmetic.proofs.intervals.widen.Goals as goal
 
 pub returns-in-Both : goal.returns-in-Both

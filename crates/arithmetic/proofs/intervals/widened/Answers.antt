@@ -1,5 +1,5 @@
 -- `arithmetic::intervals::widened` meets its contract. Assumes nothing.
-use Rattle.std.proofs.Common.{◌-◌, T, sym, ◌∙◌, subst, w32, w64, to_z, of_z, rules}
+use Rattle.std.proofs.Common.{T, sym, ◌∙◌, subst, w32, w64, to_z, of_z, rules}
 use lib.Ieee.{Float, binary64, div}
 use mir.ValLaws.{to_z-of_z}
 use Rattle.arithmetic.specs.Rounding.{within}

@@ -1,5 +1,5 @@
 -- `arithmetic::nearest_size` meets its contract: x + 2 ^ 52 is the float of 2 ^ 52 and the nearest whole number (`whole_sum`), so its cast is exact. Assumes nothing.
-use Rattle.std.proofs.Common.{◌≡◌, ℕ, ◌+◌, ◌-◌, ◌*◌, ◌^◌, ◌<◌, ◌≤◌, T, sym, ap, ◌∙◌, subst, le_trans, le_of_eq, mul-one, arith, lit<, le→leb}
+use Rattle.std.proofs.Common.{◌≡◌, ℕ, ◌+◌, ◌*◌, ◌^◌, ◌<◌, ◌≤◌, T, sym, ap, ◌∙◌, subst, le_trans, le_of_eq, mul-one, arith, lit<, le→leb}
 use lib.Ieee.{Float, binary64, add, of_bits, in_float, in_unsigned, to_unsigned}
 use lib.Ieee.Back.{unsigned_back}
 use lib.Ieee.Nearest.{closest, closest_mono}

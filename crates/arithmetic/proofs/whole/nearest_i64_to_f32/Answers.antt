@@ -1,5 +1,5 @@
 -- `arithmetic::nearest_i64_to_f32` meets its contract: -(k + 1) goes by way of k, which fits at `i64::MIN` too. Assumes nothing.
-use Rattle.std.proofs.Common.{◌≡◌, ℕ, zero, suc, ◌+◌, ◌-◌, ◌^◌, ◌<◌, true, false, T, ℤ, pos, negsuc, ◌+ℤ◌, ◌-ℤ◌, neg_ℤ, nat_abs, sym, refl, ap, ◌∙◌, subst, true≢false, add-one, arith, w64, Fits, SFits, to_z, of_z}
+use Rattle.std.proofs.Common.{◌≡◌, ℕ, zero, suc, ◌+◌, ◌^◌, ◌<◌, true, false, T, ℤ, pos, negsuc, ◌+ℤ◌, ◌-ℤ◌, neg_ℤ, nat_abs, sym, refl, ap, ◌∙◌, subst, true≢false, add-one, arith, w64, Fits, SFits, to_z, of_z}
 use mathlib.Core.Bool.{false≢true}
 use lib.Dec.{leb-zero}
 use lib.IntN.{suc_ℤ, neg_ℤ-neg_ℤ, +ℤ_one, +ℤ_idl}

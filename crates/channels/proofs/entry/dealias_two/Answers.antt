@@ -38,9 +38,15 @@ plan_shared c = planned_is (asked_two (sweep_by c.args.o c.args.h_velocity.now c
 
 pub unfold_two-requires : goal.unfold_two-requires
 unfold_two-requires c =
-    record { fact = (horizontal_seven (sweep_by c.args.o c.args.h_velocity.now c.args.h_valid.now) (sweep_by c.args.o c.args.v_velocity.now c.args.v_valid.now) (two_memory_of (channel_of c.args.h_folds.now c.args.h_doubtful.now c.args.h_pair.now) (channel_of c.args.v_folds.now c.args.v_doubtful.now c.args.v_pair.now)
-    c.args.words.now c.args.floats.now) (eight_yes (goal.at.unfold_two-requires c).In-Limits), vertical_seven (sweep_by c.args.o c.args.h_velocity.now c.args.h_valid.now) (sweep_by c.args.o c.args.v_velocity.now c.args.v_valid.now) (two_memory_of (channel_of c.args.h_folds.now c.args.h_doubtful.now c.args.h_pair.now) (channel_of c.args.v_folds.now c.args.v_doubtful.now c.args.v_pair.now)
-    c.args.words.now c.args.floats.now) (eight_yes (goal.at.unfold_two-requires c).In-Limits)); fit = c.plan_two.ensures.fit c.in-Limits.p c.in-Limits.is }
+    record {
+      fact = (
+        horizontal_seven (sweep_by c.args.o c.args.h_velocity.now c.args.h_valid.now) (sweep_by c.args.o c.args.v_velocity.now c.args.v_valid.now) (two_memory_of (channel_of c.args.h_folds.now c.args.h_doubtful.now c.args.h_pair.now) (channel_of c.args.v_folds.now c.args.v_doubtful.now c.args.v_pair.now)
+            c.args.words.now c.args.floats.now) (eight_yes (goal.at.unfold_two-requires c).In-Limits),
+        vertical_seven (sweep_by c.args.o c.args.h_velocity.now c.args.h_valid.now) (sweep_by c.args.o c.args.v_velocity.now c.args.v_valid.now) (two_memory_of (channel_of c.args.h_folds.now c.args.h_doubtful.now c.args.h_pair.now) (channel_of c.args.v_folds.now c.args.v_doubtful.now c.args.v_pair.now)
+            c.args.words.now c.args.floats.now) (eight_yes (goal.at.unfold_two-requires c).In-Limits),
+      );
+      fit = c.plan_two.ensures.fit c.in-Limits.p c.in-Limits.is;
+    }
 
 pub returns-in-Limits : goal.returns-in-Limits
 returns-in-Limits c =

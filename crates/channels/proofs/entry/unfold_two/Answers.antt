@@ -49,8 +49,12 @@ pub solve_both-requires : goal.solve_both-requires
 solve_both-requires c =
     let a = c.args in
     let m = (two_memory_of (channel_of c.args.h_folds.now c.args.h_doubtful.now c.args.h_pair.now) (channel_of c.args.v_folds.now c.args.v_doubtful.now c.args.v_pair.now)
-    c.args.words.now c.args.floats.now) in record { finds_both = finds_both_ask a.o a.p a.h_velocity.now a.h_valid.now a.v_velocity.now a.v_valid.now m c.requires.fact.0 c.requires.fact.1 c.requires.fit _ _
-          (length_taken _ a.words.now (words_are (goal.at.solve_both-requires c).Start)) (length_taken _ a.floats.now (floats_are (goal.at.solve_both-requires c).Start)); h_folds_len = outputs a.o a.p a.h_velocity.now a.h_valid.now (lent_to m.horizontal m) c.requires.fact.0; v_folds_len = outputs a.o a.p a.v_velocity.now a.v_valid.now (lent_to m.vertical m) c.requires.fact.1 }
+    c.args.words.now c.args.floats.now) in record {
+      finds_both = finds_both_ask a.o a.p a.h_velocity.now a.h_valid.now a.v_velocity.now a.v_valid.now m c.requires.fact.0 c.requires.fact.1 c.requires.fit _ _
+          (length_taken _ a.words.now (words_are (goal.at.solve_both-requires c).Start)) (length_taken _ a.floats.now (floats_are (goal.at.solve_both-requires c).Start));
+      h_folds_len = outputs a.o a.p a.h_velocity.now a.h_valid.now (lent_to m.horizontal m) c.requires.fact.0;
+      v_folds_len = outputs a.o a.p a.v_velocity.now a.v_valid.now (lent_to m.vertical m) c.requires.fact.1;
+    }
 
 pub returns : goal.returns
 returns c =

@@ -1,6 +1,6 @@
 -- `edges::edges::count_runs` meets its contract. Assumes nothing.
 use Rattle.edges.proofs.RunCount.{count_begin, count_on, count_end, count_none}
-use Rattle.std.proofs.Common.{◌-◌, arith}
+use Rattle.std.proofs.Common.{arith}
 use Rattle.edges.proofs.edges.count_runs.Goals as goal
 
 pub returns-then-m-eq0 : goal.returns-then-m-eq0

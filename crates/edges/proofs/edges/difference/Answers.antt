@@ -1,5 +1,5 @@
 -- `edges::edges::difference` meets its contract. Assumes nothing.
-use Rattle.std.proofs.Common.{◌-◌, ◌∙◌}
+use Rattle.std.proofs.Common.{◌∙◌}
 use Rattle.edges.specs.Edges.{difference}
 use Rattle.edges.proofs.edges.difference.Goals as goal
 

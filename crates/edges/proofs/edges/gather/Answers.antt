@@ -1,5 +1,5 @@
 -- `edges::edges::gather` meets its contract. Assumes nothing.
-use Rattle.std.proofs.Common.{◌-◌, refl, ap, ◌∙◌, arith}
+use Rattle.std.proofs.Common.{refl, ap, ◌∙◌, arith}
 use Rattle.edges.specs.Edges.{begun}
 use Rattle.edges.proofs.Going.{going_begin, going_ready, going_slot, going_on, going_end, none_gathered}
 use Rattle.edges.proofs.edges.gather.Goals as goal

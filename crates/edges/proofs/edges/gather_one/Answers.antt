@@ -1,5 +1,5 @@
 -- `edges::edges::gather_one` meets its contract. Assumes nothing.
-use Rattle.std.proofs.Common.{◌+◌, ◌-◌, refl}
+use Rattle.std.proofs.Common.{◌+◌, refl}
 use Rattle.edges.proofs.Going.{turned_on, turned_off}
 use Rattle.edges.specs.Inside.Gather.{pair_at}
 use Rattle.edges.proofs.edges.gather_one.Goals as goal

@@ -1,5 +1,5 @@
 -- `edges::edges::labels_at` meets its contract. Assumes nothing.
-use Rattle.std.proofs.Common.{◌-◌, arith}
+use Rattle.std.proofs.Common.{arith}
 use Rattle.edges.proofs.GatherLaws.{Found, found, are_labels}
 use Rattle.edges.proofs.edges.labels_at.Goals.{Start}
 use Rattle.edges.proofs.edges.labels_at.Goals as goal

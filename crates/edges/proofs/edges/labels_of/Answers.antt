@@ -1,5 +1,5 @@
 -- `edges::edges::labels_of` meets its contract. Assumes nothing.
-use Rattle.std.proofs.Common.{◌-◌, refl, ap, ◌∙◌, arith, length-set}
+use Rattle.std.proofs.Common.{refl, ap, ◌∙◌, arith, length-set}
 use Rattle.edges.proofs.Fills.{Turn, turn, labels_begin}
 use Rattle.edges.specs.Inside.Sorts.{with_labels}
 use Rattle.edges.proofs.edges.labels_of.Goals.{In-loop-i}

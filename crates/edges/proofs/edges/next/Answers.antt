@@ -1,5 +1,5 @@
 -- `edges::edges::next` meets its contract. Assumes nothing.
-use Rattle.std.proofs.Common.{◌-◌, sym, ap, ◌∙◌}
+use Rattle.std.proofs.Common.{sym, ap, ◌∙◌}
 use Rattle.edges.specs.declared.edges.Direction.{Direction}
 use Rattle.edges.specs.Edges.{next}
 use Rattle.edges.proofs.edges.next.Goals as goal

@@ -1,5 +1,5 @@
 -- `edges::edges::next_run` meets its contract. Assumes nothing.
-use Rattle.std.proofs.Common.{◌-◌, refl, eq-eqb, ne_eqb}
+use Rattle.std.proofs.Common.{refl, eq-eqb, ne_eqb}
 use Rattle.edges.proofs.edges.next_run.Goals as goal
 
 pub returns-then-p-q : goal.returns-then-p-q

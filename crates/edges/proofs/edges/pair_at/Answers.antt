@@ -1,5 +1,5 @@
 -- `edges::edges::pair_at` meets its contract. Assumes nothing.
-use Rattle.std.proofs.Common.{◌-◌, ◌%◌, eqb, refl, arith}
+use Rattle.std.proofs.Common.{◌%◌, eqb, refl, arith}
 use Rattle.edges.proofs.GatherLaws.{Found, found, far_at_order, is_pair}
 use Rattle.edges.proofs.edges.pair_at.Goals.{Start}
 use Rattle.edges.proofs.edges.pair_at.Goals as goal

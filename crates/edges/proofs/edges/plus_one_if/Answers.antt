@@ -1,5 +1,5 @@
 -- `edges::edges::plus_one_if` meets its contract. Assumes nothing.
-use Rattle.std.proofs.Common.{◌-◌, refl, arith}
+use Rattle.std.proofs.Common.{refl, arith}
 use Rattle.edges.specs.Edges.{plus_one_if}
 use Rattle.edges.proofs.edges.plus_one_if.Goals as goal
 

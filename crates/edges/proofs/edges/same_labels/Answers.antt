@@ -1,5 +1,5 @@
 -- `edges::edges::same_labels` meets its contract. Assumes nothing.
-use Rattle.std.proofs.Common.{◌-◌, Bool, ◌&&◌, eqb, sym, refl, ap, eq-eqb, ne_eqb}
+use Rattle.std.proofs.Common.{Bool, ◌&&◌, eqb, sym, refl, ap, eq-eqb, ne_eqb}
 use Rattle.edges.specs.Inside.Order.{alike}
 use Rattle.edges.proofs.edges.same_labels.Goals as goal
 

@@ -1,5 +1,5 @@
 -- `edges::edges::seen_after` meets its contract. Assumes nothing.
-use Rattle.std.proofs.Common.{◌-◌, refl, arith, le-ltb, lt-ltb}
+use Rattle.std.proofs.Common.{refl, arith, le-ltb, lt-ltb}
 use Rattle.edges.proofs.edges.seen_after.Goals as goal
 
 pub returns-then-skipped-gt0 : goal.returns-then-skipped-gt0

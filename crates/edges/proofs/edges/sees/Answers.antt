@@ -20,8 +20,7 @@ inside c =
     next_in a.f l.h a.d c.in-At.j l.invariant.0 (is_next c)
 
 pub loop-j-init : goal.loop-j-init
-loop-j-init c =
-    (
+loop-j-init c = (
   c.requires.inside,
   omega arith,
   begins c.args.f c.args.d c.args.labels.now (c.skip-most.result - 0) c.args.g (omega (arith, c.skip-most.ensures)),

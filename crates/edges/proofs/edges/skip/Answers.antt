@@ -1,5 +1,5 @@
 -- `edges::edges::skip` meets its contract. Assumes nothing.
-use Rattle.std.proofs.Common.{◌-◌, rules}
+use Rattle.std.proofs.Common.{rules}
 use Rattle.edges.specs.Edges.{skip}
 use Rattle.edges.proofs.edges.skip.Goals as goal
 

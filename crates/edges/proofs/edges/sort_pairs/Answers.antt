@@ -1,5 +1,4 @@
 -- `edges::edges::sort_pairs` meets its contract. Assumes nothing.
-use Rattle.std.proofs.Common.{◌-◌}
 use Rattle.edges.proofs.SortSteps.{reads, sort_lay, sort_done}
 use Rattle.edges.proofs.edges.sort_pairs.Goals as goal
 

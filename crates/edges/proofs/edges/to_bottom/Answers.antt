@@ -1,5 +1,5 @@
 -- `edges::edges::to_bottom` meets its contract. Assumes nothing.
-use Rattle.std.proofs.Common.{◌-◌, sym, ap, ◌∙◌, add-one, arith}
+use Rattle.std.proofs.Common.{sym, ap, ◌∙◌, add-one, arith}
 use mathlib.Core.Option.{some}
 use Rattle.edges.proofs.Next.{holds, bottom_none, bottom_on}
 use Rattle.edges.proofs.edges.to_bottom.Goals as goal

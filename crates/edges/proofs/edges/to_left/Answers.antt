@@ -1,5 +1,5 @@
 -- `edges::edges::to_left` meets its contract. Assumes nothing.
-use Rattle.std.proofs.Common.{◌-◌, sym, arith}
+use Rattle.std.proofs.Common.{sym, arith}
 use Rattle.edges.proofs.Next.{holds, left_back, left_none, left_wrap}
 use Rattle.edges.proofs.edges.to_left.Goals as goal
 

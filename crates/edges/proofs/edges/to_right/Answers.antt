@@ -1,5 +1,5 @@
 -- `edges::edges::to_right` meets its contract. Assumes nothing.
-use Rattle.std.proofs.Common.{◌-◌, sym, arith}
+use Rattle.std.proofs.Common.{sym, arith}
 use Rattle.edges.proofs.Next.{holds, right_on, right_none, right_wrap}
 use Rattle.edges.proofs.edges.to_right.Goals as goal
 

@@ -1,5 +1,5 @@
 -- `edges::edges::to_top` meets its contract. Assumes nothing.
-use Rattle.std.proofs.Common.{◌≡◌, ℕ, zero, suc, ◌-◌, ◌%◌, ◌≤◌, sym, arith}
+use Rattle.std.proofs.Common.{◌≡◌, ℕ, zero, suc, ◌%◌, ◌≤◌, sym, arith}
 use native.Mathlib.Nat.{zero-mod}
 use Rattle.edges.proofs.Next.{holds, top_none, top_back}
 use Rattle.edges.proofs.edges.to_top.Goals as goal

@@ -1,5 +1,5 @@
 -- `edges::pairs::coded` meets its contract. Assumes nothing.
-use Rattle.std.proofs.Common.{◌-◌, refl, arith}
+use Rattle.std.proofs.Common.{refl, arith}
 use Rattle.edges.specs.Edges.{plus_one_if}
 use Rattle.edges.specs.Inside.GatePairs.{coded}
 use Rattle.edges.proofs.pairs.coded.Goals as goal

@@ -1,5 +1,5 @@
 -- `edges::pairs::is_amid` meets its contract. Assumes nothing.
-use Rattle.std.proofs.Common.{◌≡◌, ◌+◌, ◌-◌, Bool, true, false, not, get_or, sym, refl, true≢false, arith}
+use Rattle.std.proofs.Common.{◌≡◌, ◌+◌, Bool, true, false, not, get_or, sym, refl, true≢false, arith}
 use borrow.Author.Tests.{eqb-false}
 use Rattle.edges.proofs.pairs.is_amid.Goals as goal
 
@@ -25,11 +25,11 @@ returns-then-w-g-eq0-3 c = λ e. absurd (true≢false (sym e))
 pub returns : goal.returns
 returns c =
     let a = c.args in λ e. record {
-  some = c.requires.2;
-  below = c.if-g-gates.false;
-  above = omega (arith, c.if-n-g.false);
-  left = c.if-w-g-eq0.false;
-  right = c.if-w-g-eq0-2.false;
-  top = c.if-w-g-eq0-3.false;
-  bottom = eqb-false (get_or a.w.now (a.g + 1) 0) 0 (not_is _ e);
-}
+      some = c.requires.2;
+      below = c.if-g-gates.false;
+      above = omega (arith, c.if-n-g.false);
+      left = c.if-w-g-eq0.false;
+      right = c.if-w-g-eq0-2.false;
+      top = c.if-w-g-eq0-3.false;
+      bottom = eqb-false (get_or a.w.now (a.g + 1) 0) 0 (not_is _ e);
+    }

@@ -1,5 +1,5 @@
 -- `edges::pairs::pair_all` meets its contract. Assumes nothing.
-use Rattle.std.proofs.Common.{◌-◌, arith}
+use Rattle.std.proofs.Common.{arith}
 use Rattle.edges.proofs.PairTurn.{scan_begin, scan_place, scan_on, scan_most, scan_end}
 use Rattle.edges.proofs.pairs.pair_all.Goals as goal
 

@@ -1,5 +1,4 @@
 -- `edges::pairs::pair_amid` meets its contract. Assumes nothing.
-use Rattle.std.proofs.Common.{◌-◌}
 use Rattle.edges.specs.Edges.{Left, Right, Top}
 use Rattle.edges.proofs.PairTurn.{left_puts, left_near, right_puts, right_near, label_on, label_less, amid_on, four}
 use Rattle.edges.proofs.pairs.pair_amid.Goals as goal

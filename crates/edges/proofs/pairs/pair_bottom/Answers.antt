@@ -1,5 +1,4 @@
 -- `edges::pairs::pair_bottom` meets its contract. Assumes nothing.
-use Rattle.std.proofs.Common.{◌-◌}
 use Rattle.edges.proofs.PairTurn.{bottom_puts, bottom_near, bottom_none, bottom_even}
 use Rattle.edges.proofs.pairs.pair_bottom.Goals as goal
 

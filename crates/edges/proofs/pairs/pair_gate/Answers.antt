@@ -1,5 +1,5 @@
 -- `edges::pairs::pair_gate` meets its contract. Assumes nothing.
-use Rattle.std.proofs.Common.{◌-◌, arith}
+use Rattle.std.proofs.Common.{arith}
 use Rattle.edges.proofs.PairTurn.{some_gates, unlabelled}
 use Rattle.edges.proofs.pairs.pair_gate.Goals as goal
 

@@ -1,5 +1,5 @@
 -- `edges::pairs::pair_looks` meets its contract. Assumes nothing.
-use Rattle.std.proofs.Common.{◌-◌, arith}
+use Rattle.std.proofs.Common.{arith}
 use Rattle.edges.specs.Edges.{Left, Right, Top}
 use Rattle.edges.proofs.PairTurn.{place_on, place_less, four}
 use Rattle.edges.proofs.pairs.pair_looks.Goals as goal

@@ -1,5 +1,4 @@
 -- `edges::pairs::pair_top` meets its contract. Assumes nothing.
-use Rattle.std.proofs.Common.{◌-◌}
 use Rattle.edges.proofs.PairTurn.{top_puts, top_near, top_none, top_even}
 use Rattle.edges.proofs.pairs.pair_top.Goals as goal
 

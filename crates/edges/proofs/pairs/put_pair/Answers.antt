@@ -1,5 +1,5 @@
 -- `edges::pairs::put_pair` meets its contract. Assumes nothing.
-use Rattle.std.proofs.Common.{◌≡◌, ℕ, ◌+◌, ◌-◌, ◌*◌, List, set, sym, ap, ◌∙◌, subst, arith, length-set}
+use Rattle.std.proofs.Common.{◌≡◌, ℕ, ◌+◌, ◌*◌, List, set, sym, ap, ◌∙◌, subst, arith, length-set}
 use Rattle.lists.specs.Inside.Seg.{seg}
 use Rattle.edges.specs.Inside.GatePairs.{AddsPairs, gate_pair_to, coded}
 use mathlib.Core.Option.{some}

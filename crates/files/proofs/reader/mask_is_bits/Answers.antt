@@ -3,7 +3,7 @@ use Rattle.files.specs.Format.{mask_in}
 use Rattle.files.proofs.CodeLaws.{Room, gate_room, gates_fit, mask_of, masks_start, masks_yes, masks_no, masks_end}
 use native.Mathlib.Omega.{arith}
 use mathlib.Core.Path.{sym, ap, ◌∙◌}
-use Prim.Native.Nat.{ℕ, ◌-◌, ◌*◌}
+use Prim.Native.Nat.{ℕ, ◌*◌}
 use lib.ListN.{length, get_or}
 use Rattle.files.proofs.reader.mask_is_bits.Goals.{In-loop-i}
 use Rattle.files.proofs.reader.mask_is_bits.Goals as goal

@@ -2,7 +2,6 @@
 use Rattle.files.proofs.CodeLaws.{rays_start, rays_fault, rays_on, rays_end}
 use native.Mathlib.Omega.{arith}
 use mathlib.Core.Path.{sym, ◌∙◌}
-use Prim.Native.Nat.{◌-◌}
 use Rattle.files.proofs.reader.rays_fault.Goals as goal
 
 pub loop-r-init : goal.loop-r-init

@@ -3,7 +3,7 @@ use Rattle.files.specs.Format.{mask_in, bits_in, u32_at}
 use Rattle.files.proofs.CodeLaws.{Room, gate_room, mask_of, bits_of, filled_none, filled_more, filled_all, inside}
 use native.Mathlib.Omega.{arith}
 use mathlib.Core.Path.{refl, ap, ◌∙◌}
-use Prim.Native.Nat.{ℕ, ◌+◌, ◌-◌, ◌*◌, ◌<◌}
+use Prim.Native.Nat.{ℕ, ◌+◌, ◌*◌, ◌<◌}
 use lib.ListN.{length, get_or, length-set}
 use Rattle.files.proofs.reader.read_gates.Goals.{In-loop-i}
 use Rattle.files.proofs.reader.read_gates.Goals as goal

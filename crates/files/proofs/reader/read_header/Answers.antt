@@ -5,8 +5,7 @@ use Rattle.files.proofs.reader.read_header.Goals as goal
 
 pub returns : goal.returns
 unfolding header_in
-returns c =
-    (
+returns c = (
   λ i. record {
     rays = c.read_u16.ensures.0 i;
     gates = c.read_u16-2.ensures.0 i;

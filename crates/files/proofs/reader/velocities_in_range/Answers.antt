@@ -1,11 +1,9 @@
 -- `files::reader::velocities_in_range` meets its contract. Assumes nothing.
-use borrow.Author.Tests.{not-false}
-use mathlib.Core.Logic.{⊎_elim}
 use Rattle.files.specs.Format.{mask_in, bits_in, u32_at}
 use Rattle.files.proofs.CodeLaws.{Room, gate_room, gates_fit, mask_of, bits_of, speeds_start, speeds_masked, speeds_valid, speeds_end}
 use native.Mathlib.Omega.{arith}
 use mathlib.Core.Path.{sym, ap, ◌∙◌}
-use Prim.Native.Nat.{ℕ, ◌+◌, ◌-◌, ◌*◌}
+use Prim.Native.Nat.{ℕ, ◌+◌, ◌*◌}
 use lib.ListN.{length, get_or}
 use Rattle.files.proofs.reader.velocities_in_range.Goals.{In-loop-i}
 use Rattle.files.proofs.reader.velocities_in_range.Goals.{then-file-at-eq1+else-not-velocity_in_range, else-file-at-eq1}
@@ -54,7 +52,7 @@ loop-i-preserved c =
     let m = ap (λ (p : ℕ). get_or s.file.now p 0) p in (
       omega arith,
       l.invariant.1 ∙ (elim c.if-file-at-eq1.branch [
-        then-file-at-eq1+else-not-velocity_in_range w ↦ speeds_valid (bits_of s.file.now s.gates) (mask_of s.file.now s.gates) (s.rays * s.gates) l.i _ _ _ c.loop-i-test.true m w.if-file-at-eq1.true (w.read_u32.ensures ∙ ap (λ (p : ℕ). u32_at s.file.now (p + 1)) p) (sym w.if-not-velocity_in_range.false ∙ w.velocity_in_range.ensures)
+        | then-file-at-eq1+else-not-velocity_in_range w ↦ speeds_valid (bits_of s.file.now s.gates) (mask_of s.file.now s.gates) (s.rays * s.gates) l.i _ _ _ c.loop-i-test.true m w.if-file-at-eq1.true (w.read_u32.ensures ∙ ap (λ (p : ℕ). u32_at s.file.now (p + 1)) p) (sym w.if-not-velocity_in_range.false ∙ w.velocity_in_range.ensures)
         | else-file-at-eq1 w ↦ speeds_masked (bits_of s.file.now s.gates) (mask_of s.file.now s.gates) (s.rays * s.gates) l.i _ c.loop-i-test.true m w.if-file-at-eq1.false
       ]),
     )

@@ -5,7 +5,7 @@ use Rattle.files.specs.Format.{ray_bytes}
 use Rattle.files.proofs.CodeLaws.{gates_more}
 use native.Mathlib.Omega.{arith}
 use mathlib.Core.Path.{◌≡◌, refl, ap, ◌∙◌}
-use Prim.Native.Nat.{ℕ, ◌-◌}
+use Prim.Native.Nat.{ℕ}
 use Rattle.files.proofs.writer.put_gates.Goals as goal
 
 pub loop-g-init : goal.loop-g-init

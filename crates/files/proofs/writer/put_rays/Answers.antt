@@ -6,7 +6,7 @@ use Rattle.files.proofs.CallLaws.{ray_inside, gates_inside}
 use Rattle.files.proofs.CodeLaws.{rays_more, gates_fit}
 use native.Mathlib.Omega.{arith}
 use mathlib.Core.Path.{◌≡◌, refl, ap, ◌∙◌}
-use Prim.Native.Nat.{ℕ, ◌-◌, ◌*◌}
+use Prim.Native.Nat.{ℕ, ◌*◌}
 use lib.ListN.{length}
 use Rattle.files.proofs.writer.put_rays.Goals as goal
 
@@ -27,10 +27,13 @@ overflow_mul-r c =
 pub put_ray-requires : goal.put_ray-requires
 put_ray-requires c =
     let s = c.args in
-    let l = c.loop-r in record { gates_in_bounds = (ray_inside (length l.file) _ s.rays s.gates l.r (l.invariant.2 ∙ c.requires.file_len.0) c.ray_at.ensures.0 c.loop-r-test.true, omega arith); gates_in_bounds_2 = (
+    let l = c.loop-r in record {
+      gates_in_bounds = (ray_inside (length l.file) _ s.rays s.gates l.r (l.invariant.2 ∙ c.requires.file_len.0) c.ray_at.ensures.0 c.loop-r-test.true, omega arith);
+      gates_in_bounds_2 = (
         gates_inside (length s.velocity.now) s.rays s.gates l.r c.requires.velocity_len.0 c.loop-r-test.true,
         gates_inside (length s.valid.now) s.rays s.gates l.r c.requires.velocity_len.1 c.loop-r-test.true,
-      ) }
+      );
+    }
 
 pub loop-r-preserved : goal.loop-r-preserved
 loop-r-preserved c =

@@ -1,10 +1,7 @@
 -- `files::writer::velocities_in_range` meets its contract. Assumes nothing.
-use borrow.Author.Tests.{not-false}
-use mathlib.Core.Logic.{⊎_elim}
 use Rattle.files.proofs.CodeLaws.{whole_start, speeds_masked, speeds_valid, speeds_end}
 use native.Mathlib.Omega.{arith}
 use mathlib.Core.Path.{refl, sym, ◌∙◌}
-use Prim.Native.Nat.{◌-◌}
 use lib.ListN.{length, get_or}
 use Rattle.files.proofs.writer.velocities_in_range.Goals.{then-valid-i-eq1+else-not-velocity_in_range, else-valid-i-eq1}
 use Rattle.files.proofs.writer.velocities_in_range.Goals as goal
@@ -27,7 +24,7 @@ loop-i-preserved c =
     let l = c.loop-i in (
       omega arith,
       l.invariant.1 ∙ (elim c.if-valid-i-eq1.branch [
-        then-valid-i-eq1+else-not-velocity_in_range w ↦ speeds_valid (λ i. get_or s.velocity.now i 0) (λ i. get_or s.valid.now i 0) (length s.velocity.now) l.i _ _ _ c.loop-i-test.true refl w.if-valid-i-eq1.true refl (sym w.if-not-velocity_in_range.false ∙ w.velocity_in_range.ensures)
+        | then-valid-i-eq1+else-not-velocity_in_range w ↦ speeds_valid (λ i. get_or s.velocity.now i 0) (λ i. get_or s.valid.now i 0) (length s.velocity.now) l.i _ _ _ c.loop-i-test.true refl w.if-valid-i-eq1.true refl (sym w.if-not-velocity_in_range.false ∙ w.velocity_in_range.ensures)
         | else-valid-i-eq1 w ↦ speeds_masked (λ i. get_or s.velocity.now i 0) (λ i. get_or s.valid.now i 0) (length s.velocity.now) l.i _ c.loop-i-test.true refl w.if-valid-i-eq1.false
       ]),
     )

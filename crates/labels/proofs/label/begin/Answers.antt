@@ -2,7 +2,6 @@
 use Rattle.std.proofs.Common.{refl}
 use Rattle.labels.specs.Locals.{NoArray}
 use Rattle.labels.proofs.label.begin.Code.Mir.{function}
-use Rattle.labels.proofs.label.begin.Goals as goal
 
 no_array : NoArray function
 no_array = refl

@@ -1,5 +1,5 @@
 -- `labels::label::find` meets its contract. The invariant: p is the word of gate x, and gate x is of the area of the gate asked for. Assumes nothing.
-use Rattle.std.proofs.Common.{◌≡◌, ℕ, ◌-◌, Bool, List, get_or}
+use Rattle.std.proofs.Common.{◌≡◌, ℕ, Bool, List, get_or}
 use Rattle.labels.specs.Inside.Forest.{Forest}
 use Rattle.labels.proofs.ForestLaws.{At}
 use Rattle.labels.proofs.label.find.Given as goal

@@ -3,7 +3,7 @@ use Rattle.labels.proofs.GateLaws.{label_asks}
 use Rattle.labels.proofs.CountLaws.{number_begin}
 use Rattle.labels.specs.Inside.Numbering.{Numbering}
 use Rattle.lists.specs.Inside.Seg.{seg}
-use Rattle.std.proofs.Common.{◌≡◌, ◌+◌, ◌-◌, drop, refl, ◌∙◌, subst, arith}
+use Rattle.std.proofs.Common.{◌≡◌, ◌+◌, drop, refl, ◌∙◌, subst, arith}
 use Rattle.labels.specs.Locals.{NoArray}
 use Rattle.labels.proofs.label.number.Code.Mir.{function}
 use Rattle.labels.proofs.label.number.Goals as goal

@@ -61,11 +61,14 @@ pub returns-then-r-s : goal.returns-then-r-s
 returns-then-r-s c =
     let a = c.args in
     let f = c.find-r in
-    let k = c.find-s in record { value = λ inside rs F.
+    let k = c.find-s in record {
+      value = λ inside rs F.
           let R = f.ensures inside rs F in
-          two_left inside f.new.w k.new.w rs a.a a.b f.result k.result R (k.ensures inside rs R.forest) c.if-r-s.true; forest = λ inside rs F.
+          two_left inside f.new.w k.new.w rs a.a a.b f.result k.result R (k.ensures inside rs R.forest) c.if-r-s.true;
+      forest = λ inside rs F.
           let R = f.ensures inside rs F in
-          united_left inside f.new.w k.new.w rs a.a a.b f.result k.result R (k.ensures inside rs R.forest) c.if-r-s.true }
+          united_left inside f.new.w k.new.w rs a.a a.b f.result k.result R (k.ensures inside rs R.forest) c.if-r-s.true;
+    }
 
 pub overflow_add-w-2 : goal.overflow_add-w-2
 overflow_add-w-2 c = omega (arith, bounds (goal.at.overflow_add-w-2 c).After-find-s)
@@ -83,8 +86,11 @@ pub returns : goal.returns
 returns c =
     let a = c.args in
     let f = c.find-r in
-    let k = c.find-s in record { value = λ inside rs F.
+    let k = c.find-s in record {
+      value = λ inside rs F.
           let R = f.ensures inside rs F in
-          two_right inside f.new.w k.new.w rs a.a a.b f.result k.result R (k.ensures inside rs R.forest) c.if-r-s.false; forest = λ inside rs F.
+          two_right inside f.new.w k.new.w rs a.a a.b f.result k.result R (k.ensures inside rs R.forest) c.if-r-s.false;
+      forest = λ inside rs F.
           let R = f.ensures inside rs F in
-          united_right inside f.new.w k.new.w rs a.a a.b f.result k.result R (k.ensures inside rs R.forest) c.if-r-s.false }
+          united_right inside f.new.w k.new.w rs a.a a.b f.result k.result R (k.ensures inside rs R.forest) c.if-r-s.false;
+    }

@@ -2,7 +2,6 @@
 use Rattle.std.proofs.Common.{refl}
 use Rattle.labels.specs.Locals.{NoArray}
 use Rattle.labels.proofs.regions.block_end.Code.Mir.{function}
-use Rattle.labels.proofs.regions.block_end.Goals as goal
 
 no_array : NoArray function
 no_array = refl

@@ -1,6 +1,6 @@
 -- `labels::regions::blocks` meets its contract. The invariant: labels and number are those of the intervals up to limit i. Assumes nothing.
 use Rattle.labels.proofs.PartLaws.{grow_begin, block_asks, grow_next, grow_end}
-use Rattle.std.proofs.Common.{◌-◌, refl, ◌∙◌, arith}
+use Rattle.std.proofs.Common.{refl, ◌∙◌, arith}
 use Rattle.labels.specs.Locals.{NoArray}
 use Rattle.labels.proofs.regions.blocks.Code.Mir.{function}
 use Rattle.labels.proofs.regions.blocks.Goals as goal

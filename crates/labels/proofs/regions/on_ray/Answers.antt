@@ -2,7 +2,6 @@
 use Rattle.std.proofs.Common.{refl}
 use Rattle.labels.specs.Locals.{NoArray}
 use Rattle.labels.proofs.regions.on_ray.Code.Mir.{function}
-use Rattle.labels.proofs.regions.on_ray.Goals as goal
 
 no_array : NoArray function
 no_array = refl

@@ -1,6 +1,6 @@
 -- `labels::regions::put_over` meets its contract. The invariant: labels before g are put over the old ones, those from g on are as they were. Assumes nothing.
 use Rattle.labels.proofs.OverLaws.{put_begin, put_step}
-use Rattle.std.proofs.Common.{◌+◌, ◌-◌, refl, arith}
+use Rattle.std.proofs.Common.{◌+◌, refl, arith}
 use Rattle.labels.specs.Locals.{NoArray}
 use Rattle.labels.proofs.regions.put_over.Code.Mir.{function}
 use Rattle.labels.proofs.regions.put_over.Goals as goal

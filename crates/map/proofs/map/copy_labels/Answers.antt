@@ -1,7 +1,6 @@
 -- `map::map::copy_labels` meets its contract. Assumes nothing.
 use native.Mathlib.Omega.{arith}
 use mathlib.Core.Path.{refl}
-use Prim.Native.Nat.{◌-◌}
 use lib.ListN.{length, length-set}
 use Rattle.map.proofs.MapLaws.{copy_begin, copy_on, copy_all}
 use Rattle.map.proofs.map.copy_labels.Goals as goal

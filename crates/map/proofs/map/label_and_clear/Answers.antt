@@ -12,7 +12,11 @@ returns c =
     let a = c.args in
     let l = c.label-k in
     let k = c.copy_labels in
-    let z = c.clear in record { fact = (
+    let z = c.clear in record {
+      fact = (
         k.ensures ∙ ap (λ (n : ℕ). seg l.new.work 0 n) c.requires.labels_len.0 ∙ l.ensures.labelled.labels,
         one_set a.regions.now l.result c.requires.labels_len.1 ∙ ap (λ (n : ℕ). n ∷ []) l.ensures.labelled.number,
-      ); words_after = z.ensures.words_after ∙ ap (λ (n : ℕ). replicate n 0) l.auto.work; floats_after = z.ensures.floats_after }
+      );
+      words_after = z.ensures.words_after ∙ ap (λ (n : ℕ). replicate n 0) l.auto.work;
+      floats_after = z.ensures.floats_after;
+    }

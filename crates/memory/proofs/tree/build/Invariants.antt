@@ -1,6 +1,6 @@
 -- `memory::tree::build` meets its contract. Assumes nothing.
 use Rattle.memory.proofs.TreeLaws.{Playing}
-use Prim.Native.Nat.{◌-◌, ◌≤◌}
+use Prim.Native.Nat.{◌≤◌}
 use Rattle.memory.proofs.tree.build.Given as goal
 
 abbrev pub invariant-loop-k : goal.invariant-loop-k

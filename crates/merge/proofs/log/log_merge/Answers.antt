@@ -1,6 +1,6 @@
 -- `merge::log::log_merge` meets its contract. Assumes nothing.
 use Rattle.merge.proofs.LogLaws.{log_does}
-use Rattle.std.proofs.Common.{◌-◌, refl, arith, length-set}
+use Rattle.std.proofs.Common.{refl, arith, length-set}
 use Rattle.merge.proofs.log.log_merge.Goals as goal
 
 pub bounds-w-at-2 : goal.bounds-w-at-2

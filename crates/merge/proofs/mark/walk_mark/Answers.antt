@@ -1,6 +1,6 @@
 -- `merge::mark::walk_mark` meets its contract. Assumes nothing.
 use Rattle.merge.proofs.Marks.{mark_start, mark_turn, mark_end}
-use Rattle.std.proofs.Common.{◌+◌, ◌-◌, ◌*◌, arith, length-set}
+use Rattle.std.proofs.Common.{◌+◌, ◌*◌, arith, length-set}
 use Rattle.merge.proofs.mark.walk_mark.Goals as goal
 
 pub overflow_mul-l : goal.overflow_mul-l

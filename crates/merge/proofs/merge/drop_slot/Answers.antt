@@ -2,7 +2,7 @@
 use Rattle.merge.proofs.Passing.{drop_does}
 use Rattle.merge.specs.Inside.Table.{elen}
 use Rattle.merge.proofs.View.{read}
-use Rattle.std.proofs.Common.{◌-◌, arith}
+use Rattle.std.proofs.Common.{arith}
 use Rattle.merge.proofs.merge.drop_slot.Goals as goal
 
 pub overflow_sub-w : goal.overflow_sub-w

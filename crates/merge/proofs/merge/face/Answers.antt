@@ -1,7 +1,7 @@
 -- `merge::merge::face` meets its contract. Assumes nothing.
 use Rattle.merge.proofs.EndsIn.{ends_in}
 use Rattle.merge.proofs.Leaf.{face_stays, face_turns}
-use Rattle.std.proofs.Common.{◌+◌, ◌-◌, ◌*◌, ◌<◌, get_or, arith}
+use Rattle.std.proofs.Common.{◌+◌, ◌*◌, ◌<◌, get_or, arith}
 use lib.Ieee.{neg}
 use Rattle.merge.proofs.merge.face.Goals.{Start}
 use Rattle.merge.proofs.merge.face.Goals as goal

@@ -2,7 +2,7 @@
 use Rattle.merge.specs.Inside.Table.{size, elen, rlen}
 use Rattle.merge.proofs.View.{read}
 use Rattle.merge.proofs.SpliceDoes.{grow_does}
-use Rattle.std.proofs.Common.{◌-◌, arith}
+use Rattle.std.proofs.Common.{arith}
 use Rattle.merge.proofs.merge.grow.Goals as goal
 
 pub overflow_add-s-5 : goal.overflow_add-s-5

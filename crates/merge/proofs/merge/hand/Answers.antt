@@ -1,6 +1,5 @@
 -- `merge::merge::hand` meets its contract. Assumes nothing.
 use Rattle.merge.proofs.MergeDoes.{hand_walk, hand_splice, hand_grow, hand_does}
-use Rattle.std.proofs.Common.{◌-◌}
 use Rattle.merge.proofs.merge.hand.Goals as goal
 
 pub walk_moved-requires : goal.walk_moved-requires

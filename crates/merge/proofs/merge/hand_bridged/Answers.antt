@@ -3,7 +3,7 @@ use Rattle.merge.proofs.Leaf.{hand_does, hand_none, sum_two}
 use Rattle.merge.specs.Inside.Tables.{view}
 use Rattle.merge.specs.Inside.Table.{bridged}
 use Rattle.merge.proofs.View.{read}
-use Rattle.std.proofs.Common.{ℕ, ◌-◌, List, arith}
+use Rattle.std.proofs.Common.{ℕ, List, arith}
 use Rattle.merge.proofs.merge.hand_bridged.Goals as goal
 
 pub returns-then-b-eq0 : goal.returns-then-b-eq0

@@ -1,6 +1,5 @@
 -- `merge::merge::is_spent` meets its contract. Assumes nothing.
 use Rattle.merge.proofs.Passing.{spent_out, spent_word}
-use Rattle.std.proofs.Common.{◌-◌}
 use Rattle.merge.proofs.merge.is_spent.Goals as goal
 
 pub returns-then-f-m : goal.returns-then-f-m

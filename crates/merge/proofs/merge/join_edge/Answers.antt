@@ -1,7 +1,6 @@
 -- `merge::merge::join_edge` meets its contract. Assumes nothing.
 use Rattle.merge.specs.Inside.Tables.{view}
 use Rattle.merge.proofs.JoinDoes.{join_apart, join_attaches, face_room, join_faced}
-use Rattle.std.proofs.Common.{◌-◌}
 use Rattle.merge.proofs.merge.join_edge.Goals as goal
 
 pub mate-q-requires : goal.mate-q-requires

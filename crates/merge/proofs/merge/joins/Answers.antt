@@ -1,6 +1,5 @@
 -- `merge::merge::joins` meets its contract. Assumes nothing.
 use Rattle.merge.proofs.Leaf.{joins_out, joins_dead, joins_first, joins_second, joins_none}
-use Rattle.std.proofs.Common.{◌-◌}
 use Rattle.merge.proofs.merge.joins.Goals as goal
 
 pub returns-then-f-m : goal.returns-then-f-m

@@ -1,6 +1,5 @@
 -- `merge::merge::merge` meets its contract. Assumes nothing.
 use Rattle.merge.proofs.MergeDoes.{merge_stamp, merge_raise, merge_refused, merge_hand, merge_done}
-use Rattle.std.proofs.Common.{◌-◌}
 use Rattle.merge.proofs.merge.merge.Goals as goal
 
 pub stamp-requires : goal.stamp-requires

@@ -1,6 +1,6 @@
 -- `merge::merge::moved_edge` meets its contract. Assumes nothing.
 use lib.Ieee.{binary32, fits, nan, Float, neg}
-use Rattle.std.proofs.Common.{◌-◌, true, false, T, get_or, sym, ap, subst}
+use Rattle.std.proofs.Common.{true, false, T, get_or, sym, ap, subst}
 use Rattle.merge.proofs.SoundSteps.{shift_ok, neg_ok}
 use Rattle.merge.proofs.JoinDoes.{moved_dead, moved_first, moved_second, moved_far, moved_joins, moved_joins_second, moved_single}
 use Rattle.merge.proofs.merge.moved_edge.Goals as goal

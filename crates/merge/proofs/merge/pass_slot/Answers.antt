@@ -1,7 +1,7 @@
 -- `merge::merge::pass_slot` meets its contract. Assumes nothing.
 use Rattle.merge.proofs.Passing.{pass_drops, pass_keeps}
 use Rattle.merge.specs.Inside.Tables.{view}
-use Rattle.std.proofs.Common.{◌-◌, refl}
+use Rattle.std.proofs.Common.{refl}
 use Rattle.merge.proofs.merge.pass_slot.Goals as goal
 
 pub returns-then-gone : goal.returns-then-gone

@@ -1,7 +1,7 @@
 -- `merge::merge::plus` meets its contract. Assumes nothing.
 use lib.Ieee as Ieee
 use lib.Ieee.{Float, binary32, add}
-use Rattle.std.proofs.Common.{◌-◌, ap, ◌∙◌}
+use Rattle.std.proofs.Common.{ap, ◌∙◌}
 use Rattle.merge.proofs.merge.plus.Goals as goal
 
 pub returns : goal.returns

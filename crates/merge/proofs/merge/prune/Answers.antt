@@ -1,6 +1,6 @@
 -- `merge::merge::prune` meets its contract. Assumes nothing.
 use Rattle.merge.proofs.Passing.{prune_start, prune_slots, prune_turned, prune_end}
-use Rattle.std.proofs.Common.{◌+◌, ◌-◌, ◌*◌, arith}
+use Rattle.std.proofs.Common.{◌+◌, ◌*◌, arith}
 use Rattle.merge.proofs.merge.prune.Goals as goal
 
 pub overflow_mul-l : goal.overflow_mul-l
@@ -71,8 +71,11 @@ bounds-w-m-in-loop-i c = omega (arith, c.loop-i.invariant.room.words, c.loop-i.i
 
 pub pass_slot-p-requires : goal.pass_slot-p-requires
 pass_slot-p-requires c =
-    let a = c.args in let k = c.loop-i in record { holds_tables = k.invariant.room; slots = prune_slots a.m a.n a.b c.requires.b_lt_n a.w.now a.d.now k.w k.d _ k.p
-      k.x k.i _ k.invariant c.loop-i-test.true }
+    let a = c.args in let k = c.loop-i in record {
+      holds_tables = k.invariant.room;
+      slots = prune_slots a.m a.n a.b c.requires.b_lt_n a.w.now a.d.now k.w k.d _ k.p
+          k.x k.i _ k.invariant c.loop-i-test.true;
+    }
 
 pub overflow_add-i : goal.overflow_add-i
 overflow_add-i c =

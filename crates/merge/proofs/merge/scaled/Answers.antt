@@ -1,6 +1,6 @@
 -- `merge::merge::scaled` meets its contract. Assumes nothing.
 use Rattle.merge.proofs.Bias.{less_fits, times_fits, times_back}
-use Rattle.std.proofs.Common.{◌-◌, ℤ, ap, ◌∙◌}
+use Rattle.std.proofs.Common.{ℤ, ap, ◌∙◌}
 use lib.Ieee.{binary32, of_int}
 use Rattle.arithmetic.specs.Rounding.{scale}
 use Rattle.merge.proofs.merge.scaled.Goals as goal

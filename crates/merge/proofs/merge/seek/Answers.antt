@@ -1,6 +1,6 @@
 -- `merge::merge::seek` meets its contract. Assumes nothing.
 use Rattle.merge.proofs.Walks.{seek_start, seek_found, seek_turn, seek_end}
-use Rattle.std.proofs.Common.{◌+◌, ◌-◌, ◌*◌, arith}
+use Rattle.std.proofs.Common.{◌+◌, ◌*◌, arith}
 use Rattle.merge.proofs.merge.seek.Goals as goal
 
 pub overflow_mul-l : goal.overflow_mul-l

@@ -1,5 +1,5 @@
 -- `merge::merge::shift_up` meets its contract. Assumes nothing.
-use Rattle.std.proofs.Common.{◌-◌, sym, refl, ap, ◌∙◌, eq-eqb, ne_eqb}
+use Rattle.std.proofs.Common.{sym, refl, ap, ◌∙◌, eq-eqb, ne_eqb}
 use lib.Ieee.Fits.{of_int-fits}
 use lib.Ieee.{binary32, Float, neg, add}
 use Rattle.merge.specs.Inside.Steps.{shift}

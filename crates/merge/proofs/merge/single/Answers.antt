@@ -2,7 +2,7 @@
 use lib.Ieee.Compare.{differs_from_itself}
 use lib.Ieee.Fits.{and_i}
 use lib.Ieee.{binary32, div, of_bits, nan, fits, is_nan}
-use Rattle.std.proofs.Common.{◌≡◌, ◌-◌, not, T, sym, refl, ◌∙◌, subst}
+use Rattle.std.proofs.Common.{◌≡◌, not, T, sym, refl, ◌∙◌, subst}
 use Rattle.arithmetic.proofs.NarrowLaws.{equals_itself}
 use Rattle.merge.proofs.merge.single.Goals as goal
 

@@ -1,6 +1,5 @@
 -- `merge::merge::take_edge` meets its contract. Assumes nothing.
 use Rattle.merge.proofs.JoinDoes.{face_room, take_out, take_does}
-use Rattle.std.proofs.Common.{◌-◌}
 use Rattle.merge.proofs.merge.take_edge.Goals as goal
 
 pub returns-then-f-m : goal.returns-then-f-m

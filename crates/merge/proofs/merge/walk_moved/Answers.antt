@@ -1,6 +1,6 @@
 -- `merge::merge::walk_moved` meets its contract. Assumes nothing.
 use Rattle.merge.proofs.Walks.{moved_start, moved_turned, moved_end}
-use Rattle.std.proofs.Common.{◌+◌, ◌-◌, ◌*◌, arith}
+use Rattle.std.proofs.Common.{◌+◌, ◌*◌, arith}
 use Rattle.merge.proofs.merge.walk_moved.Goals as goal
 
 pub overflow_mul-l : goal.overflow_mul-l

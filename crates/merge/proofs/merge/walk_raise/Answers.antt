@@ -1,7 +1,7 @@
 -- `merge::merge::walk_raise` meets its contract. Assumes nothing.
 use Rattle.memory.specs.Inside.Layout.{table_words}
 use Rattle.merge.proofs.Walks.{raise_start, raise_bounds, raise_low, raise_high, raise_turn, raise_end}
-use Rattle.std.proofs.Common.{◌+◌, ◌-◌, ◌*◌, ◌<◌, ◌≤◌, length, get_or, arith, length-set}
+use Rattle.std.proofs.Common.{◌+◌, ◌*◌, ◌<◌, ◌≤◌, length, get_or, arith, length-set}
 use Rattle.merge.proofs.merge.walk_raise.Goals.{In-loop-i}
 use Rattle.merge.proofs.merge.walk_raise.Goals as goal
 

@@ -1,7 +1,6 @@
 -- `network::find::how_many` meets its contract. Assumes nothing.
 use Rattle.arithmetic.proofs.Plans.{length_is, length_fits, none_is}
 use mathlib.Core.Path.{sym}
-use Prim.Native.Nat.{◌-◌}
 use Rattle.network.proofs.find.how_many.Goals as goal
 
 pub overflow_cast-result : goal.overflow_cast-result

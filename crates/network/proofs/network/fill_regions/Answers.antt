@@ -2,7 +2,6 @@
 use Rattle.network.proofs.BeginDoes.{going_start, regions_turn, regions_end}
 use Rattle.network.specs.Inside.Begin.{regions_from}
 use native.Mathlib.Omega.{arith}
-use Prim.Native.Nat.{◌-◌}
 use lib.ListN.{length-set}
 use Rattle.network.proofs.network.fill_regions.Goals as goal
 

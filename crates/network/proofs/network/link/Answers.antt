@@ -3,7 +3,6 @@ use Rattle.merge.specs.Inside.Table.{elen}
 use Rattle.merge.proofs.View.{read}
 use Rattle.network.proofs.BeginDoes.{link_does}
 use native.Mathlib.Omega.{arith}
-use Prim.Native.Nat.{◌-◌}
 use Rattle.network.proofs.network.link.Goals as goal
 
 pub overflow_add-w-4 : goal.overflow_add-w-4

@@ -1,7 +1,6 @@
 -- `network::network::link_all` meets its contract. Assumes nothing.
 use Rattle.network.proofs.BeginDoes.{linking_start, link_one, link_two, link_turn, linking_end}
 use native.Mathlib.Omega.{arith}
-use Prim.Native.Nat.{◌-◌}
 use Rattle.network.proofs.network.link_all.Goals as goal
 
 pub loop-j-init : goal.loop-j-init

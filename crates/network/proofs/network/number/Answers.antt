@@ -1,7 +1,6 @@
 -- `network::network::number` meets its contract. Assumes nothing.
 use Rattle.network.proofs.NumberIs.{above, below, sum_fits, sum_casts, sum_is, outside}
 use Rattle.arithmetic.specs.Rounding.{round_even}
-use Prim.Native.Nat.{◌-◌}
 use Rattle.network.proofs.network.number.Goals as goal
 
 pub returns-then-k-gt1000 : goal.returns-then-k-gt1000

@@ -5,7 +5,6 @@ use Rattle.merge.proofs.EndsIn.{ends_in}
 use Rattle.network.proofs.Turns.{pop_none, pop_turned, pop_straight}
 use native.Mathlib.Omega.{arith}
 use lib.Ieee.{neg}
-use Prim.Native.Nat.{◌-◌}
 use Rattle.network.proofs.network.pop_edge.Goals as goal
 
 pub returns-then-t-eq0 : goal.returns-then-t-eq0

@@ -3,7 +3,6 @@ use Rattle.network.proofs.Runs.{run_start, run_out, run_merged, run_refused, run
 use Rattle.network.specs.Inside.TurnIs.{gates_in}
 use Rattle.merge.specs.Inside.Tables.{view}
 use native.Mathlib.Omega.{arith}
-use Prim.Native.Nat.{◌-◌}
 use Rattle.network.proofs.network.run.Goals as goal
 
 pub loop-k-init : goal.loop-k-init

@@ -1,7 +1,6 @@
 -- `network::network::turn` meets its contract. Assumes nothing.
 use Rattle.network.proofs.Turns.{turn_ended, turn_refused, turn_picked, turn_chosen, taken_number, pops_none, pops_some}
 use native.Mathlib.Omega.{arith}
-use Prim.Native.Nat.{◌-◌}
 use Rattle.network.proofs.network.turn.Goals as goal
 
 pub pop_edge-p-requires : goal.pop_edge-p-requires

@@ -20,9 +20,12 @@ merge_all-r-requires c =
     let a = c.args in
     let g = c.find_edges-e in
     let z = c.count_sizes in
-    let y = c.copy in record { space = space a.f a.w.now a.d.now a.vel.now a.n a.k a.two_nyquist c.requires g.new.w g.new.d g.result g.auto.w g.auto.d g.ensures
-          z.new.w z.ensures y.new.w y.ensures ((13 * a.n + 8 * g.result + 8 * (a.k + 1) + 6 * g.result) - 13 * a.n) (omega arith); raw = raw_ask a.f a.w.now a.d.now a.vel.now a.n a.k a.two_nyquist c.requires g.new.w g.new.d g.result g.auto.w g.auto.d g.ensures
-          z.new.w z.ensures y.new.w y.ensures ((13 * a.n + 8 * g.result + 8 * (a.k + 1) + 6 * g.result) - 13 * a.n) (omega arith) }
+    let y = c.copy in record {
+      space = space a.f a.w.now a.d.now a.vel.now a.n a.k a.two_nyquist c.requires g.new.w g.new.d g.result g.auto.w g.auto.d g.ensures
+          z.new.w z.ensures y.new.w y.ensures ((13 * a.n + 8 * g.result + 8 * (a.k + 1) + 6 * g.result) - 13 * a.n) (omega arith);
+      raw = raw_ask a.f a.w.now a.d.now a.vel.now a.n a.k a.two_nyquist c.requires g.new.w g.new.d g.result g.auto.w g.auto.d g.ensures
+          z.new.w z.ensures y.new.w y.ensures ((13 * a.n + 8 * g.result + 8 * (a.k + 1) + 6 * g.result) - 13 * a.n) (omega arith);
+    }
 
 pub returns : goal.returns
 unfolding seg kept_tables

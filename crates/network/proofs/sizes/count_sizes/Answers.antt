@@ -2,7 +2,6 @@
 use Rattle.network.proofs.SizeLaws.{Sized, sized, sizes_fill, sizes_begin, sizes_end, sizes_whole}
 use native.Mathlib.Omega.{arith}
 use mathlib.Core.Path.{refl}
-use Prim.Native.Nat.{◌-◌}
 use lib.ListN.{length-set}
 use Rattle.network.proofs.sizes.count_sizes.Goals.{In-loop-g}
 use Rattle.network.proofs.sizes.count_sizes.Goals as goal

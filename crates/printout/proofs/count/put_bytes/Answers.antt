@@ -1,5 +1,4 @@
 -- `printout::count::put_bytes` meets its contract. The invariant: the first i bytes are stored. Assumes nothing.
-use Prim.Native.Nat.{◌-◌}
 use native.Mathlib.Omega.{arith}
 use mathlib.Core.Path.{refl, sym, ap, ◌∙◌}
 use lib.Seq.{take_all}

@@ -1,5 +1,4 @@
 -- `printout::lines::put_line` meets its contract. The invariant: the first i counts are stored, and `end` is the place after them. Assumes nothing.
-use Prim.Native.Nat.{◌-◌}
 use native.Mathlib.Omega.{arith}
 use mathlib.Core.Path.{subst, refl, ◌∙◌}
 use lib.IntN.{ℤ, pos}

@@ -1,5 +1,5 @@
 -- `printout::lines::put_rays` meets its contract. The invariant: the lines of the first r rays are stored, and `end` is the place after them. Assumes nothing.
-use Prim.Native.Nat.{ℕ, ◌+◌, ◌-◌, ◌*◌, ◌≤◌}
+use Prim.Native.Nat.{ℕ, ◌+◌, ◌*◌, ◌≤◌}
 use native.Mathlib.Omega.{arith}
 use mathlib.Core.Path.{subst, ◌≡◌, refl, ◌∙◌}
 use mathlib.Core.List.{List}

@@ -18,8 +18,11 @@ returns-then-r-ne0 c =
 
 pub returns-then-book-eq0 : goal.returns-then-book-eq0
 returns-then-book-eq0 c =
-    record { counts_after = file_unfolded c.args.file.now c.args.bits.now c.args.valid.now c.requires.bits_len.0 c.requires.bits_len.1 _ _ _ _ c.read-r.ensures c.if-r-ne0.false _ _ (memory_of c.args.counts.now c.args.marks.now c.args.pair.now c.args.words.now c.args.floats.now) _ _ _ _ _ _ c.options_of-o.ensures
-          c.velocities_of.ensures (lent_long (goal.at.returns-then-book-eq0 c).Start) c.dealias_sweep.ensures; book_after = λ h. absurd (omega (arith, c.if-book-eq0.true, h)) }
+    record {
+      counts_after = file_unfolded c.args.file.now c.args.bits.now c.args.valid.now c.requires.bits_len.0 c.requires.bits_len.1 _ _ _ _ c.read-r.ensures c.if-r-ne0.false _ _ (memory_of c.args.counts.now c.args.marks.now c.args.pair.now c.args.words.now c.args.floats.now) _ _ _ _ _ _ c.options_of-o.ensures
+          c.velocities_of.ensures (lent_long (goal.at.returns-then-book-eq0 c).Start) c.dealias_sweep.ensures;
+      book_after = λ h. absurd (omega (arith, c.if-book-eq0.true, h));
+    }
 
 pub returns : goal.returns
 returns c =

@@ -5,7 +5,7 @@ use Rattle.replay.proofs.Laws.{filled_more}
 use native.Mathlib.Omega.{arith}
 use borrow.Author.Count.{below_none}
 use mathlib.Core.Path.{◌≡◌, refl, sym, ◌∙◌}
-use Prim.Native.Nat.{◌+◌, ◌-◌, ◌*◌, ◌<◌}
+use Prim.Native.Nat.{◌+◌, ◌*◌, ◌<◌}
 use lib.ListN.{length, get_or, length-set}
 use Rattle.replay.proofs.gates.gates_of.Goals as goal
 

@@ -5,7 +5,7 @@ use Rattle.lists.specs.Seq.{upto, all}
 use Rattle.replay.specs.Left.{counts_kept}
 use native.Mathlib.Omega.{arith}
 use mathlib.Core.Path.{sym, ap, ◌∙◌}
-use Prim.Native.Nat.{ℕ, ◌-◌}
+use Prim.Native.Nat.{ℕ}
 use lib.ListN.{length, get_or}
 use Rattle.replay.proofs.left.counts_kept.Goals as goal
 

@@ -5,7 +5,7 @@ use lib.Ieee.{nan}
 use Rattle.lists.specs.Seq.{upto, all}
 use native.Mathlib.Omega.{arith}
 use mathlib.Core.Path.{sym, ap, ◌∙◌}
-use Prim.Native.Nat.{ℕ, ◌-◌}
+use Prim.Native.Nat.{ℕ}
 use lib.ListN.{length, get_or}
 use Rattle.replay.proofs.left.floats_left.Goals as goal
 

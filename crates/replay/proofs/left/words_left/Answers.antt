@@ -4,7 +4,7 @@ use Rattle.replay.specs.Left.{due_word, words_left}
 use Rattle.lists.specs.Seq.{upto, all}
 use native.Mathlib.Omega.{arith}
 use mathlib.Core.Path.{sym, ap, ◌∙◌}
-use Prim.Native.Nat.{ℕ, ◌-◌}
+use Prim.Native.Nat.{ℕ}
 use lib.ListN.{length, get_or}
 use Rattle.replay.proofs.left.words_left.Goals as goal
 

@@ -7,7 +7,6 @@ use Rattle.replay.specs.Record.{raised_by}
 use Rattle.sweep.proofs.FillLaws.{fill_begin, fill_all}
 use native.Mathlib.Omega.{arith}
 use mathlib.Core.Path.{refl, ◌∙◌}
-use Prim.Native.Nat.{◌-◌}
 use lib.ListN.{length, get_or, length-set}
 use Rattle.replay.proofs.raise.raise.Goals as goal
 

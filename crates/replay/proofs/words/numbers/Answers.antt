@@ -8,7 +8,7 @@ use Rattle.replay.specs.declared.words.Word.TheVariants.{Number}
 use mathlib.Core.Bool.{true≢false}
 use native.Mathlib.Omega.{arith}
 use borrow.Author.Count.{below_none}
-use Prim.Native.Nat.{ℕ, ◌-◌, ◌*◌, ◌<◌}
+use Prim.Native.Nat.{ℕ, ◌*◌, ◌<◌}
 use lib.ListN.{length, length-set}
 use Rattle.replay.proofs.words.numbers.Goals as goal
 

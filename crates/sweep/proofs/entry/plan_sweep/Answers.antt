@@ -39,6 +39,9 @@ plan_by-requires c =
 pub returns : goal.returns
 unfolding limits_few
 returns c =
-    let o = c.args.o in record { result_value = c.plan_by.ensures.value
+    let o = c.args.o in record {
+      result_value = c.plan_by.ensures.value
           ∙ ap (λ (e : Extremes). planning_by (first_no (ask 8 (few_for o.nyquist o.splits e) ∷ [])) (plan_for o.nyquist o.splits e)) c.least_and_greatest.ensures
-          ∙ sym (ap (λ (q : Option _). planning_by q (own_plan (sweep_by c.args.o c.args.velocity.now c.args.valid.now))) (goes_on (seven (sweep_by c.args.o c.args.velocity.now c.args.valid.now) c.args.lent) (ask 8 (limits_few (sweep_by c.args.o c.args.velocity.now c.args.valid.now)) ∷ []) (seven_yes (goal.at.returns c).Else-missed-ne0))); fit = c.plan_by.ensures.fit }
+          ∙ sym (ap (λ (q : Option _). planning_by q (own_plan (sweep_by c.args.o c.args.velocity.now c.args.valid.now))) (goes_on (seven (sweep_by c.args.o c.args.velocity.now c.args.valid.now) c.args.lent) (ask 8 (limits_few (sweep_by c.args.o c.args.velocity.now c.args.valid.now)) ∷ []) (seven_yes (goal.at.returns c).Else-missed-ne0)));
+      fit = c.plan_by.ensures.fit;
+    }

@@ -1,6 +1,6 @@
 -- `sweep::questions::gates_missed` meets its contract. The invariant: the gates from i on decide, and whether a gate before them missed question 10. Assumes nothing.
 use lib.Ieee.{nan}
-use Rattle.std.proofs.Common.{◌≡◌, ℕ, ◌+◌, ◌-◌, ◌⊎◌, get_or, ℤ, pos, sym, refl, ap, ◌∙◌, inl, inr, ⊎_elim, arith}
+use Rattle.std.proofs.Common.{◌≡◌, ℕ, ◌+◌, get_or, ℤ, pos, sym, refl, ap, ◌∙◌, inl, inr, ⊎_elim, arith}
 use Rattle.sweep.specs.Inside.Gates.{gate_asked}
 use Rattle.sweep.specs.Entry.{answer_of}
 use Rattle.sweep.proofs.VelocityLaws.{read_back}
@@ -66,11 +66,11 @@ loop-i-preserved c =
     let after : ℕ → ℕ = λ m. answer_of (rest_asked vs ms cs ls m (l.i + 1)) in (
       omega arith,
       elim c.if-here-eq10.branch [
-        then-here-eq10 w ↦ l.invariant.1 ∙ ap answer_of (turn_ten vs ms cs ls l.missed l.i c.requires.0 _ h e c.if-here-eq7.false w.if-here-eq10.true) ∙ ap after (sym w.missed-is)
+        | then-here-eq10 w ↦ l.invariant.1 ∙ ap answer_of (turn_ten vs ms cs ls l.missed l.i c.requires.0 _ h e c.if-here-eq7.false w.if-here-eq10.true) ∙ ap after (sym w.missed-is)
         | else-here-eq10 w ↦ l.invariant.1 ∙ ap answer_of (turn_on vs ms cs ls l.missed l.i c.requires.0 _ h e c.if-here-eq7.false w.if-here-eq10.false) ∙ ap after (sym w.missed-is)
       ],
       elim c.if-here-eq10.branch [
-        then-here-eq10 w ↦ inr w.missed-is
+        | then-here-eq10 w ↦ inr w.missed-is
         | else-here-eq10 w ↦ ⊎_elim (λ z. inl (w.missed-is ∙ z)) (λ z. inr (w.missed-is ∙ z)) l.invariant.2
       ],
     )

@@ -1,6 +1,6 @@
 -- `sweep::questions::mask_is_bits` meets its contract. The invariant: the bytes from i on decide. Assumes nothing.
 use Rattle.sweep.proofs.QuestionLaws.{mask_yes, mask_no, mask_end}
-use Rattle.std.proofs.Common.{◌-◌, sym, refl, ◌∙◌, arith, rules}
+use Rattle.std.proofs.Common.{sym, refl, ◌∙◌, arith, rules}
 use Rattle.sweep.proofs.questions.mask_is_bits.Goals as goal
 
 pub loop-i-init : goal.loop-i-init

@@ -1,7 +1,6 @@
 -- `sweep::questions::velocities_in_range` meets its contract. The invariant: the gates from i on decide. Assumes nothing.
 use Rattle.sweep.proofs.QuestionLaws.{speed_masked, speed_valid, speed_end}
-use borrow.Author.Tests.{not-true, not-false}
-use Rattle.std.proofs.Common.{◌-◌, sym, refl, ◌∙◌, ⊎_elim, arith, rules}
+use Rattle.std.proofs.Common.{sym, refl, ◌∙◌, arith, rules}
 use Rattle.sweep.proofs.questions.velocities_in_range.Goals.{then-valid-i-eq1+else-not-velocity_in_range, else-valid-i-eq1}
 use Rattle.sweep.proofs.questions.velocities_in_range.Goals as goal
 
@@ -22,7 +21,7 @@ loop-i-preserved c =
     let l = c.loop-i in (
       omega arith,
       elim c.if-valid-i-eq1.branch [
-        then-valid-i-eq1+else-not-velocity_in_range w ↦ l.invariant.1 ∙ speed_valid c.args.velocity.now c.args.valid.now l.i c.requires (omega arith) w.if-valid-i-eq1.true (sym w.velocity_in_range.ensures ∙ w.if-not-velocity_in_range.false)
+        | then-valid-i-eq1+else-not-velocity_in_range w ↦ l.invariant.1 ∙ speed_valid c.args.velocity.now c.args.valid.now l.i c.requires (omega arith) w.if-valid-i-eq1.true (sym w.velocity_in_range.ensures ∙ w.if-not-velocity_in_range.false)
         | else-valid-i-eq1 w ↦ l.invariant.1 ∙ speed_masked c.args.velocity.now c.args.valid.now l.i c.requires (omega arith) w.if-valid-i-eq1.false
       ],
     )

@@ -1,7 +1,7 @@
 -- `sweep::sweep::add_up` meets its contract. Assumes nothing.
 use Rattle.sweep.proofs.SumLaws.{Turn, turn, sums_begin, sums_end}
 use Rattle.sweep.specs.Inside.Mean.{size_at, held_at}
-use Rattle.std.proofs.Common.{◌-◌, ◌∙◌, arith}
+use Rattle.std.proofs.Common.{◌∙◌, arith}
 use Rattle.sweep.proofs.sweep.add_up.Goals.{In-loop-l}
 use Rattle.sweep.proofs.sweep.add_up.Goals as goal
 

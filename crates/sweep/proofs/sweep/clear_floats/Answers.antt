@@ -1,7 +1,7 @@
 -- `sweep::sweep::clear_floats` meets its contract. Assumes nothing.
 use lib.Ieee.{of_bits, of_int}
 use Rattle.arithmetic.specs.Rounding.{real}
-use Rattle.std.proofs.Common.{◌-◌, pos, refl, arith, length-set}
+use Rattle.std.proofs.Common.{pos, refl, arith, length-set}
 use Rattle.sweep.proofs.FillLaws.{fill_begin, fill_on, zero_end}
 use Rattle.sweep.proofs.sweep.clear_floats.Goals as goal
 

@@ -2,7 +2,7 @@
 use Rattle.sweep.proofs.FinishLaws.{offset_none, offset_some}
 use Rattle.sweep.proofs.SumLaws.{held_few}
 use mir.ValLaws.{to_z-of_z}
-use Rattle.std.proofs.Common.{◌-◌, ◌∙◌, arith, w32}
+use Rattle.std.proofs.Common.{◌∙◌, arith, w32}
 use Rattle.sweep.proofs.sweep.offset_of.Goals as goal
 
 pub returns-then-centred-ne1 : goal.returns-then-centred-ne1

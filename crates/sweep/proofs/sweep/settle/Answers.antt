@@ -4,7 +4,7 @@ use Rattle.sweep.specs.Sweep.{gate_count}
 use Rattle.memory.specs.Inside.Layout.{counts_at}
 use Rattle.merge.specs.Inside.Steps.{unbias}
 use Rattle.lists.specs.Seq.{tabulate}
-use Rattle.std.proofs.Common.{◌+◌, ◌-◌, length, get_or, ℤ, ap, ◌∙◌, w32, to_z, of_z}
+use Rattle.std.proofs.Common.{◌+◌, length, get_or, ℤ, ap, ◌∙◌, w32, to_z, of_z}
 use mir.ValLaws.{to_z-of_z}
 use Rattle.sweep.proofs.sweep.settle.Goals as goal
 

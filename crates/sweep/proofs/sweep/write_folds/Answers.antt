@@ -1,5 +1,5 @@
 -- `sweep::sweep::write_folds` meets its contract. Assumes nothing.
-use Rattle.std.proofs.Common.{◌+◌, ◌-◌, ◌^◌, ◌≤◌, get_or, ℤ, nat_abs, sym, refl, ap, ◌∙◌, subst, arith, length-set, w32, to_z, of_z}
+use Rattle.std.proofs.Common.{◌+◌, ◌^◌, ◌≤◌, get_or, ℤ, nat_abs, sym, refl, ap, ◌∙◌, subst, arith, length-set, w32, to_z, of_z}
 use mir.ValLaws.{to_z-of_z}
 use Rattle.sweep.specs.Sweep.{gate_count}
 use Rattle.memory.specs.Inside.Layout.{counts_at}

@@ -1,7 +1,7 @@
 -- `sweep::sweep::write_marks` meets its contract. Assumes nothing.
 use Rattle.memory.specs.Inside.Layout.{marks_at}
 use Rattle.sweep.proofs.FillLaws.{fill_begin, fill_on, fill_all}
-use Rattle.std.proofs.Common.{◌-◌, get_or, refl, arith, length-set}
+use Rattle.std.proofs.Common.{get_or, refl, arith, length-set}
 use Rattle.sweep.proofs.sweep.write_marks.Invariants.{mark_in}
 use Rattle.sweep.proofs.sweep.write_marks.Goals as goal
 

@@ -1,6 +1,6 @@
 -- `sweep::velocity::unfold_gates` meets its contract. The invariant: the first i gates are written, and the rest is as it was. Assumes nothing.
 use Rattle.sweep.proofs.VelocityLaws.{read_back, gate_velocity, written_none, written_more, written_all}
-use Rattle.std.proofs.Common.{◌-◌, ◌<◌, length, get_or, ℤ, pos, refl, ap, ◌∙◌, arith, length-set}
+use Rattle.std.proofs.Common.{◌<◌, length, get_or, ℤ, pos, refl, ap, ◌∙◌, arith, length-set}
 use lib.Ieee.{nan}
 use Rattle.sweep.specs.Velocity.{unfolded_at}
 use Rattle.sweep.proofs.velocity.unfold_gates.Goals as goal

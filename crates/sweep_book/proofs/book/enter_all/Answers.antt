@@ -1,7 +1,6 @@
 -- `sweep_book::book::enter_all` meets its contract. Assumes nothing.
 use Rattle.sweep_book.proofs.EnterLaws.{enter_start, enter_asks, enter_turn, enter_end}
 use native.Mathlib.Omega.{arith}
-use Prim.Native.Nat.{◌-◌}
 use Rattle.sweep_book.proofs.book.enter_all.Goals as goal
 
 pub loop-j-init : goal.loop-j-init

@@ -11,7 +11,7 @@ use Rattle.network.proofs.FindLaws.{by_found, merges_ask}
 use Rattle.arithmetic.specs.Rounding.{real}
 use lib.IntN.{pos}
 use mathlib.Core.Path.{◌≡◌, sym, ap, ◌∙◌}
-use Prim.Native.Nat.{ℕ, ◌-◌}
+use Prim.Native.Nat.{ℕ}
 use lib.ListN.{length, replicate}
 use Rattle.sweep_book.proofs.entry.solve.Goals.{After-merge_regions-f}
 use Rattle.sweep_book.proofs.entry.solve.Goals as goal

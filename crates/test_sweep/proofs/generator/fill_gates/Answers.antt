@@ -1,5 +1,5 @@
 -- `test_sweep::generator::fill_gates` meets its contract. The invariant: the first g gates are written, the rest is as it was. Assumes nothing.
-use Rattle.std.proofs.Common.{◌≡◌, ℕ, suc, ◌-◌, length, refl, ap, ◌∙◌, arith, length-set}
+use Rattle.std.proofs.Common.{◌≡◌, ℕ, suc, length, refl, ap, ◌∙◌, arith, length-set}
 use Rattle.sweep.proofs.FillLaws.{fill_begin, fill_on, fill_all}
 use Rattle.test_sweep.specs.declared.generator.Gate.{Gate}
 use Rattle.test_sweep.specs.Generator.{state_after, gate_of, gate_at, velocities, mask_bytes}

@@ -1,10 +1,8 @@
 -- `window::picture::draw` meets its contract. The invariant: the first g gates of picture and marks are written. Assumes nothing.
 use Rattle.sweep.proofs.FillLaws.{fill_begin, fill_on, fill_all}
-use Rattle.window.specs.Median.{mark}
 use Rattle.window.specs.declared.median.Drawn.{Drawn}
 use native.Mathlib.Omega.{arith}
 use mathlib.Core.Path.{◌≡◌, refl, ap}
-use Prim.Native.Nat.{◌-◌}
 use lib.ListN.{length-set}
 use Rattle.window.proofs.picture.draw.Invariants.{median_at, mark_at}
 use Rattle.window.proofs.picture.draw.Goals as goal

@@ -4,7 +4,7 @@ use Rattle.lists.specs.Inside.Seg.{put}
 use Rattle.sweep.proofs.FillLaws.{part_begin, part_on}
 use native.Mathlib.Omega.{arith}
 use mathlib.Core.Path.{◌≡◌, refl, ap, ◌∙◌}
-use Prim.Native.Nat.{ℕ, ◌-◌}
+use Prim.Native.Nat.{ℕ}
 use lib.ListN.{length, length-set}
 use Rattle.window.proofs.picture.write_shown.Invariants.{byte_from}
 use Rattle.window.proofs.picture.write_shown.Goals as goal
