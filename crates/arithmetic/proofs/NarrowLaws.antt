@@ -1,6 +1,7 @@
 -- A positive f64 rounded to an f32 by a sum and a difference in f64. A finite x is a / c, and an f32 near it is a multiple of 2 ^ k of binary32's smallest values, k = drop 24 (a * 2 ^ 149) c,
 -- which is 2 ^ (k + 925) of binary64's. Assumes nothing.
-use Rattle.std.proofs.Common.{◌≡◌, ℕ, zero, suc, ◌+◌, ◌-◌, ◌*◌, ◌/◌, ◌^◌, ◌<◌, ◌≤◌, Bool, true, false, not, ◌&&◌, T, eqb, ltb, leb, pos, sym, refl, ap, ◌∙◌, subst, true≢false, le_trans, le_of_eq, lt_of_lt_of_le, lt_of_le_of_lt, lt_irrefl, mul-le-mul_right, zero-lt-suc, mul_assoc, mul_comm, div-lt_iff_lt-mul, add-mul, lt_of_mul-lt-mul_right, mul-lt-mul_of_pos_right, mul-pos, zero-mul, mul-one, mul_right_comm, not-le_of_lt, le_of_mul-le-mul_right, mul_left_comm, arith, lit<, lit≤, le→leb, ltb→lt, lt→ltb, leb→le, pow_pos, pow_mono, pow-add, shl_lt}
+use Rattle.std.proofs.Common.{◌≡◌, ℕ, zero, suc, ◌+◌, ◌-◌, ◌*◌, ◌/◌, ◌^◌, ◌<◌, ◌≤◌, Bool, true, false, not, ◌&&◌, T, eqb, ltb, leb, pos, sym, refl, ap, ◌∙◌, subst, true≢false, le_trans, le_of_eq, lt_of_lt_of_le, lt_of_le_of_lt, lt_irrefl, mul-le-mul_right, zero-lt-suc, mul_assoc, mul_comm, div-lt_iff_lt-mul, add-mul, lt_of_mul-lt-mul_right, mul-lt-mul_of_pos_right, mul-pos}
+use Rattle.std.proofs.Common.{zero-mul, mul-one, mul_right_comm, not-le_of_lt, le_of_mul-le-mul_right, mul_left_comm, arith, lit<, lit≤, le→leb, ltb→lt, lt→ltb, leb→le, pow_pos, pow_mono, pow-add, shl_lt}
 use mathlib.Core.Bool.{false≢true}
 use lib.Dec.{nleb→lt, not_T}
 use lib.Ieee.{Float, nan, inf, fin, binary32, binary64, up, down, size, units, round, odd, add, sub, lt, eq, le, ne, neg, fits, is_nan}

@@ -1,5 +1,6 @@
 -- What x has above its whole number is exact in f64, and the tests of `is_midway` and `is_doubtful` on it. Assumes nothing.
-use Rattle.std.proofs.Common.{◌≡◌, ℕ, zero, suc, ◌+◌, ◌-◌, ◌*◌, ◌/◌, ◌%◌, ◌^◌, ◌<◌, ◌≤◌, min, Bool, true, false, not, ◌&&◌, T, eqb, ltb, leb, ℤ, pos, negsuc, sym, refl, ap, ◌∙◌, subst, le_of_eq, lt_of_lt_of_le, le_of_suc-le-suc, lt_of_le_of_lt, le_of_lt, lt_irrefl, mul_assoc, div-lt_iff_lt-mul, add_comm, lt_of_not-le, div-add-mod', zero-mul, mul-one, not-le_of_lt, arith, lit<, lit≤, le→leb, ltb→lt, lt→ltb, leb→le, nltb→le, pow_pos, pow_mono, pow-add, shl_lt}
+use Rattle.std.proofs.Common.{◌≡◌, ℕ, zero, suc, ◌+◌, ◌-◌, ◌*◌, ◌/◌, ◌%◌, ◌^◌, ◌<◌, ◌≤◌, min, Bool, true, false, not, ◌&&◌, T, eqb, ltb, leb, ℤ, pos, negsuc, sym, refl, ap, ◌∙◌, subst, le_of_eq, lt_of_lt_of_le, le_of_suc-le-suc, lt_of_le_of_lt, le_of_lt, lt_irrefl, mul_assoc, div-lt_iff_lt-mul, add_comm, lt_of_not-le, div-add-mod', zero-mul, mul-one, not-le_of_lt, arith, lit<}
+use Rattle.std.proofs.Common.{lit≤, le→leb, ltb→lt, lt→ltb, leb→le, nltb→le, pow_pos, pow_mono, pow-add, shl_lt}
 use mathlib.Core.Bool.{false≢true}
 use native.Mathlib.Nat.{mod-le, zero-mod, mod-one, two-pow-succ}
 use lib.Dec.{not_T}

@@ -135,9 +135,9 @@ TestSize = (rays gates : ℕ) (word : List ℕ) (m : Slices) → OneIsSize rays 
 -- ---- the window's entry: its other statements stand in window
 
 -- an answer is 1 exactly if the sweep, or the window of these rays and gates, is larger than the largest
-pub record OneIsEither (rays gates windowRays window_gates_lem number : ℕ) : Type 0 where
-  pub refused : Larger rays gates ⊎ Larger windowRays window_gates_lem → number ≡ 1
-  pub larger : number ≡ 1 → Larger rays gates ⊎ Larger windowRays window_gates_lem
+pub record OneIsEither (rays gates window_rays window_gates number : ℕ) : Type 0 where
+  pub refused : Larger rays gates ⊎ Larger window_rays window_gates → number ≡ 1
+  pub larger : number ≡ 1 → Larger rays gates ⊎ Larger window_rays window_gates
 
 -- `window_one_is_size`: it answers 1 exactly so
 abbrev pub WindowSize : Type 0

@@ -34,17 +34,21 @@ v_known c = passed (sweep_by c.args.o c.args.v_velocity.now c.args.v_valid.now) 
 
 pub returns-then-h-ne0 : goal.returns-then-h-ne0
 returns-then-h-ne0 c =
+    let h = sweep_by c.args.o c.args.h_velocity.now c.args.h_valid.now in
+    let v = sweep_by c.args.o c.args.v_velocity.now c.args.v_valid.now in
     record {
-      result_value = plan_missed (eight_both (sweep_by c.args.o c.args.h_velocity.now c.args.h_valid.now) c.args.h_lent (sweep_by c.args.o c.args.v_velocity.now c.args.v_valid.now) c.args.v_lent) (shared_plan (sweep_by c.args.o c.args.h_velocity.now c.args.h_valid.now) (sweep_by c.args.o c.args.v_velocity.now c.args.v_valid.now)) _
-          (first_no_lem (seven (sweep_by c.args.o c.args.h_velocity.now c.args.h_valid.now) c.args.h_lent) ((seven (sweep_by c.args.o c.args.v_velocity.now c.args.v_valid.now) c.args.v_lent) ++ (ask 8 (shared_few (sweep_by c.args.o c.args.h_velocity.now c.args.h_valid.now) (sweep_by c.args.o c.args.v_velocity.now c.args.v_valid.now)) ∷ [])) _ c.first_missed-h.ensures (λ e. absurd (omega (arith, c.if-h-ne0.true))));
+      result_value = plan_missed (eight_both h c.args.h_lent v c.args.v_lent) (shared_plan h v) _
+          (first_no_lem (seven h c.args.h_lent) ((seven v c.args.v_lent) ++ (ask 8 (shared_few h v) ∷ [])) _ c.first_missed-h.ensures (λ e. absurd (omega (arith, c.if-h-ne0.true))));
       fit = λ p e. absurd (missed_no_plan _ p e);
     }
 
 pub returns-then-v-ne0 : goal.returns-then-v-ne0
 returns-then-v-ne0 c =
+    let v = sweep_by c.args.o c.args.v_velocity.now c.args.v_valid.now in
+    let h = sweep_by c.args.o c.args.h_velocity.now c.args.h_valid.now in
     record {
-      result_value = plan_missed (eight_both (sweep_by c.args.o c.args.h_velocity.now c.args.h_valid.now) c.args.h_lent (sweep_by c.args.o c.args.v_velocity.now c.args.v_valid.now) c.args.v_lent) (shared_plan (sweep_by c.args.o c.args.h_velocity.now c.args.h_valid.now) (sweep_by c.args.o c.args.v_velocity.now c.args.v_valid.now)) _
-          (goes_on (seven (sweep_by c.args.o c.args.h_velocity.now c.args.h_valid.now) c.args.h_lent) ((seven (sweep_by c.args.o c.args.v_velocity.now c.args.v_valid.now) c.args.v_lent) ++ (ask 8 (shared_few (sweep_by c.args.o c.args.h_velocity.now c.args.h_valid.now) (sweep_by c.args.o c.args.v_velocity.now c.args.v_valid.now)) ∷ [])) (h_yes (goal.at.returns-then-v-ne0 c).Else-h-ne0) ∙ first_no_lem (seven (sweep_by c.args.o c.args.v_velocity.now c.args.v_valid.now) c.args.v_lent) (ask 8 (shared_few (sweep_by c.args.o c.args.h_velocity.now c.args.h_valid.now) (sweep_by c.args.o c.args.v_velocity.now c.args.v_valid.now)) ∷ []) _ c.first_missed-v.ensures (λ e. absurd (omega (arith, c.if-v-ne0.true))));
+      result_value = plan_missed (eight_both h c.args.h_lent v c.args.v_lent) (shared_plan h v) _
+          (goes_on (seven h c.args.h_lent) ((seven v c.args.v_lent) ++ (ask 8 (shared_few h v) ∷ [])) (h_yes (goal.at.returns-then-v-ne0 c).Else-h-ne0) ∙ first_no_lem (seven v c.args.v_lent) (ask 8 (shared_few h v) ∷ []) _ c.first_missed-v.ensures (λ e. absurd (omega (arith, c.if-v-ne0.true))));
       fit = λ p e. absurd (missed_no_plan _ p e);
     }
 
@@ -62,9 +66,11 @@ plan_by-requires c =
 pub returns : goal.returns
 unfolding shared_few shared_range
 returns c =
+    let v = sweep_by c.args.o c.args.v_velocity.now c.args.v_valid.now in
+    let h = sweep_by c.args.o c.args.h_velocity.now c.args.h_valid.now in
     let o = c.args.o in record {
       result_value = c.plan_by.ensures.value
           ∙ ap (λ (e : Extremes). planning_by (first_no (ask 8 (few_for o.nyquist o.splits e) ∷ [])) (plan_for o.nyquist o.splits e)) c.shared_range.ensures
-          ∙ sym (ap (λ (q : Option ℕ). planning_by q (shared_plan (sweep_by c.args.o c.args.h_velocity.now c.args.h_valid.now) (sweep_by c.args.o c.args.v_velocity.now c.args.v_valid.now))) (goes_on (seven (sweep_by c.args.o c.args.h_velocity.now c.args.h_valid.now) c.args.h_lent) ((seven (sweep_by c.args.o c.args.v_velocity.now c.args.v_valid.now) c.args.v_lent) ++ (ask 8 (shared_few (sweep_by c.args.o c.args.h_velocity.now c.args.h_valid.now) (sweep_by c.args.o c.args.v_velocity.now c.args.v_valid.now)) ∷ [])) (h_yes (goal.at.returns c).Else-h-ne0) ∙ goes_on (seven (sweep_by c.args.o c.args.v_velocity.now c.args.v_valid.now) c.args.v_lent) (ask 8 (shared_few (sweep_by c.args.o c.args.h_velocity.now c.args.h_valid.now) (sweep_by c.args.o c.args.v_velocity.now c.args.v_valid.now)) ∷ []) (v_yes (goal.at.returns c).Else-v-ne0)));
+          ∙ sym (ap (λ (q : Option ℕ). planning_by q (shared_plan h v)) (goes_on (seven h c.args.h_lent) ((seven v c.args.v_lent) ++ (ask 8 (shared_few h v) ∷ [])) (h_yes (goal.at.returns c).Else-h-ne0) ∙ goes_on (seven v c.args.v_lent) (ask 8 (shared_few h v) ∷ []) (v_yes (goal.at.returns c).Else-v-ne0)));
       fit = c.plan_by.ensures.fit;
     }

@@ -29,7 +29,9 @@ left_3 c = ((on _ _ (answer_yes (lengths_by_lem _ _ _ _ c.gates_in-n.ensures c.t
 
 left_4 : (c : Else-not-options_in_range) → first_no (content_by c.args.file.now c.args.h c.args.velocity c.args.valid) ≡ first_no (drop 4 (content_by c.args.file.now c.args.h c.args.velocity c.args.valid))
 unfolding as_sweep sweep_questions
-left_4 c = (((on _ _ (answer_yes (lengths_by_lem _ _ _ _ c.gates_in-n.ensures c.two_long.ensures) c.if-not-two_long.false)) ∙ on _ _ (answer_yes c.mask_is_bits.ensures c.if-not-mask_is_bits.false)) ∙ on _ _ (answer_yes c.nyquist_in_range.ensures c.if-not-nyquist_in_range.false)) ∙ on _ _ (answer_yes (options_are (as_sweep (sweep_by c.args.file.now c.args.h)) c.options_in_range.ensures) c.if-not-options_in_range.false)
+left_4 c =
+    let s = sweep_by c.args.file.now c.args.h in
+    (((on _ _ (answer_yes (lengths_by_lem _ _ _ _ c.gates_in-n.ensures c.two_long.ensures) c.if-not-two_long.false)) ∙ on _ _ (answer_yes c.mask_is_bits.ensures c.if-not-mask_is_bits.false)) ∙ on _ _ (answer_yes c.nyquist_in_range.ensures c.if-not-nyquist_in_range.false)) ∙ on _ _ (answer_yes (options_are (as_sweep s) c.options_in_range.ensures) c.if-not-options_in_range.false)
 
 pub returns-then-not-two_long : goal.returns-then-not-two_long
 returns-then-not-two_long c = sym (sym (by_definition (goal.at.returns-then-not-two_long c).Start) ∙ ap answer_of (no _ _ (answer_no (lengths_by_lem _ _ _ _ c.gates_in-n.ensures c.two_long.ensures) c.if-not-two_long.true)))
@@ -47,7 +49,9 @@ returns-then-not-nyquist_in_range c = sym (sym (by_definition (goal.at.returns-t
 
 pub returns-then-not-options_in_range : goal.returns-then-not-options_in_range
 unfolding sweep_questions as_sweep
-returns-then-not-options_in_range c = sym (sym (by_definition (goal.at.returns-then-not-options_in_range c).Start) ∙ ap answer_of (left_3 (goal.at.returns-then-not-options_in_range c).Else-not-nyquist_in_range ∙ no _ _ (answer_no (options_are (as_sweep (sweep_by c.args.file.now c.args.h)) c.options_in_range.ensures) c.if-not-options_in_range.true)))
+returns-then-not-options_in_range c =
+    let s = sweep_by c.args.file.now c.args.h in
+    sym (sym (by_definition (goal.at.returns-then-not-options_in_range c).Start) ∙ ap answer_of (left_3 (goal.at.returns-then-not-options_in_range c).Else-not-nyquist_in_range ∙ no _ _ (answer_no (options_are (as_sweep s) c.options_in_range.ensures) c.if-not-options_in_range.true)))
 
 pub velocities_in_range-requires : goal.velocities_in_range-requires
 velocities_in_range-requires c = let p = c.requires in (p.1, p.2, p.3)

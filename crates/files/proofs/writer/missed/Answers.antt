@@ -40,7 +40,9 @@ left_4 c = (((on _ _ ((answer_yes c.size_in_range.ensures c.if-not-size_in_range
 
 left_5 : (c : Else-not-options_in_range) → first_no (write_questions (stored c.args.h c.args.velocity.now c.args.valid.now) c.args.buffer) ≡ first_no (drop 5 (write_questions (stored c.args.h c.args.velocity.now c.args.valid.now) c.args.buffer))
 unfolding as_sweep slices_fit sweep_questions write_questions
-left_5 c = ((((on _ _ ((answer_yes c.size_in_range.ensures c.if-not-size_in_range.false))) ∙ on _ _ ((answer_yes c.slices_fit.ensures c.if-not-slices_fit.false))) ∙ on _ _ (answer_yes c.mask_is_bits.ensures c.if-not-mask_is_bits.false)) ∙ on _ _ (answer_yes c.nyquist_in_range.ensures c.if-not-nyquist_in_range.false)) ∙ on _ _ (answer_yes (options_are (as_sweep (stored c.args.h c.args.velocity.now c.args.valid.now)) c.options_in_range.ensures) c.if-not-options_in_range.false)
+left_5 c =
+    ((((on _ _ ((answer_yes c.size_in_range.ensures c.if-not-size_in_range.false))) ∙ on _ _ ((answer_yes c.slices_fit.ensures c.if-not-slices_fit.false))) ∙ on _ _ (answer_yes c.mask_is_bits.ensures c.if-not-mask_is_bits.false)) ∙ on _ _ (answer_yes c.nyquist_in_range.ensures c.if-not-nyquist_in_range.false))
+    ∙ on _ _ (answer_yes (options_are (as_sweep (stored c.args.h c.args.velocity.now c.args.valid.now)) c.options_in_range.ensures) c.if-not-options_in_range.false)
 
 pub returns-then-not-size_in_range : goal.returns-then-not-size_in_range
 unfolding write_questions

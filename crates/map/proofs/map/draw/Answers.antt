@@ -40,7 +40,9 @@ pub slice_bounds-label_and_clear-end-2 : goal.slice_bounds-label_and_clear-end-2
 slice_bounds-label_and_clear-end-2 c = omega (arith, floats_are (goal.at.slice_bounds-label_and_clear-end-2 c).Start)
 
 pub label_and_clear-requires : goal.label_and_clear-requires
-label_and_clear-requires c = let a = c.args in record { limited = map_asks a.o a.p a.velocity.now a.valid.now (map_memory_of c.args.labels.now c.args.regions.now c.args.words.now c.args.floats.now) c.requires.floats_value c.requires.fit _ (length_taken _ a.words.now (words_are (goal.at.label_and_clear-requires c).Start)); labels_len = map_long (sweep_by a.o a.velocity.now a.valid.now) (map_memory_of c.args.labels.now c.args.regions.now c.args.words.now c.args.floats.now) c.requires.floats_value }
+label_and_clear-requires c =
+    let m = map_memory_of c.args.labels.now c.args.regions.now c.args.words.now c.args.floats.now in
+    let a = c.args in record { limited = map_asks a.o a.p a.velocity.now a.valid.now m c.requires.floats_value c.requires.fit _ (length_taken _ a.words.now (words_are (goal.at.label_and_clear-requires c).Start)); labels_len = map_long (sweep_by a.o a.velocity.now a.valid.now) m c.requires.floats_value }
 
 pub returns : goal.returns
 returns c =

@@ -14,7 +14,15 @@ shift_up-up-requires c =
     let a = c.args in record { t = moved_single a.m a.n a.w.now a.d.now p.holds_tables a.b a.v a.g a.f p.f_lt_m p.sound; g_bound = p.gains.g_in }
 
 pub join_edge-requires : goal.join_edge-requires
-join_edge-requires c = let a = c.args in let p = c.requires in record { holds_tables = p.holds_tables; sound = p.sound; joins = moved_joins a.m a.n a.w.now a.d.now p.holds_tables a.b a.v a.g a.f p.f_lt_m p.sound p.gains c.if-x-v.true; t = subst (λ (x : Float). T (fits binary32 x)) (sym c.shift_up-up.ensures) (shift_ok false a.g (get_or a.w.now a.f 0) (get_or a.d.now a.f nan) (moved_single a.m a.n a.w.now a.d.now p.holds_tables a.b a.v a.g a.f p.f_lt_m p.sound)) }
+join_edge-requires c =
+    let a = c.args in
+    let p = c.requires in
+    record {
+      holds_tables = p.holds_tables;
+      sound = p.sound;
+      joins = moved_joins a.m a.n a.w.now a.d.now p.holds_tables a.b a.v a.g a.f p.f_lt_m p.sound p.gains c.if-x-v.true;
+      t = subst (λ (x : Float). T (fits binary32 x)) (sym c.shift_up-up.ensures) (shift_ok false a.g (get_or a.w.now a.f 0) (get_or a.d.now a.f nan) (moved_single a.m a.n a.w.now a.d.now p.holds_tables a.b a.v a.g a.f p.f_lt_m p.sound));
+    }
 
 pub returns-then-x-v : goal.returns-then-x-v
 returns-then-x-v c =
@@ -32,7 +40,15 @@ shift_down-down-requires c =
 
 pub join_edge-requires-then-y-v : goal.join_edge-requires-then-y-v
 unfolding neg
-join_edge-requires-then-y-v c = let a = c.args in let p = c.requires in record { holds_tables = p.holds_tables; sound = p.sound; joins = moved_joins_second a.m a.n a.w.now a.d.now p.holds_tables a.b a.v a.g a.f p.f_lt_m p.sound p.gains c.if-x-v.false c.if-y-v.true; t = subst (λ (x : Float). T (fits binary32 (neg x))) (sym c.shift_down-down.ensures) (neg_ok _ (shift_ok true a.g (get_or a.w.now a.f 0) (get_or a.d.now a.f nan) (moved_single a.m a.n a.w.now a.d.now p.holds_tables a.b a.v a.g a.f p.f_lt_m p.sound))) }
+join_edge-requires-then-y-v c =
+    let a = c.args in
+    let p = c.requires in
+    record {
+      holds_tables = p.holds_tables;
+      sound = p.sound;
+      joins = moved_joins_second a.m a.n a.w.now a.d.now p.holds_tables a.b a.v a.g a.f p.f_lt_m p.sound p.gains c.if-x-v.false c.if-y-v.true;
+      t = subst (λ (x : Float). T (fits binary32 (neg x))) (sym c.shift_down-down.ensures) (neg_ok _ (shift_ok true a.g (get_or a.w.now a.f 0) (get_or a.d.now a.f nan) (moved_single a.m a.n a.w.now a.d.now p.holds_tables a.b a.v a.g a.f p.f_lt_m p.sound)));
+    }
 
 pub returns-then-y-v : goal.returns-then-y-v
 unfolding neg

@@ -18,14 +18,16 @@ returns-then-r-ne0 c =
 
 pub returns-then-book-eq0 : goal.returns-then-book-eq0
 returns-then-book-eq0 c =
+    let m = memory_of c.args.counts.now c.args.marks.now c.args.pair.now c.args.words.now c.args.floats.now in
     record {
-      counts_after = file_unfolded c.args.file.now c.args.bits.now c.args.valid.now c.requires.bits_len.0 c.requires.bits_len.1 _ _ _ _ c.read-r.ensures c.if-r-ne0.false _ _ (memory_of c.args.counts.now c.args.marks.now c.args.pair.now c.args.words.now c.args.floats.now) _ _ _ _ _ _ c.options_of-o.ensures
+      counts_after = file_unfolded c.args.file.now c.args.bits.now c.args.valid.now c.requires.bits_len.0 c.requires.bits_len.1 _ _ _ _ c.read-r.ensures c.if-r-ne0.false _ _ m _ _ _ _ _ _ c.options_of-o.ensures
           c.velocities_of.ensures (lent_long (goal.at.returns-then-book-eq0 c).Start) c.dealias_sweep.ensures;
       book_after = λ h. absurd (omega (arith, c.if-book-eq0.true, h));
     }
 
 pub returns : goal.returns
 returns c =
-    let h = book_left c.args.file.now c.args.bits.now c.args.valid.now c.requires.bits_len.0 c.requires.bits_len.1 _ _ _ _ c.read-r.ensures c.if-r-ne0.false _ _ (memory_of c.args.counts.now c.args.marks.now c.args.pair.now c.args.words.now c.args.floats.now) c.args.book.now _ _ _ _ _ _ _ c.options_of-o.ensures
+    let m = memory_of c.args.counts.now c.args.marks.now c.args.pair.now c.args.words.now c.args.floats.now in
+    let h = book_left c.args.file.now c.args.bits.now c.args.valid.now c.requires.bits_len.0 c.requires.bits_len.1 _ _ _ _ c.read-r.ensures c.if-r-ne0.false _ _ m c.args.book.now _ _ _ _ _ _ _ c.options_of-o.ensures
     c.velocities_of.ensures (lent_long (goal.at.returns c).Start) c.requires.file_bound.0 (c.requires.file_bound.1 (omega (arith, c.if-book-eq0.false))) c.dealias_sweep_book.ensures in
     record { counts_after = h.0; book_after = h.1 }

@@ -22,7 +22,9 @@ known : (c : Else-missed-ne0) → Passed (sweep_by c.args.o c.args.velocity.now 
 known c = passed (sweep_by c.args.o c.args.velocity.now c.args.valid.now) c.args.lent (seven_yes c)
 
 pub returns-then-missed-ne0 : goal.returns-then-missed-ne0
-returns-then-missed-ne0 c = let eights = eight (sweep_by c.args.o c.args.velocity.now c.args.valid.now) c.args.lent in record { result_value = plan_missed eights (own_plan (sweep_by c.args.o c.args.velocity.now c.args.valid.now)) _ (first_no_lem (seven (sweep_by c.args.o c.args.velocity.now c.args.valid.now) c.args.lent) (ask 8 (limits_few (sweep_by c.args.o c.args.velocity.now c.args.valid.now)) ∷ []) _ c.first_missed-missed.ensures (λ e. absurd (omega (arith, c.if-missed-ne0.true)))); fit = λ p e. absurd (missed_no_plan _ p e) }
+returns-then-missed-ne0 c =
+    let s = sweep_by c.args.o c.args.velocity.now c.args.valid.now in
+    let eights = eight s c.args.lent in record { result_value = plan_missed eights (own_plan s) _ (first_no_lem (seven s c.args.lent) (ask 8 (limits_few s) ∷ []) _ c.first_missed-missed.ensures (λ e. absurd (omega (arith, c.if-missed-ne0.true)))); fit = λ p e. absurd (missed_no_plan _ p e) }
 
 pub least_and_greatest-requires : goal.least_and_greatest-requires
 least_and_greatest-requires c = let k = known c in k.mask ∙ sym k.vel
@@ -39,9 +41,10 @@ plan_by-requires c =
 pub returns : goal.returns
 unfolding limits_few
 returns c =
+    let s = sweep_by c.args.o c.args.velocity.now c.args.valid.now in
     let o = c.args.o in record {
       result_value = c.plan_by.ensures.value
           ∙ ap (λ (e : Extremes). planning_by (first_no (ask 8 (few_for o.nyquist o.splits e) ∷ [])) (plan_for o.nyquist o.splits e)) c.least_and_greatest.ensures
-          ∙ sym (ap (λ (q : Option _). planning_by q (own_plan (sweep_by c.args.o c.args.velocity.now c.args.valid.now))) (goes_on (seven (sweep_by c.args.o c.args.velocity.now c.args.valid.now) c.args.lent) (ask 8 (limits_few (sweep_by c.args.o c.args.velocity.now c.args.valid.now)) ∷ []) (seven_yes (goal.at.returns c).Else-missed-ne0)));
+          ∙ sym (ap (λ (q : Option _). planning_by q (own_plan s)) (goes_on (seven s c.args.lent) (ask 8 (limits_few s) ∷ []) (seven_yes (goal.at.returns c).Else-missed-ne0)));
       fit = c.plan_by.ensures.fit;
     }

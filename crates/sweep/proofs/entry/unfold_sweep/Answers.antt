@@ -37,7 +37,9 @@ pub slice_bounds-solve-end-2 : goal.slice_bounds-solve-end-2
 slice_bounds-solve-end-2 c = floats_are (goal.at.slice_bounds-solve-end-2 c).Start
 
 pub solve-requires : goal.solve-requires
-solve-requires c = let a = c.args in record { finds = finds_ask a.o a.p a.velocity.now a.valid.now (memory_of c.args.folds.now c.args.doubtful.now c.args.pair.now c.args.words.now c.args.floats.now) c.requires.floats_value c.requires.fit _ _ (length_taken _ a.words.now (words_are (goal.at.solve-requires c).Start)) (length_taken _ a.floats.now (floats_are (goal.at.solve-requires c).Start)); folds_len = outputs a.o a.p a.velocity.now a.valid.now (memory_of c.args.folds.now c.args.doubtful.now c.args.pair.now c.args.words.now c.args.floats.now) c.requires.floats_value }
+solve-requires c =
+    let m = memory_of c.args.folds.now c.args.doubtful.now c.args.pair.now c.args.words.now c.args.floats.now in
+    let a = c.args in record { finds = finds_ask a.o a.p a.velocity.now a.valid.now m c.requires.floats_value c.requires.fit _ _ (length_taken _ a.words.now (words_are (goal.at.solve-requires c).Start)) (length_taken _ a.floats.now (floats_are (goal.at.solve-requires c).Start)); folds_len = outputs a.o a.p a.velocity.now a.valid.now m c.requires.floats_value }
 
 pub returns : goal.returns
 returns c =

@@ -13,10 +13,14 @@ use Rattle.sweep.proofs.questions.first_missed_velocity.Goals as goal
 long_yes : (c : Else-not-lengths_fit) → lengths_fit (c.args.rays * c.args.gates) c.args.velocity.now c.args.valid.now (own_long (counted c.args.rays c.args.gates c.args.nyquist c.args.velocity.now c.args.valid.now c.args.folds.now c.args.labels.now) c.args.unfolded) ≡ true
 long_yes c = answer_yes (length_is (counted c.args.rays c.args.gates c.args.nyquist c.args.velocity.now c.args.valid.now c.args.folds.now c.args.labels.now) c.args.unfolded _ _ _ c.lengths_fit.ensures c.three_long-own.ensures c.gates_in-n.ensures) c.if-not-lengths_fit.false
 
-left_1 : (c : Else-not-size_in_range) → first_no (let u = (counted c.args.rays c.args.gates c.args.nyquist c.args.velocity.now c.args.valid.now c.args.folds.now c.args.labels.now) in ask 1 (size_in_range u.rays u.gates) ∷ ask 2 (lengths_fit (u.rays * u.gates) u.vel u.mask (own_long u c.args.unfolded)) ∷ after_lengths u) ≡ first_no (drop 1 (let u = (counted c.args.rays c.args.gates c.args.nyquist c.args.velocity.now c.args.valid.now c.args.folds.now c.args.labels.now) in ask 1 (size_in_range u.rays u.gates) ∷ ask 2 (lengths_fit (u.rays * u.gates) u.vel u.mask (own_long u c.args.unfolded)) ∷ after_lengths u))
+left_1 : (c : Else-not-size_in_range) →
+    let u = counted c.args.rays c.args.gates c.args.nyquist c.args.velocity.now c.args.valid.now c.args.folds.now c.args.labels.now in
+    first_no (let u = u in ask 1 (size_in_range u.rays u.gates) ∷ ask 2 (lengths_fit (u.rays * u.gates) u.vel u.mask (own_long u c.args.unfolded)) ∷ after_lengths u) ≡ first_no (drop 1 (let u = u in ask 1 (size_in_range u.rays u.gates) ∷ ask 2 (lengths_fit (u.rays * u.gates) u.vel u.mask (own_long u c.args.unfolded)) ∷ after_lengths u))
 left_1 c = on _ _ (answer_yes c.size_in_range.ensures c.if-not-size_in_range.false)
 
-left_2 : (c : Else-not-lengths_fit) → first_no (let u = (counted c.args.rays c.args.gates c.args.nyquist c.args.velocity.now c.args.valid.now c.args.folds.now c.args.labels.now) in ask 1 (size_in_range u.rays u.gates) ∷ ask 2 (lengths_fit (u.rays * u.gates) u.vel u.mask (own_long u c.args.unfolded)) ∷ after_lengths u) ≡ first_no (drop 2 (let u = (counted c.args.rays c.args.gates c.args.nyquist c.args.velocity.now c.args.valid.now c.args.folds.now c.args.labels.now) in ask 1 (size_in_range u.rays u.gates) ∷ ask 2 (lengths_fit (u.rays * u.gates) u.vel u.mask (own_long u c.args.unfolded)) ∷ after_lengths u))
+left_2 : (c : Else-not-lengths_fit) →
+    let u = counted c.args.rays c.args.gates c.args.nyquist c.args.velocity.now c.args.valid.now c.args.folds.now c.args.labels.now in
+    first_no (let u = u in ask 1 (size_in_range u.rays u.gates) ∷ ask 2 (lengths_fit (u.rays * u.gates) u.vel u.mask (own_long u c.args.unfolded)) ∷ after_lengths u) ≡ first_no (drop 2 (let u = u in ask 1 (size_in_range u.rays u.gates) ∷ ask 2 (lengths_fit (u.rays * u.gates) u.vel u.mask (own_long u c.args.unfolded)) ∷ after_lengths u))
 left_2 c = (on _ _ (answer_yes c.size_in_range.ensures c.if-not-size_in_range.false)) ∙ on _ _ (long_yes c)
 
 -- the lengths, where they got a yes
@@ -29,7 +33,9 @@ returns-then-not-size_in_range c = sym (ap answer_of (no _ _ (answer_no c.size_i
 
 pub returns-then-not-lengths_fit : goal.returns-then-not-lengths_fit
 unfolding asked_velocity
-returns-then-not-lengths_fit c = sym (ap answer_of (left_1 (goal.at.returns-then-not-lengths_fit c).Else-not-size_in_range ∙ no _ _ (answer_no (length_is (counted c.args.rays c.args.gates c.args.nyquist c.args.velocity.now c.args.valid.now c.args.folds.now c.args.labels.now) c.args.unfolded _ _ _ c.lengths_fit.ensures c.three_long-own.ensures c.gates_in-n.ensures) c.if-not-lengths_fit.true)))
+returns-then-not-lengths_fit c =
+    let u = counted c.args.rays c.args.gates c.args.nyquist c.args.velocity.now c.args.valid.now c.args.folds.now c.args.labels.now in
+    sym (ap answer_of (left_1 (goal.at.returns-then-not-lengths_fit c).Else-not-size_in_range ∙ no _ _ (answer_no (length_is u c.args.unfolded _ _ _ c.lengths_fit.ensures c.three_long-own.ensures c.gates_in-n.ensures) c.if-not-lengths_fit.true)))
 
 pub missed_after_lengths-requires : goal.missed_after_lengths-requires
 missed_after_lengths-requires c = let l = long_here c in (l.mask ∙ sym l.vel, l.counts ∙ sym l.vel, l.labels ∙ sym l.vel)

@@ -44,14 +44,17 @@ pub slice_bounds-solve-end-2 : goal.slice_bounds-solve-end-2
 slice_bounds-solve-end-2 c = floats_are (goal.at.slice_bounds-solve-end-2 c).Start
 
 pub solve-requires : goal.solve-requires
-solve-requires c = let a = c.args in record { finds = finds_ask a.o a.p a.velocity.now a.valid.now (memory_of c.args.folds.now c.args.doubtful.now c.args.pair.now c.args.words.now c.args.floats.now) c.requires.floats_value c.requires.fit _ _ (length_taken _ a.words.now (words_are (goal.at.solve-requires c).Start)) (length_taken _ a.floats.now (floats_are (goal.at.solve-requires c).Start)); lends = outputs a.o a.p a.velocity.now a.valid.now (memory_of c.args.folds.now c.args.doubtful.now c.args.pair.now c.args.words.now c.args.floats.now) c.requires.floats_value }
+solve-requires c =
+    let m = memory_of c.args.folds.now c.args.doubtful.now c.args.pair.now c.args.words.now c.args.floats.now in
+    let a = c.args in record { finds = finds_ask a.o a.p a.velocity.now a.valid.now m c.requires.floats_value c.requires.fit _ _ (length_taken _ a.words.now (words_are (goal.at.solve-requires c).Start)) (length_taken _ a.floats.now (floats_are (goal.at.solve-requires c).Start)); lends = outputs a.o a.p a.velocity.now a.valid.now m c.requires.floats_value }
 
 pub returns : goal.returns
 unfolding end_book
 returns c =
+    let m = memory_of c.args.folds.now c.args.doubtful.now c.args.pair.now c.args.words.now c.args.floats.now in
     let u = c.solve in
     let a = c.args in
-    (λ i. book_answer_by (solved_ends a.o a.p a.velocity.now a.valid.now (memory_of c.args.folds.now c.args.doubtful.now c.args.pair.now c.args.words.now c.args.floats.now) c.requires.floats_value (answered (first_no (later (sweep_by a.o a.velocity.now a.valid.now) (limits_by a.o a.p) (length a.book.now))) (unfolded (sweep_by a.o a.velocity.now a.valid.now) (limits_by a.o a.p)))
+    (λ i. book_answer_by (solved_ends a.o a.p a.velocity.now a.valid.now m c.requires.floats_value (answered (first_no (later (sweep_by a.o a.velocity.now a.valid.now) (limits_by a.o a.p) (length a.book.now))) (unfolded (sweep_by a.o a.velocity.now a.valid.now) (limits_by a.o a.p)))
     (take (96 * length a.velocity.now + 64 - 0) a.words.now)
     (take (16 * length a.velocity.now + 16 - 0) a.floats.now) (length_taken _ a.words.now (words_are (goal.at.returns c).Start)) (length_taken _ a.floats.now (floats_are (goal.at.returns c).Start)) _ (ap (λ (x : BookAnswer). x.answer) u.ensures) _ _
     (Post-is 0 (96 * length a.velocity.now + 64) a.words.now (omega arith)) (Post-is 0 (16 * length a.velocity.now + 16) a.floats.now (omega arith)) i) (ap (λ (x : BookAnswer). x.book) u.ensures i))

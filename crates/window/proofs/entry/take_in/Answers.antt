@@ -44,7 +44,10 @@ pub write_shown-requires : goal.write_shown-requires
 write_shown-requires c = ((at (goal.at.write_shown-requires c).Start).labels ∙ sym (at (goal.at.write_shown-requires c).Start).mask, omega (arith, (at (goal.at.write_shown-requires c).Start).room, (at (goal.at.write_shown-requires c).Start).shown, (at (goal.at.write_shown-requires c).Start).mask))
 
 pub draw-requires : goal.draw-requires
-draw-requires c = (held_now (counted c.args.rays c.args.gates c.args.nyquist c.args.velocity.now c.args.valid.now c.args.folds.now c.args.labels.now) (window_of c.args.window.now c.args.winds.now c.args.shown.now c.args.picture.now c.args.marks.now) c.requires _ _ _ _ _ c.more-held.ensures c.after-next.ensures c.oldest-first.ensures c.write_winds.ensures c.write_shown.ensures, (at (goal.at.draw-requires c).Start).picture, (at (goal.at.draw-requires c).Start).marks)
+draw-requires c =
+    let w = window_of c.args.window.now c.args.winds.now c.args.shown.now c.args.picture.now c.args.marks.now in
+    let u = counted c.args.rays c.args.gates c.args.nyquist c.args.velocity.now c.args.valid.now c.args.folds.now c.args.labels.now in
+    (held_now u w c.requires _ _ _ _ _ c.more-held.ensures c.after-next.ensures c.oldest-first.ensures c.write_winds.ensures c.write_shown.ensures, (at (goal.at.draw-requires c).Start).picture, (at (goal.at.draw-requires c).Start).marks)
 
 pub overflow_cast-window-2 : goal.overflow_cast-window-2
 overflow_cast-window-2 c = record { fits = omega (arith, c.more-held.ensures, more_few _ (at (goal.at.overflow_cast-window-2 c).Start).held) }
@@ -59,4 +62,7 @@ pub bounds-window-3-2 : goal.bounds-window-3-2
 bounds-window-3-2 c = omega (arith, (at (goal.at.bounds-window-3-2 c).Start).words, length-set c.args.window.now 2 c.more-held.result)
 
 pub returns : goal.returns
-returns c = taken_in (counted c.args.rays c.args.gates c.args.nyquist c.args.velocity.now c.args.valid.now c.args.folds.now c.args.labels.now) (window_of c.args.window.now c.args.winds.now c.args.shown.now c.args.picture.now c.args.marks.now) c.requires _ _ _ _ _ c.more-held.ensures c.after-next.ensures c.oldest-first.ensures c.write_winds.ensures c.write_shown.ensures _ _ c.draw.ensures.0 c.draw.ensures.1
+returns c =
+    let w = window_of c.args.window.now c.args.winds.now c.args.shown.now c.args.picture.now c.args.marks.now in
+    let u = counted c.args.rays c.args.gates c.args.nyquist c.args.velocity.now c.args.valid.now c.args.folds.now c.args.labels.now in
+    taken_in u w c.requires _ _ _ _ _ c.more-held.ensures c.after-next.ensures c.oldest-first.ensures c.write_winds.ensures c.write_shown.ensures _ _ c.draw.ensures.0 c.draw.ensures.1

@@ -27,13 +27,18 @@ missed_after_lengths-missed-requires c = let z = sized_here c in (z.mask ∙ sym
 
 pub returns-then-missed-ne0 : goal.returns-then-missed-ne0
 returns-then-missed-ne0 c =
-    missed_after (counted c.args.rays c.args.gates c.args.nyquist c.args.velocity.now c.args.valid.now c.args.folds.now c.args.labels.now) c.args.w c.args.l _ c.missed_first-first.ensures c.if-first-ne0.false _
-    (c.missed_after_lengths-missed.ensures c.args.rays c.args.gates ((sized_here (goal.at.returns-then-missed-ne0 c).Else-first-ne0).vel ∙ gates_are (counted c.args.rays c.args.gates c.args.nyquist c.args.velocity.now c.args.valid.now c.args.folds.now c.args.labels.now) c.args.w c.args.l)) (λ e. absurd (omega (arith, c.if-missed-ne0.true)))
+    let u = counted c.args.rays c.args.gates c.args.nyquist c.args.velocity.now c.args.valid.now c.args.folds.now c.args.labels.now in
+    missed_after u c.args.w c.args.l _ c.missed_first-first.ensures c.if-first-ne0.false _
+    (c.missed_after_lengths-missed.ensures c.args.rays c.args.gates ((sized_here (goal.at.returns-then-missed-ne0 c).Else-first-ne0).vel ∙ gates_are u c.args.w c.args.l)) (λ e. absurd (omega (arith, c.if-missed-ne0.true)))
 
 pub returns-then-not-same_size : goal.returns-then-not-same_size
 unfolding same_size
-returns-then-not-same_size c = missed_14 (counted c.args.rays c.args.gates c.args.nyquist c.args.velocity.now c.args.valid.now c.args.folds.now c.args.labels.now) c.args.w c.args.l _ c.missed_first-first.ensures c.if-first-ne0.false _ (after_is (goal.at.returns-then-not-same_size c).Else-missed-ne0) c.if-missed-ne0.false (answer_no c.same_size.ensures c.if-not-same_size.true)
+returns-then-not-same_size c =
+    let u = counted c.args.rays c.args.gates c.args.nyquist c.args.velocity.now c.args.valid.now c.args.folds.now c.args.labels.now in
+    missed_14 u c.args.w c.args.l _ c.missed_first-first.ensures c.if-first-ne0.false _ (after_is (goal.at.returns-then-not-same_size c).Else-missed-ne0) c.if-missed-ne0.false (answer_no c.same_size.ensures c.if-not-same_size.true)
 
 pub returns : goal.returns
 unfolding same_size
-returns c = missed_none (counted c.args.rays c.args.gates c.args.nyquist c.args.velocity.now c.args.valid.now c.args.folds.now c.args.labels.now) c.args.w c.args.l _ c.missed_first-first.ensures c.if-first-ne0.false _ (after_is (goal.at.returns c).Else-missed-ne0) c.if-missed-ne0.false (answer_yes c.same_size.ensures c.if-not-same_size.false)
+returns c =
+    let u = counted c.args.rays c.args.gates c.args.nyquist c.args.velocity.now c.args.valid.now c.args.folds.now c.args.labels.now in
+    missed_none u c.args.w c.args.l _ c.missed_first-first.ensures c.if-first-ne0.false _ (after_is (goal.at.returns c).Else-missed-ne0) c.if-missed-ne0.false (answer_yes c.same_size.ensures c.if-not-same_size.false)

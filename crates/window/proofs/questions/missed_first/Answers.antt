@@ -23,22 +23,27 @@ pub returns-then-not-size_in_range : goal.returns-then-not-size_in_range
 returns-then-not-size_in_range c = size_no (counted c.args.rays c.args.gates c.args.nyquist c.args.velocity.now c.args.valid.now c.args.folds.now c.args.labels.now) c.args.w c.args.l (answer_no c.size_in_range.ensures c.if-not-size_in_range.true)
 
 pub returns-then-not-size_in_range-2 : goal.returns-then-not-size_in_range-2
-returns-then-not-size_in_range-2 c = window_size_no (counted c.args.rays c.args.gates c.args.nyquist c.args.velocity.now c.args.valid.now c.args.folds.now c.args.labels.now) c.args.w c.args.l (size_yes (goal.at.returns-then-not-size_in_range-2 c).Else-not-size_in_range) (answer_no c.size_in_range-2.ensures c.if-not-size_in_range-2.true)
+returns-then-not-size_in_range-2 c =
+    let u = counted c.args.rays c.args.gates c.args.nyquist c.args.velocity.now c.args.valid.now c.args.folds.now c.args.labels.now in
+    window_size_no u c.args.w c.args.l (size_yes (goal.at.returns-then-not-size_in_range-2 c).Else-not-size_in_range) (answer_no c.size_in_range-2.ensures c.if-not-size_in_range-2.true)
 
 pub returns-then-not-lengths_fit : goal.returns-then-not-lengths_fit
 returns-then-not-lengths_fit c =
-    long_no (counted c.args.rays c.args.gates c.args.nyquist c.args.velocity.now c.args.valid.now c.args.folds.now c.args.labels.now) c.args.w c.args.l (size_yes (goal.at.returns-then-not-lengths_fit c).Else-not-size_in_range) (window_size_yes (goal.at.returns-then-not-lengths_fit c).Else-not-size_in_range-2)
-    (answer_no (arrival_is (counted c.args.rays c.args.gates c.args.nyquist c.args.velocity.now c.args.valid.now c.args.folds.now c.args.labels.now) c.args.w c.args.l _ _ _ c.lengths_fit.ensures c.two_long-own.ensures c.gates_in-n.ensures) c.if-not-lengths_fit.true)
+    let u = counted c.args.rays c.args.gates c.args.nyquist c.args.velocity.now c.args.valid.now c.args.folds.now c.args.labels.now in
+    long_no u c.args.w c.args.l (size_yes (goal.at.returns-then-not-lengths_fit c).Else-not-size_in_range) (window_size_yes (goal.at.returns-then-not-lengths_fit c).Else-not-size_in_range-2)
+    (answer_no (arrival_is u c.args.w c.args.l _ _ _ c.lengths_fit.ensures c.two_long-own.ensures c.gates_in-n.ensures) c.if-not-lengths_fit.true)
 
 pub window_fits-requires : goal.window_fits-requires
 window_fits-requires c = size_product _ _ _ c.gates_in-m.ensures (window_size_yes (goal.at.window_fits-requires c).Else-not-size_in_range-2)
 
 pub returns-then-not-window_fits : goal.returns-then-not-window_fits
 returns-then-not-window_fits c =
-    fits_no (counted c.args.rays c.args.gates c.args.nyquist c.args.velocity.now c.args.valid.now c.args.folds.now c.args.labels.now) c.args.w c.args.l (size_yes (goal.at.returns-then-not-window_fits c).Else-not-size_in_range) (window_size_yes (goal.at.returns-then-not-window_fits c).Else-not-size_in_range-2) (long_yes (goal.at.returns-then-not-window_fits c).Else-not-lengths_fit)
-    (answer_no (window_is (counted c.args.rays c.args.gates c.args.nyquist c.args.velocity.now c.args.valid.now c.args.folds.now c.args.labels.now) c.args.w c.args.l _ _ c.window_fits.ensures c.gates_in-m.ensures) c.if-not-window_fits.true)
+    let u = counted c.args.rays c.args.gates c.args.nyquist c.args.velocity.now c.args.valid.now c.args.folds.now c.args.labels.now in
+    fits_no u c.args.w c.args.l (size_yes (goal.at.returns-then-not-window_fits c).Else-not-size_in_range) (window_size_yes (goal.at.returns-then-not-window_fits c).Else-not-size_in_range-2) (long_yes (goal.at.returns-then-not-window_fits c).Else-not-lengths_fit)
+    (answer_no (window_is u c.args.w c.args.l _ _ c.window_fits.ensures c.gates_in-m.ensures) c.if-not-window_fits.true)
 
 pub returns : goal.returns
 returns c =
-    both_yes (counted c.args.rays c.args.gates c.args.nyquist c.args.velocity.now c.args.valid.now c.args.folds.now c.args.labels.now) c.args.w c.args.l (size_yes (goal.at.returns c).Else-not-size_in_range) (window_size_yes (goal.at.returns c).Else-not-size_in_range-2) (long_yes (goal.at.returns c).Else-not-lengths_fit)
-    (answer_yes (window_is (counted c.args.rays c.args.gates c.args.nyquist c.args.velocity.now c.args.valid.now c.args.folds.now c.args.labels.now) c.args.w c.args.l _ _ c.window_fits.ensures c.gates_in-m.ensures) c.if-not-window_fits.false)
+    let u = counted c.args.rays c.args.gates c.args.nyquist c.args.velocity.now c.args.valid.now c.args.folds.now c.args.labels.now in
+    both_yes u c.args.w c.args.l (size_yes (goal.at.returns c).Else-not-size_in_range) (window_size_yes (goal.at.returns c).Else-not-size_in_range-2) (long_yes (goal.at.returns c).Else-not-lengths_fit)
+    (answer_yes (window_is u c.args.w c.args.l _ _ c.window_fits.ensures c.gates_in-m.ensures) c.if-not-window_fits.false)
