@@ -16,6 +16,8 @@ CONSTRUCTOR = re.compile(r"^\s*\|?\s*([^\s:(){}\[\],;.=λ|]+)\s*:\s")
 TOKEN = re.compile(r"[^\s(){}\[\],;.λ\"`:]+")
 WORDS = {"pub", "abbrev", "unfoldable", "record", "data", "module", "where", "let", "in", "|", "use", "ruleset"}
 KEPT = {"is-inf"}
+# Definitions that no clause of src/ cites by a bare name: a parameter or field of the same spelling hides them nowhere.
+UNCITED = {"twoNyquist", "windowGates", "skipBetweenRays", "skipAlongRay"}
 # Definitions whose laws are named by both, as in `seg-put_below`.
 JOINED = {"map", "length", "get_or", "take", "drop", "set", "seg", "put", "upto", "tabulate", "cond"}
 
@@ -115,7 +117,7 @@ def mapping():
         if name in foreign or name in KEPT:
             continue
         new = respelled(name, JOINED)
-        while new in taken:
+        while new in taken and name not in UNCITED:
             if new == name and name in plain and name not in names.values():
                 break
             new += "_lem"

@@ -6,7 +6,7 @@ use lib.Ieee.Fits.{and_l, and_r, down_pos}
 use lib.Ieee.Exact.{HasValue}
 use lib.Ieee.Positive.{first_pos}
 use Rattle.arithmetic.specs.Rounding.{within, ceiling, ceiling_whole, real}
-use Rattle.arithmetic.specs.Intervals.{velocity_in_range, two_nyquist_lem, width, over_start, over_end}
+use Rattle.arithmetic.specs.Intervals.{velocity_in_range, two_nyquist, width, over_start, over_end}
 use Rattle.arithmetic.proofs.Signed.{plus, minus, Is, values_le, add_rounds, sub_rounds, neg_has, mul_values, div_values}
 use Rattle.arithmetic.proofs.Units.{unit, tiny, unit_is, tiny_large, unit_pos, rounded, near64, has64, thrice, one_over, one_under, one_has, Approx, approx, on_grid, between_finite, whole_has}
 use Rattle.arithmetic.specs.Inside.Asked.{Asked}
@@ -62,7 +62,7 @@ pub record Wide (nyq : Float) (ν S : ℕ) : Type 0 where
   pub under : 2 * ν ≤ size * S + 2 * tiny
 
 pub wide : (nyq : Float) (S : ℕ) → (n : Nyquist nyq) → 1 ≤ S → S ≤ 9999 → Wide nyq n.size S
-unfolding width two_nyquist_lem real
+unfolding width two_nyquist real
 wide nyq S n some few =
     let ν = n.size in
     let two = of_int binary64 (pos 2) in

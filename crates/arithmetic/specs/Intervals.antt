@@ -41,12 +41,12 @@ abbrev pub include : Extremes → Float → Extremes
 include e v = over_both e (Both v v)
 
 -- 2 × Nyquist
-unfoldable pub two_nyquist_lem : Float → Float
-two_nyquist_lem nyq = mul binary64 (real (pos 2)) nyq
+unfoldable pub two_nyquist : Float → Float
+two_nyquist nyq = mul binary64 (real (pos 2)) nyq
 
 -- the width of an interval
 unfoldable pub width : Float → ℕ → Float
-width nyq splits = div binary64 (two_nyquist_lem nyq) (real (pos splits))
+width nyq splits = div binary64 (two_nyquist nyq) (real (pos splits))
 
 -- whether a valid velocity is above Nyquist or below -Nyquist
 unfoldable pub beyond : Float → Float → Float → Bool

@@ -1,6 +1,6 @@
 // Prints the merge book of the sweep of a file on standard input: one line an entry, its numbers parted by one space, and a last line with the number of
 // entries and the sums of weights and of gates moved (printout: `print_book`).
-// No file of at most 128 gates has more than 2,178 bytes: a longer input prints nothing, and no more of it is read (`longer-prints-nothing`).
+// No file of at most 128 gates has more than 2,178 bytes: a longer input prints nothing, and no more of it is read (`longer_prints_nothing`).
 
 #![tactic(auto)]
 

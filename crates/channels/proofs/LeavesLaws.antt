@@ -8,7 +8,7 @@ use lib.Ieee.{Float}
 use borrow.Rule.Slice.PartMut.{put_mid}
 use Rattle.lists.specs.Inside.Seg.{seg, put}
 use Rattle.lists.proofs.SegLaws.{length-seg, get_or-put_below, seg-put_below, put_mid_lem, lent_seg, seg_all, length-put}
-use Rattle.arithmetic.specs.Intervals.{two_nyquist_lem}
+use Rattle.arithmetic.specs.Intervals.{two_nyquist}
 use Rattle.arithmetic.specs.declared.intervals.Plan.{Plan}
 use Rattle.labels.specs.Label.{Found}
 use Rattle.labels.proofs.RegionLaws.{number_at_most}
@@ -125,7 +125,7 @@ module _ (o : Options) (p : Plan) (hVel : List Float) (hMask : List ℕ) (vVel :
       go (suc k) e =
           subst (λ (l : List ℕ). LeavesOf o p hVel hMask l x) (sym put_is)
           (leaves_stay (regions_by o p hVel hMask) (network_for o (regions_by o p hVel hMask) hVel) n w ys x (omega (arith, e)) few
-          (merges_less (two_nyquist_lem o.nyquist) (shape_of o) (regions_by o p hVel hMask).number (regions_by o p hVel hMask).labels hVel) R)
+          (merges_less (two_nyquist o.nyquist) (shape_of o) (regions_by o p hVel hMask).number (regions_by o p hVel hMask).labels hVel) R)
 
   pub leaves_both : LeavesBoth o p hVel hMask vVel vMask u (record { horizontal = x; vertical = y })
   leaves_both = record { horizontal = horizontal_stays; vertical = subst (λ (l : List ℕ). LeavesOf o p vVel vMask l y) (sym behind_is) S }

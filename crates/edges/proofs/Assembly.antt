@@ -230,9 +230,9 @@ module _ (f : Shape) (u : List ℕ) (a vel : List Float) (n k t : ℕ) (q : Find
           fits = omega (arith, rc);
         }
 
-        pub edged : (two_nyquist_lem : Float) (y : List ℕ) (b : List Float) (e : ℕ) → Gathered two_nyquist_lem v y a b t c e (runs (later v vel n m 0)) → Edged two_nyquist_lem n u y b t e (used k (pairs f (seg u 0 n) vel))
+        pub edged : (two_nyquist : Float) (y : List ℕ) (b : List Float) (e : ℕ) → Gathered two_nyquist v y a b t c e (runs (later v vel n m 0)) → Edged two_nyquist n u y b t e (used k (pairs f (seg u 0 n) vel))
         unfolding tables
-        edged two_nyquist_lem y b e r =
+        edged two_nyquist y b e r =
             let R : List EdgeRecord = runs (later v vel n m 0) in
             let fit : e ≤ c = omega (arith, r.count, rc) in
             let ce : c ≡ e = rc ∙ sym r.count in
@@ -241,7 +241,7 @@ module _ (f : Shape) (u : List ℕ) (a vel : List Float) (n k t : ℕ) (q : Find
             let l_y : length (map (λ (r : EdgeRecord). r.one) R) ≡ e = length-map R (λ r. r.one) ∙ sym r.count in
             let l_z : length (map (λ (r : EdgeRecord). r.two) R) ≡ e = length-map R (λ r. r.two) ∙ sym r.count in
             let l_u : length (map (λ (r : EdgeRecord). r.bridged) R) ≡ e = length-map R (λ r. r.bridged) ∙ sym r.count in
-            let l_d : length (map (difference two_nyquist_lem) R) ≡ e = length-map R (difference two_nyquist_lem) ∙ sym r.count in
+            let l_d : length (map (difference two_nyquist) R) ≡ e = length-map R (difference two_nyquist) ∙ sym r.count in
             let W1 : List ℕ = put v t (map (λ r. r.count) R) in
             let W2 : List ℕ = put W1 (t + 3 * c) (map (λ r. r.one) R) in
             let l1 : length W1 ≡ length v = length-put v t (map (λ r. r.count) R) in
@@ -280,7 +280,7 @@ module _ (f : Shape) (u : List ℕ) (a vel : List Float) (n k t : ℕ) (q : Find
                   ∙ ap (map (λ (r : EdgeRecord). r.bridged)) runs_are;
               diff =
                   ap (λ (l : List Float). seg l 0 e) r.diffs
-                  ∙ ap (λ (x : ℕ). seg (put a 0 (map (difference two_nyquist_lem) R)) 0 x) (sym l_d) ∙ seg-put_same a 0 (map (difference two_nyquist_lem) R) (omega (arith, q.diffs))
-                  ∙ ap (map (difference two_nyquist_lem)) runs_are;
+                  ∙ ap (λ (x : ℕ). seg (put a 0 (map (difference two_nyquist) R)) 0 x) (sym l_d) ∙ seg-put_same a 0 (map (difference two_nyquist) R) (omega (arith, q.diffs))
+                  ∙ ap (map (difference two_nyquist)) runs_are;
               labels = ap (λ (l : List ℕ). seg l 0 n) r.words ∙ tables_labels v t c R n (omega (arith, q.above)) ∙ labels_v;
             }

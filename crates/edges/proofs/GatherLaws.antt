@@ -121,11 +121,11 @@ module _ (w : List ℕ) (t c : ℕ) where
     unfolding tables
     tables_length = simp length-put refl
 
-pub diffs_snoc : (two_nyquist_lem : Float) (d : List Float) (e : ℕ) (rs : List EdgeRecord) (r : EdgeRecord) → e ≡ length rs → set (put d 0 (map (difference two_nyquist_lem) rs)) e (difference two_nyquist_lem r) ≡ put d 0 (map (difference two_nyquist_lem) (rs ++ (r ∷ [])))
-diffs_snoc two_nyquist_lem d e rs r l =
-    ap (λ (x : ℕ). set (put d 0 (map (difference two_nyquist_lem) rs)) x (difference two_nyquist_lem r)) {x = e} {y = 0 + e} (omega arith)
-    ∙ snoc_at d 0 (map (difference two_nyquist_lem) rs) e (difference two_nyquist_lem r) (length-map rs (difference two_nyquist_lem) ∙ sym l)
-    ∙ ap (put d 0) (sym (map_append (difference two_nyquist_lem) rs (r ∷ [])))
+pub diffs_snoc : (two_nyquist : Float) (d : List Float) (e : ℕ) (rs : List EdgeRecord) (r : EdgeRecord) → e ≡ length rs → set (put d 0 (map (difference two_nyquist) rs)) e (difference two_nyquist r) ≡ put d 0 (map (difference two_nyquist) (rs ++ (r ∷ [])))
+diffs_snoc two_nyquist d e rs r l =
+    ap (λ (x : ℕ). set (put d 0 (map (difference two_nyquist) rs)) x (difference two_nyquist r)) {x = e} {y = 0 + e} (omega arith)
+    ∙ snoc_at d 0 (map (difference two_nyquist) rs) e (difference two_nyquist r) (length-map rs (difference two_nyquist) ∙ sym l)
+    ∙ ap (put d 0) (sym (map_append (difference two_nyquist) rs (r ∷ [])))
 
 -- ---- pairs
 

@@ -14,10 +14,10 @@ use Rattle.edges.proofs.Weights.{one_spans, more_spans}
 use Rattle.edges.specs.declared.edges.EdgeRecord.{EdgeRecord}
 
 -- i pairs are read: these records are written, s is open, and what is left gives the rest
-pub record Going (two_nyquist_lem : Float) (u : List ℕ) (a vel : List Float) (n m t c : ℕ) (w : List ℕ) (d : List Float) (s : Gathering) (i : ℕ) : Type 0 where
+pub record Going (two_nyquist : Float) (u : List ℕ) (a vel : List Float) (n m t c : ℕ) (w : List ℕ) (d : List Float) (s : Gathering) (i : ℕ) : Type 0 where
   pub done : List EdgeRecord
   pub mem : w ≡ tables u t c done
-  pub diffs : d ≡ put a 0 (map (difference two_nyquist_lem) done)
+  pub diffs : d ≡ put a 0 (map (difference two_nyquist) done)
   pub edges : s.edges ≡ length done
   pub rest : done ++ runs_from s.«record» (later u vel n m i) ≡ runs (later u vel n m 0)
   pub few : s.«record».count ≤ i
@@ -31,8 +31,8 @@ runs_off : (r : EdgeRecord) (p : Pair) (l : List Pair) → alike r p ≡ false �
 unfolding runs_from
 runs_off r p l e = rw e refl
 
-module _ (two_nyquist_lem : Float) (u : List ℕ) (a vel : List Float) (n m t c : ℕ) (lay : Gathers u a vel n m t c) where
-  pub going_begin : (s : Gathering) → 0 < m → s.«record» ≡ begun (pair_at u vel n 0) → s.edges ≡ 0 → Going two_nyquist_lem u a vel n m t c u a s 1
+module _ (two_nyquist : Float) (u : List ℕ) (a vel : List Float) (n m t c : ℕ) (lay : Gathers u a vel n m t c) where
+  pub going_begin : (s : Gathering) → 0 < m → s.«record» ≡ begun (pair_at u vel n 0) → s.edges ≡ 0 → Going two_nyquist u a vel n m t c u a s 1
   unfolding tables put runs begun
   going_begin s h e z = record {
     done = [];
@@ -44,7 +44,7 @@ module _ (two_nyquist_lem : Float) (u : List ℕ) (a vel : List Float) (n m t c 
     spans = subst (λ (r : EdgeRecord). r.bridged ≤ r.count) (sym e) (one_spans (pair_at u vel n 0));
   }
 
-  module _ (w : List ℕ) (d : List Float) (s : Gathering) (i : ℕ) (g : Going two_nyquist_lem u a vel n m t c w d s i) where
+  module _ (w : List ℕ) (d : List Float) (s : Gathering) (i : ℕ) (g : Going two_nyquist u a vel n m t c w d s i) where
     below : (j : ℕ) → j < 9 * n + m → get_or w j 0 ≡ get_or u j 0
     below j h = ap (λ (l : List ℕ). get_or l j 0) g.mem ∙ tables_below u t c g.done j (omega (arith, lay.above))
 
@@ -52,7 +52,7 @@ module _ (two_nyquist_lem : Float) (u : List ℕ) (a vel : List Float) (n m t c 
     lw = ap length g.mem ∙ tables_length u t c g.done
 
     pub ld : length d ≡ length a
-    ld = ap length g.diffs ∙ length-put a 0 (map (difference two_nyquist_lem) g.done)
+    ld = ap length g.diffs ∙ length-put a 0 (map (difference two_nyquist) g.done)
 
     pub going_ready : ReadsPairs w vel n m
     going_ready =
@@ -91,20 +91,20 @@ module _ (two_nyquist_lem : Float) (u : List ℕ) (a vel : List Float) (n m t c 
     closed : (v : List ℕ) → v ≡ written w t c s.edges s.«record» → v ≡ tables u t c (g.done ++ (s.«record» ∷ []))
     closed v e = e ∙ ap (λ (l : List ℕ). written l t c s.edges s.«record») g.mem ∙ tables_snoc u t c s.edges g.done s.«record» g.edges going_slot.place
 
-    closed_diffs : (b : List Float) → b ≡ set d s.edges (difference two_nyquist_lem s.«record») → b ≡ put a 0 (map (difference two_nyquist_lem) (g.done ++ (s.«record» ∷ [])))
-    closed_diffs b e = e ∙ ap (λ (l : List Float). set l s.edges (difference two_nyquist_lem s.«record»)) g.diffs ∙ diffs_snoc two_nyquist_lem a s.edges g.done s.«record» g.edges
+    closed_diffs : (b : List Float) → b ≡ set d s.edges (difference two_nyquist s.«record») → b ≡ put a 0 (map (difference two_nyquist) (g.done ++ (s.«record» ∷ [])))
+    closed_diffs b e = e ∙ ap (λ (l : List Float). set l s.edges (difference two_nyquist s.«record»)) g.diffs ∙ diffs_snoc two_nyquist a s.edges g.done s.«record» g.edges
 
     one_more : length (g.done ++ (s.«record» ∷ [])) ≡ s.edges + 1
     one_more = omega (arith, length-append g.done (s.«record» ∷ []), g.edges)
 
-    pub going_on : (v : List ℕ) (b : List Float) (r : Gathering) → i < m → GathersPair two_nyquist_lem t c (pair_at w vel n i) s r w v d b → Going two_nyquist_lem u a vel n m t c v b r (i + 1)
+    pub going_on : (v : List ℕ) (b : List Float) (r : Gathering) → i < m → GathersPair two_nyquist t c (pair_at w vel n i) s r w v d b → Going two_nyquist u a vel n m t c v b r (i + 1)
     unfolding runs_from plus begun
     going_on v b r h q = go (alike s.«record» (pair_at w vel n i)) refl
       where
         before : g.done ++ runs_from s.«record» (pair_at u vel n i ∷ later u vel n m (i + 1)) ≡ runs (later u vel n m 0)
         before = rw (later_cons u vel n m i h) at g.rest
 
-        go : (x : Bool) → alike s.«record» (pair_at w vel n i) ≡ x → Going two_nyquist_lem u a vel n m t c v b r (i + 1)
+        go : (x : Bool) → alike s.«record» (pair_at w vel n i) ≡ x → Going two_nyquist u a vel n m t c v b r (i + 1)
         go true e = let o = q.on e in record {
           done = g.done;
           mem = o.0 ∙ g.mem;
@@ -131,28 +131,28 @@ module _ (two_nyquist_lem : Float) (u : List ℕ) (a vel : List Float) (n m t c 
           spans = subst (λ (z : EdgeRecord). z.bridged ≤ z.count) (sym o.2) (one_spans (pair_at w vel n i));
         }
 
-    pub going_end : (v : List ℕ) (b : List Float) → m ≤ i → v ≡ written w t c s.edges s.«record» → b ≡ set d s.edges (difference two_nyquist_lem s.«record») → Gathered two_nyquist_lem u v a b t c (s.edges + 1) (runs (later u vel n m 0))
+    pub going_end : (v : List ℕ) (b : List Float) → m ≤ i → v ≡ written w t c s.edges s.«record» → b ≡ set d s.edges (difference two_nyquist s.«record») → Gathered two_nyquist u v a b t c (s.edges + 1) (runs (later u vel n m 0))
     unfolding runs_from
     going_end v b h e f =
         let z : g.done ++ (s.«record» ∷ []) ≡ runs (later u vel n m 0) = rw (later_end u vel n m i h) at g.rest in
         record {
           words = closed v e ∙ ap (tables u t c) z;
-          diffs = closed_diffs b f ∙ ap (λ (l : List EdgeRecord). put a 0 (map (difference two_nyquist_lem) l)) z;
+          diffs = closed_diffs b f ∙ ap (λ (l : List EdgeRecord). put a 0 (map (difference two_nyquist) l)) z;
           count = sym one_more ∙ ap length z;
         }
 
-pub none_gathered : (two_nyquist_lem : Float) (u : List ℕ) (a vel : List Float) (n m t c : ℕ) → m ≡ 0 → Gathered two_nyquist_lem u u a a t c 0 (runs (later u vel n m 0))
+pub none_gathered : (two_nyquist : Float) (u : List ℕ) (a vel : List Float) (n m t c : ℕ) → m ≡ 0 → Gathered two_nyquist u u a a t c 0 (runs (later u vel n m 0))
 unfolding tables put runs
-none_gathered two_nyquist_lem u a vel n m t c z = rw (later_end u vel n m 0 (omega arith)) (record { words = refl; diffs = refl; count = refl })
+none_gathered two_nyquist u a vel n m t c z = rw (later_end u vel n m 0 (omega arith)) (record { words = refl; diffs = refl; count = refl })
 
-module _ (two_nyquist_lem : Float) (t c : ℕ) (P : Pair) (s r : Gathering) (p : Raw) (b : Bool) (pi : pair_is p ≡ P) (al : b ≡ alike s.«record» (pair_is p)) where
-  pub turned_on : b ≡ true → r.«record» ≡ plus s.«record» (pair_is p) → r.edges ≡ s.edges → (w : List ℕ) (d : List Float) → GathersPair two_nyquist_lem t c P s r w w d d
+module _ (two_nyquist : Float) (t c : ℕ) (P : Pair) (s r : Gathering) (p : Raw) (b : Bool) (pi : pair_is p ≡ P) (al : b ≡ alike s.«record» (pair_is p)) where
+  pub turned_on : b ≡ true → r.«record» ≡ plus s.«record» (pair_is p) → r.edges ≡ s.edges → (w : List ℕ) (d : List Float) → GathersPair two_nyquist t c P s r w w d d
   turned_on h x y w d = record {
     on = λ e. (refl, refl, x ∙ ap (plus s.«record») pi, y);
     off = λ e. absurd (true≢false (sym h ∙ al ∙ ap (alike s.«record») pi ∙ e));
   }
 
-  pub turned_off : b ≡ false → r.«record» ≡ begun (pair_is p) → r.edges ≡ s.edges + 1 → (w v : List ℕ) (d a : List Float) → v ≡ written w t c s.edges s.«record» → a ≡ set d s.edges (difference two_nyquist_lem s.«record») → GathersPair two_nyquist_lem t c P s r w v d a
+  pub turned_off : b ≡ false → r.«record» ≡ begun (pair_is p) → r.edges ≡ s.edges + 1 → (w v : List ℕ) (d a : List Float) → v ≡ written w t c s.edges s.«record» → a ≡ set d s.edges (difference two_nyquist s.«record») → GathersPair two_nyquist t c P s r w v d a
   turned_off h x y w v d a e f = record {
     on = λ q. absurd (true≢false (sym q ∙ sym (ap (alike s.«record») pi) ∙ sym al ∙ h));
     off = λ q. (e, f, x ∙ ap begun pi, y);

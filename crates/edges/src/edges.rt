@@ -98,6 +98,7 @@ fn to_top(f: Shape, g: usize) -> Seen
 }
 
 // One step on along the ray.
+#[tactic(auto, using(crate::proofs::Next::bottom_none))]
 fn to_bottom(f: Shape, g: usize) -> Seen
     requires { Inside f g }
     ensures { answer result ≡ next f Bottom g }

@@ -151,16 +151,16 @@ pub record Writable (s : Stored) (k : ℕ) : Type 0 where
   pub mask : length s.mask ≡ s.header.rays * s.header.gates
   pub buffer : k ≡ file_length s.header.rays s.header.gates
   pub splits : s.header.splits < 65536
-  pub skip_between_rays_lem : s.header.skip_between_rays < 65536
-  pub skip_along_ray_lem : s.header.skip_along_ray < 65536
+  pub skip_between_rays : s.header.skip_between_rays < 65536
+  pub skip_along_ray : s.header.skip_along_ray < 65536
   pub centred : s.header.centred ≤ 1
   pub wrap : s.header.wrap ≤ 1
   pub later : Yes (sweep_questions s)
 
 record Options (h : Header) : Type 0 where
   pub splits : h.splits ≤ 9999
-  pub skip_between_rays_lem : h.skip_between_rays ≤ 1000
-  pub skip_along_ray_lem : h.skip_along_ray ≤ 1000
+  pub skip_between_rays : h.skip_between_rays ≤ 1000
+  pub skip_along_ray : h.skip_along_ray ≤ 1000
   pub centred : h.centred ≤ 1
   pub wrap : h.wrap ≤ 1
 
@@ -180,8 +180,8 @@ options s y =
     let y2 = and_left (a && b) c y3 in
     record {
       splits = leb-true h.splits 9999 (and_right a b y2);
-      skip_between_rays_lem = leb-true h.skip_between_rays 1000 (and_right (a && b) c y3);
-      skip_along_ray_lem = leb-true h.skip_along_ray 1000 (and_right (a && b && c) d y4);
+      skip_between_rays = leb-true h.skip_between_rays 1000 (and_right (a && b) c y3);
+      skip_along_ray = leb-true h.skip_along_ray 1000 (and_right (a && b && c) d y4);
       centred = leb-true h.centred 1 (and_right (a && b && c && d) e y5);
       wrap = leb-true h.wrap 1 (and_right (a && b && c && d && e) f y);
     }
@@ -209,8 +209,8 @@ write_yes s k h =
       mask = eqb-true (length s.mask) n (and_right (eqb (length s.vel) n) (eqb (length s.mask) n) ab);
       buffer = eqb-true k (file_length r g) (and_right (eqb (length s.vel) n && eqb (length s.mask) n) (eqb k (file_length r g)) y.1.0);
       splits = omega (arith, o.splits);
-      skip_between_rays_lem = omega (arith, o.skip_between_rays_lem);
-      skip_along_ray_lem = omega (arith, o.skip_along_ray_lem);
+      skip_between_rays = omega (arith, o.skip_between_rays);
+      skip_along_ray = omega (arith, o.skip_along_ray);
       centred = o.centred;
       wrap = o.wrap;
       later = y.1.1;

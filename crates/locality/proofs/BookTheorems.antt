@@ -13,7 +13,7 @@ use borrow.Author.Tests.{ltb-true}
 use Rattle.lists.specs.Seq.{tabulate, all}
 use Rattle.lists.proofs.SeqLaws.{tab_same}
 use Rattle.lists.proofs.AllLaws.{and_left, and_right}
-use Rattle.arithmetic.specs.Intervals.{two_nyquist_lem}
+use Rattle.arithmetic.specs.Intervals.{two_nyquist}
 use Rattle.labels.specs.Label.{Found}
 use Rattle.network.specs.Network.{merges, count_of}
 use Rattle.network.specs.Book.{Entry, replayed}
@@ -121,7 +121,7 @@ refusal_keeps_book s m b a e h = ap (λ (x : BookAnswer). x.book) e ∙ go (call
 -- what replaying gives a label
 replays : (s : Sweep) (f : Found) (l : ℕ) → (replayed (book_of s f) l).count ≡ count_of (final (network_of s f)).regions l
 unfolding final network_of
-replays s f l = ap (λ (vs : List Entry). (replayed vs l).count) (book_is s f) ∙ book_replays (two_nyquist_lem s.nyquist) s.shape f.number f.labels s.vel l
+replays s f l = ap (λ (vs : List Entry). (replayed vs l).count) (book_is s f) ∙ book_replays (two_nyquist s.nyquist) s.shape f.number f.labels s.vel l
 
 -- a sweep by whether it ends early
 module _ (s : Sweep) (f : Found) where
@@ -147,7 +147,7 @@ pub book_stands : BookStands
 unfolding network_of
 book_stands s limits before v after e =
     let f = regions_of s limits in
-    book_holds_lem (two_nyquist_lem s.nyquist) s.shape f.number f.labels s.vel before v after (sym (book_is s f) ∙ e)
+    book_holds_lem (two_nyquist s.nyquist) s.shape f.number f.labels s.vel before v after (sym (book_is s f) ∙ e)
 
 -- ---- what a call that answers 0 leaves in the book
 

@@ -13,7 +13,7 @@ use borrow.Author.Tests.{leb-true, ltb-true, le-leb, lt-ltb}
 use Rattle.lists.specs.Seq.{upto, all, All}
 use Rattle.lists.proofs.AllLaws.{and_left, and_right}
 use Rattle.memory.specs.Size.{gates_of_largest}
-use Rattle.arithmetic.specs.Intervals.{two_nyquist_lem}
+use Rattle.arithmetic.specs.Intervals.{two_nyquist}
 use Rattle.arithmetic.proofs.NearHalf.{abs_neg}
 use Rattle.labels.specs.Label.{Found}
 use Rattle.labels.proofs.RegionLaws.{labels_long}
@@ -115,7 +115,7 @@ module _ (s : Sweep) (limits : List Float) where
       k = found.number
 
       sum : gates_of last ≡ sum_from (size_in L) 1 k
-      sum = gates_is last k 1 (size_in L) (last_sizes (two_nyquist_lem s.nyquist) (used k (pairs s.shape L s.vel)) k (size_in L) (merges (network_of s found)))
+      sum = gates_is last k 1 (size_in L) (last_sizes (two_nyquist s.nyquist) (used k (pairs s.shape L s.vel)) k (size_in L) (merges (network_of s found)))
 
   module _ (range : (unfolded s limits).merges_in_range ≡ true) where
     -- every region's count after the last merge is within 1,000

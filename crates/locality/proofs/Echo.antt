@@ -10,7 +10,7 @@ use lib.IntN.{ℤ}
 use lib.Ieee.{Float, nan}
 use borrow.Author.Tests.{ne_eqb}
 use Rattle.lists.specs.Seq.{upto, keep, tabulate}
-use Rattle.arithmetic.specs.Intervals.{two_nyquist_lem}
+use Rattle.arithmetic.specs.Intervals.{two_nyquist}
 use Rattle.lists.proofs.SeqLaws.{eqb_renamed, tab_length, keep_count}
 use Rattle.labels.specs.Label.{Found}
 use Rattle.labels.specs.Regions.{Interval, within}
@@ -140,17 +140,17 @@ module _ (E : ℕ → Bool) (s : Sweep) where
       abbrev rs : List EdgeRecord
       rs = used (length bs) (pairs_of s f)
 
-      whole_is : network_of s f ≡ start (two_nyquist_lem s.nyquist) rs (map (size_in f.labels) (upto (length bs) 1))
+      whole_is : network_of s f ≡ start (two_nyquist s.nyquist) rs (map (size_in f.labels) (upto (length bs) 1))
       unfolding network_of network_by pairs_of
-      whole_is = ap (λ (n : ℕ). start (two_nyquist_lem s.nyquist) (used n (pairs_of s f)) (map (size_in f.labels) (upto n 1))) P.number
+      whole_is = ap (λ (n : ℕ). start (two_nyquist s.nyquist) (used n (pairs_of s f)) (map (size_in f.labels) (upto n 1))) P.number
 
-      part_is : network_of (only E s) f' ≡ start (two_nyquist_lem s.nyquist) (used (trues bs) (pairs_of (only E s) f')) (map (size_in f'.labels) (upto (trues bs) 1))
+      part_is : network_of (only E s) f' ≡ start (two_nyquist s.nyquist) (used (trues bs) (pairs_of (only E s) f')) (map (size_in f'.labels) (upto (trues bs) 1))
       unfolding network_of network_by pairs_of only
-      part_is = ap (λ (n : ℕ). start (two_nyquist_lem s.nyquist) (used n (pairs_of (only E s) f')) (map (size_in f'.labels) (upto n 1))) P.number'
+      part_is = ap (λ (n : ℕ). start (two_nyquist s.nyquist) (used n (pairs_of (only E s) f')) (map (size_in f'.labels) (upto n 1))) P.number'
 
       -- 4. the network of the echo alone lies in the whole's
       pub network_embeds : Embedding (shift bs) (spot (map (record_in (flag bs)) rs)) (flag bs) (edge_side (flag bs) rs) (network_of (only E s) f') (network_of s f)
-      network_embeds = rw (whole_is, part_is) (start_embeds bs (two_nyquist_lem s.nyquist) rs (used (trues bs) (pairs_of (only E s) f')) (size_in f.labels) (size_in f'.labels) unjoined records_follow size_follows)
+      network_embeds = rw (whole_is, part_is) (start_embeds bs (two_nyquist s.nyquist) rs (used (trues bs) (pairs_of (only E s) f')) (size_in f.labels) (size_in f'.labels) unjoined records_follow size_follows)
 
       -- 5. merges and counts
       pub merges_follow : keep (edge_side (flag bs) rs) (merges (network_of s f)) ≡ map (spot (map (record_in (flag bs)) rs)) (merges (network_of (only E s) f'))

@@ -11,7 +11,7 @@ use lib.Ieee.{Float}
 use lib.Dec.{eqb, leb}
 use borrow.Author.Tests.{eqb-true, ne_eqb}
 use Rattle.lists.specs.Seq.{upto, all, keep, All, Member}
-use Rattle.arithmetic.specs.Intervals.{two_nyquist_lem}
+use Rattle.arithmetic.specs.Intervals.{two_nyquist}
 use Rattle.lists.proofs.SeqLaws.{eqb_refl}
 use Rattle.labels.specs.Label.{Found}
 use Rattle.locality.proofs.Spot.{flag}
@@ -132,7 +132,7 @@ module _ (E : ℕ → Bool) (s : Sweep) (limits : List Float) (A : ApartBy E s l
 
   agrees : (l : List ℕ) → SameSides p q l (merges (network_of s f)) → Agrees p q (network_of s f) l
   unfolding network_of network_by pairs_of sizes
-  agrees l h = every_merge_list p (two_nyquist_lem s.nyquist) (used f.number (pairs s.shape f.labels s.vel)) (sizes f)
+  agrees l h = every_merge_list p (two_nyquist s.nyquist) (used f.number (pairs s.shape f.labels s.vel)) (sizes f)
       (used_all (λ a b. p a ≡ p b) f.number (pairs s.shape f.labels s.vel) (pairs_sides E s.shape f.labels s.vel p A label_side)) l h
 
   -- the events of the run itself

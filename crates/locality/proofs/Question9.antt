@@ -8,7 +8,7 @@ use mathlib.Core.List.{List, [], ◌∷◌, map}
 use lib.ListN.{length, get_or, length-map}
 use lib.Ieee.{Float}
 use Rattle.lists.specs.Seq.{upto, All}
-use Rattle.arithmetic.specs.Intervals.{two_nyquist_lem}
+use Rattle.arithmetic.specs.Intervals.{two_nyquist}
 use Rattle.lists.proofs.SeqLaws.{upto-length}
 use Rattle.labels.specs.Label.{Found}
 use Rattle.locality.proofs.Spot.{spot, shift, flag}
@@ -84,7 +84,7 @@ module _ (E : ℕ → Bool) (s : Sweep) (limits : List Float) (A : ApartBy E s l
 
   other_side : restrict p' (edge_side p' (used f.number (pairs_of s f))) N ≡ restrict (other p) (other (edge_side p (used f.number (pairs_of s f)))) N
   unfolding network_of network_by pairs_of sizes
-  other_side = restrict_other p p' (two_nyquist_lem s.nyquist) (used f.number (pairs_of s f)) (sizes f) contrary labels_contrary
+  other_side = restrict_other p p' (two_nyquist s.nyquist) (used f.number (pairs_of s f)) (sizes f) contrary labels_contrary
 
   image : merges_in_range (restrict p (edge_side p (used f.number (pairs_of s f))) N) ≡ merges_in_range (network_of (only E s) (regions_of (only E s) limits))
   image =

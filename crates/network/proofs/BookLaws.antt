@@ -65,7 +65,7 @@ module _ (w : Float) where
     single j (r ∷ rs) a h e f (inr m) (inl q) t = absurd (head_apart j r h.0 (suc j) rs h.1 a.0 e m (subst (λ (x : Edge). Joined x e) (sym q) (joined_back e f t)))
     single j (r ∷ rs) a h e f (inr m) (inr n) t = single (suc j) rs a.1 h.1 e f m n t
 
-module _ (two_nyquist_lem : Float) (shape : Shape) (k : ℕ) (labels : List ℕ) (vel : List Float) where
+module _ (two_nyquist : Float) (shape : Shape) (k : ℕ) (labels : List ℕ) (vel : List Float) where
   abbrev rs : List EdgeRecord
   rs = used k (pairs shape labels vel)
 
@@ -77,7 +77,7 @@ module _ (two_nyquist_lem : Float) (shape : Shape) (k : ℕ) (labels : List ℕ)
   regions_from_lem i zero = refl
   regions_from_lem i (suc n) = ap (λ (l : List Region). record { label = i; size = size_in labels i; node = i; count = pos 0 } ∷ l) (regions_from_lem (suc i) n)
 
-  sound_first : (i : ℕ) (r : EdgeRecord) → Fine r → Sound k own (edge_of two_nyquist_lem i r)
+  sound_first : (i : ℕ) (r : EdgeRecord) → Fine r → Sound k own (edge_of two_nyquist i r)
   unfolding edge_of
   sound_first i r g = record {
     first = record { least = omega (arith, g.low, g.less); most = g.high; own = refl };
@@ -85,25 +85,25 @@ module _ (two_nyquist_lem : Float) (shape : Shape) (k : ℕ) (labels : List ℕ)
     weight = omega (arith, g.some);
   }
 
-  proper_first : (i : ℕ) (r : EdgeRecord) → Fine r → (edge_of two_nyquist_lem i r).first ≡ (edge_of two_nyquist_lem i r).second → ⊥
+  proper_first : (i : ℕ) (r : EdgeRecord) → Fine r → (edge_of two_nyquist i r).first ≡ (edge_of two_nyquist i r).second → ⊥
   unfolding edge_of
   proper_first i r g e = omega (arith, g.less)
 
   -- the labels of the first network stand for themselves
-  begun : Standing k labels own (network_by two_nyquist_lem shape k labels vel)
+  begun : Standing k labels own (network_by two_nyquist shape k labels vel)
   unfolding network_by start
   begun = record {
     regions = regions_from_lem 1 k;
     simple = record {
       proper = λ e m l.
-          let v = numbered_mem two_nyquist_lem Fine 0 rs (used_good k (pairs shape labels vel)) e m in
+          let v = numbered_mem two_nyquist Fine 0 rs (used_good k (pairs shape labels vel)) e m in
           subst (λ (x : Edge). x.first ≡ x.second → ⊥) v.3 (proper_first v.0 v.1 v.2);
-      single = λ e f m n l₁ l₂ j. single two_nyquist_lem Fine (λ r g. g.less) 0 rs (used_rise k (pairs shape labels vel)) (used_good k (pairs shape labels vel)) e f m n j;
+      single = λ e f m n l₁ l₂ j. single two_nyquist Fine (λ r g. g.less) 0 rs (used_rise k (pairs shape labels vel)) (used_good k (pairs shape labels vel)) e f m n j;
     };
     sound = λ e m l.
-        let v = numbered_mem two_nyquist_lem Fine 0 rs (used_good k (pairs shape labels vel)) e m in
+        let v = numbered_mem two_nyquist Fine 0 rs (used_good k (pairs shape labels vel)) e m in
         subst (λ (x : Edge). Sound k own x) v.3 (sound_first v.0 v.1 v.2);
-    within = bridged_within two_nyquist_lem shape k labels vel;
+    within = bridged_within two_nyquist shape k labels vel;
     outside = λ l n. refl;
   }
 
@@ -111,7 +111,7 @@ module _ (two_nyquist_lem : Float) (shape : Shape) (k : ℕ) (labels : List ℕ)
 
 pub merges_less : MergesLess
 unfolding merges
-merges_less two_nyquist_lem shape k labels vel = omega (arith, run_less k labels (length (network_by two_nyquist_lem shape k labels vel).edges) own (network_by two_nyquist_lem shape k labels vel) (begun two_nyquist_lem shape k labels vel), roots_most own 1 k)
+merges_less two_nyquist shape k labels vel = omega (arith, run_less k labels (length (network_by two_nyquist shape k labels vel).edges) own (network_by two_nyquist shape k labels vel) (begun two_nyquist shape k labels vel), roots_most own 1 k)
 
 book_long : (l : List ℕ) (s : State) → length (book s l) ≡ length l
 unfolding book
@@ -151,7 +151,7 @@ entered_run k labels l (suc n) f s h = go (choose s.edges) refl (entered_run k l
 
 pub book_replays : BookReplays
 unfolding merges replayed
-book_replays two_nyquist_lem shape k labels vel l = entered_run k labels l (length (network_by two_nyquist_lem shape k labels vel).edges) own (network_by two_nyquist_lem shape k labels vel) (begun two_nyquist_lem shape k labels vel)
+book_replays two_nyquist shape k labels vel l = entered_run k labels l (length (network_by two_nyquist shape k labels vel).edges) own (network_by two_nyquist shape k labels vel) (begun two_nyquist shape k labels vel)
 
 -- ---- a node's gates
 
@@ -269,8 +269,8 @@ held_run k labels (suc n) f s h before v after e = go (choose s.edges) refl befo
 
 pub book_holds_lem : BookHolds
 unfolding merges replayed
-book_holds_lem two_nyquist_lem shape k labels vel before v after e =
-    let h : Held k labels (λ l. entered before (own l)) v = held_run k labels (length (network_by two_nyquist_lem shape k labels vel).edges) own (network_by two_nyquist_lem shape k labels vel) (begun two_nyquist_lem shape k labels vel) before v after e in
+book_holds_lem two_nyquist shape k labels vel before v after e =
+    let h : Held k labels (λ l. entered before (own l)) v = held_run k labels (length (network_by two_nyquist shape k labels vel).edges) own (network_by two_nyquist shape k labels vel) (begun two_nyquist shape k labels vel) before v after e in
     record { base = stands v.base h.base; moved = stands v.moved h.moved; apart = h.apart; weight = h.weight; bridged = h.bridged; gates = h.gates }
   where
     stands : (a : ℕ) → Root k (λ l. entered before (own l)) a → Stands k before a

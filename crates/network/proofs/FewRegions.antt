@@ -83,20 +83,20 @@ no_mark a = go (not (eqb a 0))
     go true = refl
     go false = refl
 
-module _ (two_nyquist_lem : Float) (s : Shape) (k : ℕ) (L : List ℕ) (vel : List Float) (h : used k (pairs s L vel) ≡ []) where
-  pub no_merges : merges (network_by two_nyquist_lem s k L vel) ≡ []
+module _ (two_nyquist : Float) (s : Shape) (k : ℕ) (L : List ℕ) (vel : List Float) (h : used k (pairs s L vel) ≡ []) where
+  pub no_merges : merges (network_by two_nyquist s k L vel) ≡ []
   unfolding network_by merges start numbered
   no_merges = rw h (unfold run in refl)
 
-  pub no_refusal : merges_in_range (network_by two_nyquist_lem s k L vel) ≡ true
+  pub no_refusal : merges_in_range (network_by two_nyquist s k L vel) ≡ true
   unfolding merges_in_range
   no_refusal = rw no_merges (unfold trace all in refl)
 
-  pub no_counts : (a : ℕ) → count_of (replay (network_by two_nyquist_lem s k L vel) (merges (network_by two_nyquist_lem s k L vel))).regions a ≡ pos 0
+  pub no_counts : (a : ℕ) → count_of (replay (network_by two_nyquist s k L vel) (merges (network_by two_nyquist s k L vel))).regions a ≡ pos 0
   no_counts a = rw no_merges (still a)
     where
-      still : (a : ℕ) → count_of (replay (network_by two_nyquist_lem s k L vel) []).regions a ≡ pos 0
+      still : (a : ℕ) → count_of (replay (network_by two_nyquist s k L vel) []).regions a ≡ pos 0
       still a = unfold replay network_by start in count_alone 1 (map (size_in L) (upto k 1)) a
 
-  pub no_marks : (a : ℕ) → mark_of (trace (network_by two_nyquist_lem s k L vel) (merges (network_by two_nyquist_lem s k L vel))) a ≡ 0
+  pub no_marks : (a : ℕ) → mark_of (trace (network_by two_nyquist s k L vel) (merges (network_by two_nyquist s k L vel))) a ≡ 0
   no_marks a = rw no_merges (unfold trace in no_mark a)

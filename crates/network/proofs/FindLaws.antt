@@ -6,7 +6,7 @@ use mathlib.Core.List.{List, []}
 use lib.IntN.{pos}
 use lib.ListN.{length, get_or, replicate, length-replicate}
 use lib.Ieee.{Float, binary64, mul, of_bits, of_int}
-use Rattle.arithmetic.specs.Intervals.{two_nyquist_lem}
+use Rattle.arithmetic.specs.Intervals.{two_nyquist}
 use Rattle.arithmetic.specs.Rounding.{real}
 use Rattle.lists.specs.Inside.Seg.{seg, put}
 use Rattle.lists.specs.Seq.{tabulate}
@@ -39,8 +39,8 @@ replicate_at (suc k) x zero h = refl
 replicate_at (suc k) x (suc i) h = replicate_at k x i (omega arith)
 
 -- 2 × Nyquist as the code has it
-pub width_is : (x : Float) → mul binary64 (of_bits binary64 4611686018427387904) x ≡ two_nyquist_lem x
-unfolding two_nyquist_lem
+pub width_is : (x : Float) → mul binary64 (of_bits binary64 4611686018427387904) x ≡ two_nyquist x
+unfolding two_nyquist
 width_is x = ap (λ (y : Float). mul binary64 y x) two_is
   where
     two_is : of_bits binary64 4611686018427387904 ≡ real (pos 2)
@@ -105,13 +105,13 @@ module _ (o : Options) (vel : List Float) (v : List ℕ) (d : List Float) (k : �
         ∙ seg-put_below counted (n + (k + 1) + (k + 1)) (replicate (k + 1) 0) a b (omega arith)
         ∙ seg-put_below sized (n + (k + 1)) (replicate (k + 1) 1000) a b g
 
-    tables : TablesLeft (network_by (two_nyquist_lem o.nyquist) (shape_of o) k (seg v 0 n) vel) n k (seg v 0 n) u
+    tables : TablesLeft (network_by (two_nyquist o.nyquist) (shape_of o) k (seg v 0 n) vel) n k (seg v 0 n) u
     tables = record {
-      counts = λ g l a. ap unbias (count_at_lem l a) ∙ no_turn ∙ sym (no_counts (two_nyquist_lem o.nyquist) (shape_of o) k (seg v 0 n) vel no_edges l);
+      counts = λ g l a. ap unbias (count_at_lem l a) ∙ no_turn ∙ sym (no_counts (two_nyquist o.nyquist) (shape_of o) k (seg v 0 n) vel no_edges l);
       most = λ g l a. omega (arith, count_at_lem l a);
-      marks = λ g l a. mark_at_lem l a ∙ sym (no_marks (two_nyquist_lem o.nyquist) (shape_of o) k (seg v 0 n) vel no_edges l);
-      entries = λ g. subst (λ (l : List ℕ). Entries (λ j. get_or u (book_at n k + j) 0) (length l) (book (network_by (two_nyquist_lem o.nyquist) (shape_of o) k (seg v 0 n) vel) l))
-          (sym (no_merges (two_nyquist_lem o.nyquist) (shape_of o) k (seg v 0 n) vel no_edges)) (unfold book in entries_none (λ j. get_or u (book_at n k + j) 0));
+      marks = λ g l a. mark_at_lem l a ∙ sym (no_marks (two_nyquist o.nyquist) (shape_of o) k (seg v 0 n) vel no_edges l);
+      entries = λ g. subst (λ (l : List ℕ). Entries (λ j. get_or u (book_at n k + j) 0) (length l) (book (network_by (two_nyquist o.nyquist) (shape_of o) k (seg v 0 n) vel) l))
+          (sym (no_merges (two_nyquist o.nyquist) (shape_of o) k (seg v 0 n) vel no_edges)) (unfold book in entries_none (λ j. get_or u (book_at n k + j) 0));
       sizes = unfold sizes_at in low n (k + 1) (omega arith)
           ∙ ap (seg sized n) (sym ls)
           ∙ seg-put_same v n (tabulate (k + 1) (size_in (seg v 0 n))) (omega (arith, ls, q.words));
@@ -120,10 +120,10 @@ module _ (o : Options) (vel : List Float) (v : List ℕ) (d : List Float) (k : �
 
     pub few_left : Leaves (found_in v n k) (network_for o (found_in v n k) vel) n u (Regions (record { regions = k; merges = 0 }))
     few_left =
-        let t = network_by (two_nyquist_lem o.nyquist) (shape_of o) k (seg v 0 n) vel in
+        let t = network_by (two_nyquist o.nyquist) (shape_of o) k (seg v 0 n) vel in
         record {
-          answer = ap (λ (l : List ℕ). Regions (record { regions = k; merges = length l })) (sym (no_merges (two_nyquist_lem o.nyquist) (shape_of o) k (seg v 0 n) vel no_edges))
-              ∙ sym (ap (finding_of k) (ran_yes t (no_refusal (two_nyquist_lem o.nyquist) (shape_of o) k (seg v 0 n) vel no_edges)));
+          answer = ap (λ (l : List ℕ). Regions (record { regions = k; merges = length l })) (sym (no_merges (two_nyquist o.nyquist) (shape_of o) k (seg v 0 n) vel no_edges))
+              ∙ sym (ap (finding_of k) (ran_yes t (no_refusal (two_nyquist o.nyquist) (shape_of o) k (seg v 0 n) vel no_edges)));
           tables = tables;
         }
 
@@ -141,11 +141,11 @@ module _ (o : Options) (vel : List Float) (v : List ℕ) (d : List Float) (k : �
     floats = q.floats;
   })
 
-  pub reduced_left : (u : List ℕ) (x : Ran) (f : Shape) (x2 : Float) → f ≡ shape_of o → x2 ≡ two_nyquist_lem o.nyquist → Reduced (network_by x2 f k (seg v 0 n) vel) n k v u x → (r : Finding) → r ≡ finding_of k x
+  pub reduced_left : (u : List ℕ) (x : Ran) (f : Shape) (x2 : Float) → f ≡ shape_of o → x2 ≡ two_nyquist o.nyquist → Reduced (network_by x2 f k (seg v 0 n) vel) n k v u x → (r : Finding) → r ≡ finding_of k x
       → Leaves (found_in v n k) (network_for o (found_in v n k) vel) n u r
   reduced_left u x f x2 ef ew R r e =
-      let R' : Reduced (network_by (two_nyquist_lem o.nyquist) (shape_of o) k (seg v 0 n) vel) n k v u x =
-      subst (λ (y : Shape). Reduced (network_by (two_nyquist_lem o.nyquist) y k (seg v 0 n) vel) n k v u x) ef
+      let R' : Reduced (network_by (two_nyquist o.nyquist) (shape_of o) k (seg v 0 n) vel) n k v u x =
+      subst (λ (y : Shape). Reduced (network_by (two_nyquist o.nyquist) y k (seg v 0 n) vel) n k v u x) ef
       (subst (λ (y : Float). Reduced (network_by y f k (seg v 0 n) vel) n k v u x) ew R) in
       record { answer = e ∙ ap (finding_of k) R'.answer; tables = R'.tables }
 

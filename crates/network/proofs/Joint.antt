@@ -33,13 +33,13 @@ abbrev pub blank : EdgeRecord
 blank = record { one = 0; two = 0; count = 0; sum1 = nan; sum2 = nan; bridged = 0 }
 
 -- the tables of m edges, from records of k regions, and of the sizes of labels 0 to k
-pub record Filled (two_nyquist_lem : Float) (k m : ℕ) (L : List ℕ) (rs : List EdgeRecord) (s : Tables) : Type 0 where
+pub record Filled (two_nyquist : Float) (k m : ℕ) (L : List ℕ) (rs : List EdgeRecord) (s : Tables) : Type 0 where
   pub count : m ≡ length rs
   pub weight : s.at weight ≡ map (λ r. r.count) rs
   pub first : s.at first ≡ map (λ r. r.one) rs
   pub second : s.at second ≡ map (λ r. r.two) rs
   pub bridged : s.at bridged ≡ map (λ r. r.bridged) rs
-  pub diff : seg s.diff 0 m ≡ map (difference two_nyquist_lem) rs
+  pub diff : seg s.diff 0 m ≡ map (difference two_nyquist) rs
   pub size : s.at size ≡ tabulate (k + 1) (size_in L)
 
 -- ---- an edge of the tables is the record's
@@ -50,13 +50,13 @@ narrowed_fits nan = nan-fits binary32
 narrowed_fits (inf s) = inf-fits binary32 s
 narrowed_fits (fin s m e) = round-fits binary32 s _ _
 
-upto_numbered : (two_nyquist_lem : Float) (f : ℕ → Edge) (rs : List EdgeRecord) (k : ℕ) → ((j : ℕ) → j < length rs → f (k + j) ≡ Network.edge_of two_nyquist_lem (k + j) (get_or rs j blank)) → map f (upto (length rs) k) ≡ numbered two_nyquist_lem k rs
+upto_numbered : (two_nyquist : Float) (f : ℕ → Edge) (rs : List EdgeRecord) (k : ℕ) → ((j : ℕ) → j < length rs → f (k + j) ≡ Network.edge_of two_nyquist (k + j) (get_or rs j blank)) → map f (upto (length rs) k) ≡ numbered two_nyquist k rs
 unfolding upto numbered
-upto_numbered two_nyquist_lem f [] k h = refl
-upto_numbered two_nyquist_lem f (r ∷ rs) k h =
+upto_numbered two_nyquist f [] k h = refl
+upto_numbered two_nyquist f (r ∷ rs) k h =
     let z : k + 0 ≡ k = omega arith in
-    let a : f k ≡ Network.edge_of two_nyquist_lem k r = subst (λ (i : ℕ). f i ≡ Network.edge_of two_nyquist_lem i r) z (h 0 (omega arith)) in
-    rw (a, upto_numbered two_nyquist_lem f rs (suc k) (λ j l. let y : suc k + j ≡ k + suc j = omega arith in subst (λ (i : ℕ). f i ≡ Network.edge_of two_nyquist_lem i (get_or rs j blank)) (sym y) (h (suc j) (omega arith)))) refl
+    let a : f k ≡ Network.edge_of two_nyquist k r = subst (λ (i : ℕ). f i ≡ Network.edge_of two_nyquist i r) z (h 0 (omega arith)) in
+    rw (a, upto_numbered two_nyquist f rs (suc k) (λ j l. let y : suc k + j ≡ k + suc j = omega arith in subst (λ (i : ℕ). f i ≡ Network.edge_of two_nyquist i (get_or rs j blank)) (sym y) (h (suc j) (omega arith)))) refl
 
 -- ---- the gates of labels i to i + n - 1
 
@@ -106,7 +106,7 @@ pub gates_most : (L : List ℕ) (i n : ℕ) → gates_from L i n ≤ length L
 gates_most [] i n = omega (arith, none_from i n)
 gates_most (x ∷ L) i n = omega (arith, more_from x L i n, hits_most x i n, gates_most L i n)
 
-module _ (two_nyquist_lem : Float) (k m : ℕ) (L : List ℕ) (ps : List Pair) (s : Tables) (F : Filled two_nyquist_lem k m L (used k ps) s) where
+module _ (two_nyquist : Float) (k m : ℕ) (L : List ℕ) (ps : List Pair) (s : Tables) (F : Filled two_nyquist k m L (used k ps) s) where
   abbrev at : ℕ → EdgeRecord
   at j = get_or (used k ps) j blank
 
@@ -128,21 +128,21 @@ module _ (two_nyquist_lem : Float) (k m : ℕ) (L : List ℕ) (ps : List Pair) (
   bridged_of : (j : ℕ) → j < m → get_or (s.at bridged) j 0 ≡ (get_or (used k ps) j blank).bridged
   bridged_of j h = ap (λ (l : List ℕ). get_or l j 0) F.bridged ∙ map_at (λ (r : EdgeRecord). r.bridged) (used k ps) j blank 0 (in_rs j h)
 
-  diff_of : (j : ℕ) → j < m → get_or s.diff j nan ≡ difference two_nyquist_lem (get_or (used k ps) j blank)
+  diff_of : (j : ℕ) → j < m → get_or s.diff j nan ≡ difference two_nyquist (get_or (used k ps) j blank)
   diff_of j h =
       sym (get_or-seg s.diff 0 m j nan h ∙ ap (λ (i : ℕ). get_or s.diff i nan) (omega arith))
-      ∙ ap (λ (l : List Float). get_or l j nan) F.diff ∙ map_at (difference two_nyquist_lem) (used k ps) j blank nan (in_rs j h)
+      ∙ ap (λ (l : List Float). get_or l j nan) F.diff ∙ map_at (difference two_nyquist) (used k ps) j blank nan (in_rs j h)
 
-  edge_of_lem : (j : ℕ) → j < m → edge_of s j ≡ Network.edge_of two_nyquist_lem j (get_or (used k ps) j blank)
+  edge_of_lem : (j : ℕ) → j < m → edge_of s j ≡ Network.edge_of two_nyquist j (get_or (used k ps) j blank)
   unfolding edge_of Network.edge_of
   edge_of_lem j h =
       let live : not (eqb (get_or (s.at weight) j 0) 0) ≡ true = ap (λ (b : Bool). not b) (ne_eqb (get_or (s.at weight) j 0) 0 (λ e. omega (arith, weight_of j h, (good j h).some))) in
       λ i. record { num = j; live = live i; first = first_of j h i; second = second_of j h i; link = record { weight = weight_of j h i; diff = diff_of j h i; bridged = bridged_of j h i } }
 
-  pub edges_are : map (edge_of s) (upto m 0) ≡ numbered two_nyquist_lem 0 (used k ps)
+  pub edges_are : map (edge_of s) (upto m 0) ≡ numbered two_nyquist 0 (used k ps)
   edges_are =
       ap (λ (x : ℕ). map (edge_of s) (upto x 0)) F.count
-      ∙ upto_numbered two_nyquist_lem (edge_of s) (used k ps) 0 (λ j h. let z : 0 + j ≡ j = omega arith in subst (λ (i : ℕ). edge_of s i ≡ Network.edge_of two_nyquist_lem i (get_or (used k ps) j blank)) (sym z) (edge_of_lem j (omega (arith, F.count))))
+      ∙ upto_numbered two_nyquist (edge_of s) (used k ps) 0 (λ j h. let z : 0 + j ≡ j = omega arith in subst (λ (i : ℕ). edge_of s i ≡ Network.edge_of two_nyquist i (get_or (used k ps) j blank)) (sym z) (edge_of_lem j (omega (arith, F.count))))
 
   -- ---- the network is simple
 

@@ -33,11 +33,11 @@ use Rattle.network.specs.declared.network.Ran.{Ran}
 use Rattle.network.proofs.Joint.{Filled, raw}
 use Rattle.network.proofs.Started.{network, Left, few_edges, answer, left, no_region_0}
 
-module _ (f : Shape) (u : List ℕ) (d vel : List Float) (n k : ℕ) (two_nyquist_lem : Float) (q : Reduces f u d vel n k) where
+module _ (f : Shape) (u : List ℕ) (d vel : List Float) (n k : ℕ) (two_nyquist : Float) (q : Reduces f u d vel n k) where
   abbrev ps : List Pair
   ps = pairs f (seg u 0 n) vel
 
-  module _ (v1 : List ℕ) (d1 : List Float) (e : ℕ) (l1 : length v1 ≡ length u) (ld : length d1 ≡ length d) (E : Edged two_nyquist_lem n u v1 d1 (13 * n) e (used k ps)) where
+  module _ (v1 : List ℕ) (d1 : List Float) (e : ℕ) (l1 : length v1 ≡ length u) (ld : length d1 ≡ length d) (E : Edged two_nyquist n u v1 d1 (13 * n) e (used k ps)) where
     pub sizes_ask : Sizes v1 n n (k + 1)
     sizes_ask = record {
       above = omega arith;
@@ -90,7 +90,7 @@ module _ (f : Shape) (u : List ℕ) (d vel : List Float) (n k : ℕ) (two_nyquis
             small = omega (arith, q.small, q.few, E.few);
           }
 
-          pub filled : Filled two_nyquist_lem k e (seg u 0 n) (used k ps) (view e (k + 1) (seg v3 (13 * n) c) d1)
+          pub filled : Filled two_nyquist k e (seg u 0 n) (used k ps) (view e (k + 1) (seg v3 (13 * n) c) d1)
           unfolding view
           filled = record {
             count = E.count;
@@ -108,7 +108,7 @@ module _ (f : Shape) (u : List ℕ) (d vel : List Float) (n k : ℕ) (two_nyquis
           }
 
           pub raw_ask : Raw e (k + 1) (view e (k + 1) (seg v3 (13 * n) c) d1)
-          raw_ask = raw two_nyquist_lem k e (seg u 0 n) ps (view e (k + 1) (seg v3 (13 * n) c) d1) filled n E.light E.spans (omega (arith, q.small)) (length-seg u 0 n (omega (arith, q.words)))
+          raw_ask = raw two_nyquist k e (seg u 0 n) ps (view e (k + 1) (seg v3 (13 * n) c) d1) filled n E.light E.spans (omega (arith, q.small)) (length-seg u 0 n (omega (arith, q.words)))
 
           module _ (y : List ℕ) (d2 : List Float) (r : Ran) (ly : length y ≡ length (seg v3 (13 * n) c)) (A : AllIs e (k + 1) (view e (k + 1) (seg v3 (13 * n) c) d1) y d2 r)
               (v4 : List ℕ) (e4 : v4 ≡ put_mid (13 * n) c v3 y) where
@@ -219,12 +219,12 @@ module _ (f : Shape) (u : List ℕ) (d vel : List Float) (n k : ℕ) (two_nyquis
                       ∙ ap (λ (x : List ℕ). get_or x (n + (k + 1) + (k + 1)) 0) e8
                       ∙ get_or-set_same v7 (n + (k + 1) + (k + 1)) 0 0 (omega (arith, ap length e7, length-set v (n + (k + 1)) 1000, lv, q.words, q.few))
 
-                  net : network_by two_nyquist_lem f k (seg u 0 n) vel ≡ network two_nyquist_lem k e (seg u 0 n) ps (view e (k + 1) (seg v3 (13 * n) c) d1) filled
+                  net : network_by two_nyquist f k (seg u 0 n) vel ≡ network two_nyquist k e (seg u 0 n) ps (view e (k + 1) (seg v3 (13 * n) c) d1) filled
                   net = unfold network_by network in refl
 
-                  pub reduced : Reduced (network_by two_nyquist_lem f k (seg u 0 n) vel) n k u v8 r
+                  pub reduced : Reduced (network_by two_nyquist f k (seg u 0 n) vel) n k u v8 r
                   reduced = rw net (record {
-                    answer = answer two_nyquist_lem k e (seg u 0 n) ps (view e (k + 1) (seg v3 (13 * n) c) d1) filled y d2 r A;
+                    answer = answer two_nyquist k e (seg u 0 n) ps (view e (k + 1) (seg v3 (13 * n) c) d1) filled y d2 r A;
                     tables = record {
                       counts = λ g l h. ⊎_elim
                           (λ z. ap (λ (i : ℕ). unbias (get_or v8 (counts_at n k + i) 0)) z ∙ ap unbias count_0' ∙ zero_count ∙ ap (count_of _) (sym z))
@@ -244,17 +244,17 @@ module _ (f : Shape) (u : List ℕ) (d vel : List Float) (n k : ℕ) (two_nyquis
                     };
                   })
                     where
-                      leaves : merges_in_range (network two_nyquist_lem k e (seg u 0 n) ps (view e (k + 1) (seg v3 (13 * n) c) d1) filled) ≡ true → Left two_nyquist_lem k e (seg u 0 n) ps (view e (k + 1) (seg v3 (13 * n) c) d1) filled y d2
-                      leaves g = unfold merges_in_range in left two_nyquist_lem k e (seg u 0 n) ps (view e (k + 1) (seg v3 (13 * n) c) d1) filled y d2 r A g
+                      leaves : merges_in_range (network two_nyquist k e (seg u 0 n) ps (view e (k + 1) (seg v3 (13 * n) c) d1) filled) ≡ true → Left two_nyquist k e (seg u 0 n) ps (view e (k + 1) (seg v3 (13 * n) c) d1) filled y d2
+                      leaves g = unfold merges_in_range in left two_nyquist k e (seg u 0 n) ps (view e (k + 1) (seg v3 (13 * n) c) d1) filled y d2 r A g
 
                       net_is : State
-                      net_is = network two_nyquist_lem k e (seg u 0 n) ps (view e (k + 1) (seg v3 (13 * n) c) d1) filled
+                      net_is = network two_nyquist k e (seg u 0 n) ps (view e (k + 1) (seg v3 (13 * n) c) d1) filled
 
                       few_merges : length (merges net_is) ≤ k - 1
-                      few_merges = subst (λ (t : State). length (merges t) ≤ k - 1) net (merges_less two_nyquist_lem f k (seg u 0 n) vel)
+                      few_merges = subst (λ (t : State). length (merges t) ≤ k - 1) net (merges_less two_nyquist f k (seg u 0 n) vel)
 
                       merges_in : length (merges net_is) ≤ e
-                      merges_in = few_edges two_nyquist_lem k e (seg u 0 n) ps (view e (k + 1) (seg v3 (13 * n) c) d1) filled
+                      merges_in = few_edges two_nyquist k e (seg u 0 n) ps (view e (k + 1) (seg v3 (13 * n) c) d1) filled
 
                       log_of' : (j : ℕ) → j < 6 * (k - 1) → j < 6 * e → get_or v8 (book_at n k + j) 0 ≡ log_in (view e (k + 1) y d2) j
                       log_of' j a b = unfold book_at in log_of j a b
@@ -262,8 +262,8 @@ module _ (f : Shape) (u : List ℕ) (d vel : List Float) (n k : ℕ) (two_nyquis
                       no_turn : unbias 1000 ≡ pos 0
                       no_turn = unfold unbias in refl
 
-                      zero_count : unbias 1000 ≡ count_of (replay (network two_nyquist_lem k e (seg u 0 n) ps (view e (k + 1) (seg v3 (13 * n) c) d1) filled) (merges (network two_nyquist_lem k e (seg u 0 n) ps (view e (k + 1) (seg v3 (13 * n) c) d1) filled))).regions 0
-                      zero_count = no_turn ∙ sym (no_region_0 two_nyquist_lem k e (seg u 0 n) ps (view e (k + 1) (seg v3 (13 * n) c) d1) filled)
+                      zero_count : unbias 1000 ≡ count_of (replay (network two_nyquist k e (seg u 0 n) ps (view e (k + 1) (seg v3 (13 * n) c) d1) filled) (merges (network two_nyquist k e (seg u 0 n) ps (view e (k + 1) (seg v3 (13 * n) c) d1) filled))).regions 0
+                      zero_count = no_turn ∙ sym (no_region_0 two_nyquist k e (seg u 0 n) ps (view e (k + 1) (seg v3 (13 * n) c) d1) filled)
 
                       count_0' : get_or v8 (counts_at n k + 0) 0 ≡ 1000
                       count_0' = unfold counts_at in count_0
@@ -271,7 +271,7 @@ module _ (f : Shape) (u : List ℕ) (d vel : List Float) (n k : ℕ) (two_nyquis
                       count_of' : (l : ℕ) → 1 ≤ l → l ≤ k → get_or v8 (counts_at n k + l) 0 ≡ get_or ((view e (k + 1) y d2).at count) l 0
                       count_of' l a b = unfold counts_at in count_of_lem l a b
 
-                      zero_mark : mark_of (trace (network two_nyquist_lem k e (seg u 0 n) ps (view e (k + 1) (seg v3 (13 * n) c) d1) filled) (merges (network two_nyquist_lem k e (seg u 0 n) ps (view e (k + 1) (seg v3 (13 * n) c) d1) filled))) 0 ≡ 0
+                      zero_mark : mark_of (trace (network two_nyquist k e (seg u 0 n) ps (view e (k + 1) (seg v3 (13 * n) c) d1) filled) (merges (network two_nyquist k e (seg u 0 n) ps (view e (k + 1) (seg v3 (13 * n) c) d1) filled))) 0 ≡ 0
                       zero_mark = unfold mark_of in refl
 
                       mark_0' : get_or v8 (marks_at n k + 0) 0 ≡ 0

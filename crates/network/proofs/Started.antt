@@ -54,18 +54,18 @@ any_edge i = true
 label_ok : (l : ℕ) → 0 < l → not (eqb l 0) ≡ true
 label_ok l h = ap (λ (b : Bool). not b) (ne_eqb l 0 (λ e. omega arith))
 
-module _ (two_nyquist_lem : Float) (k m : ℕ) (L : List ℕ) (ps : List Pair) (s : Tables) (F : Filled two_nyquist_lem k m L (used k ps) s) where
+module _ (two_nyquist : Float) (k m : ℕ) (L : List ℕ) (ps : List Pair) (s : Tables) (F : Filled two_nyquist k m L (used k ps) s) where
   tables : State
   tables = raw_net m (k + 1) s
 
   unfoldable pub network : State
-  network = start two_nyquist_lem (used k ps) (map (size_in L) (upto k 1))
+  network = start two_nyquist (used k ps) (map (size_in L) (upto k 1))
 
   edges_ok : All (OkE some_label any_edge) (map (edge_of s) (upto m 0))
   edges_ok = all_upto (OkE some_label any_edge) (edge_of s) 0 m (λ j a b.
       let h : j < m = omega arith in
-      let g = good two_nyquist_lem k m L ps s F j h in
-      unfold edge_of in (label_ok (get_or (s.at first) j 0) (omega (arith, first_of two_nyquist_lem k m L ps s F j h, g.low, g.less)), label_ok (get_or (s.at second) j 0) (omega (arith, second_of two_nyquist_lem k m L ps s F j h, g.low))))
+      let g = good two_nyquist k m L ps s F j h in
+      unfold edge_of in (label_ok (get_or (s.at first) j 0) (omega (arith, first_of two_nyquist k m L ps s F j h, g.low, g.less)), label_ok (get_or (s.at second) j 0) (omega (arith, second_of two_nyquist k m L ps s F j h, g.low))))
 
   closed : Closed some_label any_edge tables
   unfolding tables raw_net
@@ -74,7 +74,7 @@ module _ (two_nyquist_lem : Float) (k m : ℕ) (L : List ℕ) (ps : List Pair) (
     regions_ok = all_upto (OkR some_label any_edge) (raw_region s) 0 (k + 1) (λ i a b. unfold raw_region in refl);
   }
 
-  regions_from_lem : (i n : ℕ) → map (region two_nyquist_lem k m L ps s F) (upto n i) ≡ alone i (map (size_in L) (upto n i))
+  regions_from_lem : (i n : ℕ) → map (region two_nyquist k m L ps s F) (upto n i) ≡ alone i (map (size_in L) (upto n i))
   unfolding upto alone region
   regions_from_lem i zero = refl
   regions_from_lem i (suc n) = ap (λ (l : List Region). record { label = i; size = size_in L i; node = i; count = pos 0 } ∷ l) (regions_from_lem (suc i) n)
@@ -83,20 +83,20 @@ module _ (two_nyquist_lem : Float) (k m : ℕ) (L : List ℕ) (ps : List Pair) (
   unfolding restrict tables raw_net network start
   restricted = λ i. record { edges = es i; regions = rs i }
     where
-      es : keep (edge_in some_label any_edge) (map (edge_of s) (upto m 0)) ≡ Rattle.network.specs.Network.numbered two_nyquist_lem 0 (used k ps)
-      es = keep_every (edge_in some_label any_edge) (map (edge_of s) (upto m 0)) (λ e. unfold edge_in in refl) ∙ edges_are two_nyquist_lem k m L ps s F
+      es : keep (edge_in some_label any_edge) (map (edge_of s) (upto m 0)) ≡ Rattle.network.specs.Network.numbered two_nyquist 0 (used k ps)
+      es = keep_every (edge_in some_label any_edge) (map (edge_of s) (upto m 0)) (λ e. unfold edge_in in refl) ∙ edges_are two_nyquist k m L ps s F
 
-      named : (i : ℕ) → 1 ≤ i → region_in some_label any_edge (region two_nyquist_lem k m L ps s F i) ≡ true
+      named : (i : ℕ) → 1 ≤ i → region_in some_label any_edge (region two_nyquist k m L ps s F i) ≡ true
       named i h = unfold region_in region in label_ok i h
 
-      without_0 : keep (region_in some_label any_edge) (map (region two_nyquist_lem k m L ps s F) (upto (suc k) 0)) ≡ keep (region_in some_label any_edge) (map (region two_nyquist_lem k m L ps s F) (upto k 1))
+      without_0 : keep (region_in some_label any_edge) (map (region two_nyquist k m L ps s F) (upto (suc k) 0)) ≡ keep (region_in some_label any_edge) (map (region two_nyquist k m L ps s F) (upto k 1))
       without_0 = unfold upto keep region region_in in refl
 
       rs : keep (region_in some_label any_edge) (map (raw_region s) (upto (k + 1) 0)) ≡ alone 1 (map (size_in L) (upto k 1))
       rs =
-          ap (keep (region_in some_label any_edge)) (regions_are two_nyquist_lem k m L ps s F ∙ ap (λ (x : ℕ). map (region two_nyquist_lem k m L ps s F) (upto x 0)) (add-one k))
+          ap (keep (region_in some_label any_edge)) (regions_are two_nyquist k m L ps s F ∙ ap (λ (x : ℕ). map (region two_nyquist k m L ps s F) (upto x 0)) (add-one k))
           ∙ without_0
-          ∙ keep_all (region_in some_label any_edge) (map (region two_nyquist_lem k m L ps s F) (upto k 1)) (all_upto (λ r. region_in some_label any_edge r ≡ true) (region two_nyquist_lem k m L ps s F) 1 k (λ i a b. named i a))
+          ∙ keep_all (region_in some_label any_edge) (map (region two_nyquist k m L ps s F) (upto k 1)) (all_upto (λ r. region_in some_label any_edge r ≡ true) (region two_nyquist k m L ps s F) 1 k (λ i a b. named i a))
           ∙ regions_from_lem 1 k
 
   -- ---- so the two runs are one

@@ -7,14 +7,14 @@ use Rattle.network.specs.Book.{Entry, book, replayed}
 
 -- the book of the network of labelled gates
 abbrev pub book_by : Float → Shape → ℕ → List ℕ → List Float → List Entry
-book_by two_nyquist_lem shape k labels vel = book (network_by two_nyquist_lem shape k labels vel) (merges (network_by two_nyquist_lem shape k labels vel))
+book_by two_nyquist shape k labels vel = book (network_by two_nyquist shape k labels vel) (merges (network_by two_nyquist shape k labels vel))
 
 -- `book_replays`: replaying the entries over the labels gives the uncentred counts, label 0 included
 abbrev pub BookReplays : Type 0
 BookReplays =
-    (two_nyquist_lem : Float) (shape : Shape) (k : ℕ) (labels : List ℕ) (vel : List Float) (l : ℕ)
-    → let s = network_by two_nyquist_lem shape k labels vel in
-    (replayed (book_by two_nyquist_lem shape k labels vel) l).count ≡ count_of (replay s (merges s)).regions l
+    (two_nyquist : Float) (shape : Shape) (k : ℕ) (labels : List ℕ) (vel : List Float) (l : ℕ)
+    → let s = network_by two_nyquist shape k labels vel in
+    (replayed (book_by two_nyquist shape k labels vel) l).count ≡ count_of (replay s (merges s)).regions l
 
 -- a node that stands after these entries: a label of a region that is still its own node
 pub record Stands (k : ℕ) (vs : List Entry) (a : ℕ) : Type 0 where
@@ -35,8 +35,8 @@ pub record EntryHolds (k : ℕ) (labels : List ℕ) (before : List Entry) (v : E
 -- `book_holds_lem`: it holds of every entry
 abbrev pub BookHolds : Type 0
 BookHolds =
-    (two_nyquist_lem : Float) (shape : Shape) (k : ℕ) (labels : List ℕ) (vel : List Float) (before : List Entry) (v : Entry) (after : List Entry)
-    → book_by two_nyquist_lem shape k labels vel ≡ before ++ (v ∷ after)
+    (two_nyquist : Float) (shape : Shape) (k : ℕ) (labels : List ℕ) (vel : List Float) (before : List Entry) (v : Entry) (after : List Entry)
+    → book_by two_nyquist shape k labels vel ≡ before ++ (v ∷ after)
     → EntryHolds k labels before v
 
 -- `book_counts`: there is an entry for each merge
@@ -46,5 +46,5 @@ BookCounts = (s : State) → length (book s (merges s)) ≡ length (merges s)
 -- `merges_less`: there are at most regions less one merges
 abbrev pub MergesLess : Type 0
 MergesLess =
-    (two_nyquist_lem : Float) (shape : Shape) (k : ℕ) (labels : List ℕ) (vel : List Float)
-    → length (merges (network_by two_nyquist_lem shape k labels vel)) ≤ k - 1
+    (two_nyquist : Float) (shape : Shape) (k : ℕ) (labels : List ℕ) (vel : List Float)
+    → length (merges (network_by two_nyquist shape k labels vel)) ≤ k - 1

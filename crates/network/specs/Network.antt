@@ -356,18 +356,18 @@ mark_of vs l = cond (not (eqb l 0) && marked vs l) 1 0
 
 -- An edge of number k from its record, with 2 × Nyquist.
 unfoldable pub edge_of : Float → ℕ → EdgeRecord → Edge
-edge_of two_nyquist_lem k r = record {
+edge_of two_nyquist k r = record {
   num = k;
   live = true;
   first = r.one;
   second = r.two;
-  link = record { weight = r.count; diff = difference two_nyquist_lem r; bridged = r.bridged };
+  link = record { weight = r.count; diff = difference two_nyquist r; bridged = r.bridged };
 }
 
 -- The edges of records, numbered from k.
 unfoldable pub numbered : Float → ℕ → List EdgeRecord → List Edge
-numbered two_nyquist_lem k [] = []
-numbered two_nyquist_lem k (r ∷ rs) = edge_of two_nyquist_lem k r ∷ numbered two_nyquist_lem (suc k) rs
+numbered two_nyquist k [] = []
+numbered two_nyquist k (r ∷ rs) = edge_of two_nyquist k r ∷ numbered two_nyquist (suc k) rs
 
 -- Regions of these sizes, labelled from k, each a node of its own with count 0.
 unfoldable pub alone : ℕ → List ℕ → List Region
@@ -380,11 +380,11 @@ size_in labels l = length (keep (eqb l) labels)
 
 -- The first state: edges numbered from 0, regions from 1.
 unfoldable pub start : Float → List EdgeRecord → List ℕ → State
-start two_nyquist_lem rs ns = record { edges = numbered two_nyquist_lem 0 rs; regions = alone 1 ns }
+start two_nyquist rs ns = record { edges = numbered two_nyquist 0 rs; regions = alone 1 ns }
 
 -- The network of labelled gates, k being the number of regions.
 unfoldable pub network_by : Float → Shape → ℕ → List ℕ → List Float → State
-network_by two_nyquist_lem shape k labels vel = start two_nyquist_lem (used k (pairs shape labels vel)) (map (size_in labels) (upto k 1))
+network_by two_nyquist shape k labels vel = start two_nyquist (used k (pairs shape labels vel)) (map (size_in labels) (upto k 1))
 
 -- Question 9 of every merge.
 unfoldable pub merges_in_range : State → Bool

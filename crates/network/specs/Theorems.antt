@@ -8,8 +8,8 @@ use Rattle.network.specs.Network.{Edge, State, merges, replay, trace, network_by
 -- `bridged_within`: from the network of labelled gates, after any steps, no edge has more bridged pairs than its weight
 abbrev pub BridgedWithin : Type 0
 BridgedWithin =
-    (two_nyquist_lem : Float) (shape : Shape) (k : ℕ) (labels : List ℕ) (vel : List Float) (l : List ℕ)
-    → All (λ e. e.link.bridged ≤ e.link.weight) (replay (network_by two_nyquist_lem shape k labels vel) l).edges
+    (two_nyquist : Float) (shape : Shape) (k : ℕ) (labels : List ℕ) (vel : List Float) (l : List ℕ)
+    → All (λ e. e.link.bridged ≤ e.link.weight) (replay (network_by two_nyquist shape k labels vel) l).edges
 
 -- an edge, and a network, of which the bridged pairs are forgotten
 unfoldable pub plain : Edge → Edge

@@ -13,7 +13,7 @@ use lib.Ieee.{Float, nan, binary32, fits, of_bits}
 use lib.Ieee.Bits.{of_bits-fits}
 use lib.Ieee.Fits.{nan-fits}
 use borrow.Author.Tests.{le-leb}
-use Rattle.arithmetic.specs.Intervals.{two_nyquist_lem}
+use Rattle.arithmetic.specs.Intervals.{two_nyquist}
 use Rattle.arithmetic.specs.Inside.Asked.{Rising}
 use Rattle.arithmetic.proofs.Rising.{sweep_limits_rise}
 use Rattle.labels.specs.Label.{Found}
@@ -106,7 +106,7 @@ module _ (s : Sweep) (limits : List Float) where
     where
       go : (b : Bool) → length (entries_if b) ≤ found.number - 1
       go true = omega arith
-      go false = omega (arith, book_counts (network_of s found), merges_less (two_nyquist_lem s.nyquist) s.shape found.number found.labels s.vel)
+      go false = omega (arith, book_counts (network_of s found), merges_less (two_nyquist s.nyquist) s.shape found.number found.labels s.vel)
 
 -- ---- a call with a book that is long enough
 

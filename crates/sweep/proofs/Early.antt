@@ -1,6 +1,6 @@
 -- The early ends: there is no edge, so the network's merges are none, its counts 0 and no region is marked. Assumes nothing.
 use Rattle.std.proofs.Common.{◌≡◌, ℕ, Bool, true, false, ◌||◌, ltb, List, [], ◌∷◌, pos, sym, refl, true≢false, ltb-true}
-use Rattle.arithmetic.specs.Intervals.{two_nyquist_lem}
+use Rattle.arithmetic.specs.Intervals.{two_nyquist}
 use Rattle.labels.specs.Label.{Found}
 use Rattle.edges.specs.Edges.{Pair, used}
 use Rattle.network.specs.Network.{merges, trace, count_of, mark_of}
@@ -19,12 +19,12 @@ module _ (s : Sweep) (f : Found) (h : early s f ≡ true) where
 
   pub early_merges : merges (network_of s f) ≡ []
   unfolding network_of pairs_of
-  early_merges = no_merges (two_nyquist_lem s.nyquist) s.shape f.number f.labels s.vel used_early
+  early_merges = no_merges (two_nyquist s.nyquist) s.shape f.number f.labels s.vel used_early
 
   pub early_counts : (a : ℕ) → count_of (final (network_of s f)).regions a ≡ pos 0
   unfolding final network_of pairs_of
-  early_counts = no_counts (two_nyquist_lem s.nyquist) s.shape f.number f.labels s.vel used_early
+  early_counts = no_counts (two_nyquist s.nyquist) s.shape f.number f.labels s.vel used_early
 
   pub early_marks : (a : ℕ) → mark_of (trace (network_of s f) (merges (network_of s f))) a ≡ 0
   unfolding network_of pairs_of
-  early_marks = no_marks (two_nyquist_lem s.nyquist) s.shape f.number f.labels s.vel used_early
+  early_marks = no_marks (two_nyquist s.nyquist) s.shape f.number f.labels s.vel used_early

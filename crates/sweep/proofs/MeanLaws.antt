@@ -139,9 +139,9 @@ unfolding alone
 alone_sizes [] j = refl
 alone_sizes (n ∷ ns) j = ap (λ (t : List ℕ). n ∷ t) (alone_sizes ns (suc j))
 
-module _ (two_nyquist_lem : Float) (es : List EdgeRecord) (k : ℕ) (S : ℕ → ℕ) (l : List ℕ) where
-  pub last_labels : map (λ (r : Region). r.label) (replay (start two_nyquist_lem es (map S (upto k 1))) l).regions ≡ upto k 1
-  last_labels = replay_kept (λ (r : Region). r.label) (λ p r. unfold move in refl) l (start two_nyquist_lem es (map S (upto k 1))) ∙ (unfold start in alone_labels k 1 S 1)
+module _ (two_nyquist : Float) (es : List EdgeRecord) (k : ℕ) (S : ℕ → ℕ) (l : List ℕ) where
+  pub last_labels : map (λ (r : Region). r.label) (replay (start two_nyquist es (map S (upto k 1))) l).regions ≡ upto k 1
+  last_labels = replay_kept (λ (r : Region). r.label) (λ p r. unfold move in refl) l (start two_nyquist es (map S (upto k 1))) ∙ (unfold start in alone_labels k 1 S 1)
 
-  pub last_sizes : map (λ (r : Region). r.size) (replay (start two_nyquist_lem es (map S (upto k 1))) l).regions ≡ map S (upto k 1)
-  last_sizes = replay_kept (λ (r : Region). r.size) (λ p r. unfold move in refl) l (start two_nyquist_lem es (map S (upto k 1))) ∙ (unfold start in alone_sizes (map S (upto k 1)) 1)
+  pub last_sizes : map (λ (r : Region). r.size) (replay (start two_nyquist es (map S (upto k 1))) l).regions ≡ map S (upto k 1)
+  last_sizes = replay_kept (λ (r : Region). r.size) (λ p r. unfold move in refl) l (start two_nyquist es (map S (upto k 1))) ∙ (unfold start in alone_sizes (map S (upto k 1)) 1)

@@ -4,7 +4,7 @@ use lib.IntN.{sub_ℕ}
 use lib.Ieee.{Float, binary64, div}
 use Rattle.arithmetic.specs.Rounding.{round_even, real}
 use Rattle.lists.specs.Seq.{tabulate}
-use Rattle.arithmetic.specs.Intervals.{two_nyquist_lem}
+use Rattle.arithmetic.specs.Intervals.{two_nyquist}
 use Rattle.lists.proofs.SeqLaws.{tab_at, tab_same}
 use Rattle.lists.proofs.SegLaws.{get_or-seg}
 use Rattle.labels.specs.Label.{Found}
@@ -141,7 +141,7 @@ module _ (o : Options) (vel : List Float) (mask : List ℕ) (F : Found) (n : ℕ
     marks = λ r e. subst (λ (z : ℕ). WritesMarks v (length mask) z b) (sym (ap (λ (y : Run). y.regions) (run_is r e))) (marks_ask (good_if r e) (length mask) masks b eb);
     few = λ r e. (
       omega (arith, ap (λ (y : Run). y.regions) (run_is r e), few, small),
-      omega (arith, ap (λ (y : Run). y.merges) (run_is r e), merges_less (two_nyquist_lem o.nyquist) (shape_of o) k L vel, few, small),
+      omega (arith, ap (λ (y : Run). y.merges) (run_is r e), merges_less (two_nyquist o.nyquist) (shape_of o) k L vel, few, small),
     );
     pair = et;
   }
@@ -157,7 +157,7 @@ module _ (o : Options) (vel : List Float) (mask : List ℕ) (F : Found) (n : ℕ
         let S : ℕ → ℕ = size_in L in
         let C : ℕ → ℕ = λ l. get_or v (counts_at n k + l) 0 in
         let es = used k (pairs (shape_of o) L vel) in
-        weighed_is (replay t (merges t)).regions k 1 S C (unfold network_by in last_labels (two_nyquist_lem o.nyquist) es k S (merges t)) (unfold network_by in last_sizes (two_nyquist_lem o.nyquist) es k S (merges t))
+        weighed_is (replay t (merges t)).regions k 1 S C (unfold network_by in last_labels (two_nyquist o.nyquist) es k S (merges t)) (unfold network_by in last_sizes (two_nyquist o.nyquist) es k S (merges t))
         (λ l a b. sym (R.tables.counts good l (omega arith)))
         ∙ ap (λ (x : ℕ). sub_ℕ x (1000 * sum_from S 1 k)) (sym held_sum) ∙ ap (λ (x : ℕ). sub_ℕ (sum_from (held_at v n k) 1 k) (1000 * x)) (sym sizes_sum)
 
@@ -165,7 +165,7 @@ module _ (o : Options) (vel : List Float) (mask : List ℕ) (F : Found) (n : ℕ
     last_gates =
         let S : ℕ → ℕ = size_in L in
         let es = used k (pairs (shape_of o) L vel) in
-        gates_is (replay t (merges t)).regions k 1 S (unfold network_by in last_sizes (two_nyquist_lem o.nyquist) es k S (merges t)) ∙ sym sizes_sum
+        gates_is (replay t (merges t)).regions k 1 S (unfold network_by in last_sizes (two_nyquist o.nyquist) es k S (merges t)) ∙ sym sizes_sum
 
     offset_is : offset_by v n k o.centred ≡ offset_of s (final t)
     unfolding offset_of mean_of final

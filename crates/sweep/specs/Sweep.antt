@@ -6,7 +6,7 @@ use Rattle.lists.specs.Seq.{upto, tabulate}
 use Rattle.arithmetic.specs.Rounding.{round_even, real}
 use Rattle.arithmetic.specs.declared.rounding.Rounded.{Rounded}
 use Rattle.arithmetic.specs.declared.rounding.Rounded.TheVariants.{Whole, Outside}
-use Rattle.arithmetic.specs.Intervals.{two_nyquist_lem}
+use Rattle.arithmetic.specs.Intervals.{two_nyquist}
 use Rattle.labels.specs.Label.{Found}
 use Rattle.labels.specs.Regions.{regions}
 use Rattle.edges.specs.Edges.{Pair, pairs}
@@ -36,7 +36,7 @@ sizes f = map (size_in f.labels) (upto f.number 1)
 
 -- the network before the first merge
 unfoldable pub network_of : Sweep → Found → State
-network_of s f = network_by (two_nyquist_lem s.nyquist) s.shape f.number f.labels s.vel
+network_of s f = network_by (two_nyquist s.nyquist) s.shape f.number f.labels s.vel
 
 -- the network after the last merge
 unfoldable pub final : State → State

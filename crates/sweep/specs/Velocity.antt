@@ -5,7 +5,7 @@ use Rattle.std.specs.Float.{nan, binary64}
 use Rattle.std.specs.Float.Ieee.{add, mul}
 use Rattle.lists.specs.Seq.{upto, all, tabulate}
 use Rattle.arithmetic.specs.Rounding.{real}
-use Rattle.arithmetic.specs.Intervals.{two_nyquist_lem, nyquist_in_range}
+use Rattle.arithmetic.specs.Intervals.{two_nyquist, nyquist_in_range}
 use Rattle.network.specs.Network.{bounded}
 use Rattle.sweep.specs.Questions.{Question, ask, first_no, size_in_range, lengths_fit, mask_is_bits, velocities_in_range}
 
@@ -25,7 +25,7 @@ counted rays gates nyquist vel mask counts labels = record { rays = rays; gates 
 
 -- the wind that a count gives: the velocity in f64 + count × (2 × Nyquist), each operation rounded once
 unfoldable pub wind : Float → Float → ℤ → Float
-wind nyq v c = add binary64 v (mul binary64 (real c) (two_nyquist_lem nyq))
+wind nyq v c = add binary64 v (mul binary64 (real c) (two_nyquist nyq))
 
 -- whether a gate with mask byte m and label l shows a wind: it is valid and lies in a region
 unfoldable pub shows_wind : ℕ → ℕ → Bool

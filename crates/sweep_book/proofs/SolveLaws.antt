@@ -10,7 +10,7 @@ use lib.IntN.{ℤ}
 use lib.ListN.{length}
 use lib.Ieee.{Float}
 use Rattle.memory.specs.Inside.Layout.{book_at}
-use Rattle.arithmetic.specs.Intervals.{two_nyquist_lem}
+use Rattle.arithmetic.specs.Intervals.{two_nyquist}
 use Rattle.arithmetic.specs.declared.intervals.Plan.{Plan}
 use Rattle.labels.specs.Label.{Found}
 use Rattle.network.specs.Network.{State, merges, merges_in_range}
@@ -84,7 +84,7 @@ module _ (o : Options) (p : Plan) (vel : List Float) (mask w : List ℕ) (d : Li
   t = network_for o F vel
 
   few : length (merges t) ≤ F.number - 1
-  few = merges_less (two_nyquist_lem o.nyquist) (shape_of o) F.number F.labels vel
+  few = merges_less (two_nyquist o.nyquist) (shape_of o) F.number F.labels vel
 
   regions_few : F.number ≤ length vel
   regions_few = Solve.few o p vel mask w d q v x same R

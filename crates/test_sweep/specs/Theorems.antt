@@ -57,7 +57,7 @@ in_parts gates state (p ∷ ps) =
     let b = in_parts gates a.state ps in
     fill_answer_by 0 b.state (slices_of (a.slices.vel ++ b.slices.vel) (a.slices.mask ++ b.slices.mask))
 
--- `in_parts`: for any split of the rays they leave the same sweep and state as one call for all rays
+-- `in_parts_lem`: for any split of the rays they leave the same sweep and state as one call for all rays
 abbrev pub InParts : Type 0
 InParts =
     (gates state : ℕ) (ps : List Part) (m : Slices) → Accepted gates state ps → (call_fill (total ps) gates state m).number ≡ 0

@@ -1,5 +1,5 @@
 // Unfolds the sweep of a file on standard input: one line a ray, counts parted by one space (printout: `print_file`).
-// No file of at most 128 gates has more than 2,178 bytes: a longer input prints nothing, and no more of it is read (`longer-prints-nothing`).
+// No file of at most 128 gates has more than 2,178 bytes: a longer input prints nothing, and no more of it is read (`longer_prints_nothing`).
 
 #![tactic(auto)]
 

@@ -18,7 +18,7 @@ use borrow.Author.Tests.{eqb-true, eq-eqb, leb-true, ltb-true}
 use Rattle.lists.specs.Seq.{all}
 use Rattle.lists.proofs.AllLaws.{and_left, and_right, all_at}
 use Rattle.arithmetic.specs.Rounding.{real}
-use Rattle.arithmetic.specs.Intervals.{valid, two_nyquist_lem, nyquist_in_range, velocity_in_range}
+use Rattle.arithmetic.specs.Intervals.{valid, two_nyquist, nyquist_in_range, velocity_in_range}
 use Rattle.arithmetic.proofs.RangeLaws.{le-leb, T_of}
 use Rattle.arithmetic.proofs.Signed.{plus, minus, round_le, mul_values}
 use Rattle.arithmetic.proofs.Units.{between_finite, whole_has, minus_has}
@@ -90,8 +90,8 @@ unfolding round
 most_is = refl
 
 -- 2 × a Nyquist from 0.125 to 1,024 is from 0 to 2,048
-two_finite : (nyq : Float) → T (le (fin false 1 (negsuc 2)) nyq) → T (le nyq (fin false 1 (pos 10))) → T (finite (two_nyquist_lem nyq))
-unfolding le two_nyquist_lem real
+two_finite : (nyq : Float) → T (le (fin false 1 (negsuc 2)) nyq) → T (le nyq (fin false 1 (pos 10))) → T (finite (two_nyquist nyq))
+unfolding le two_nyquist real
 two_finite nan h k = absurd h
 two_finite (inf true) h k = absurd h
 two_finite (inf false) h k = absurd k
@@ -108,7 +108,7 @@ two_finite (fin false m e) h k =
     subst (λ (y : Float). T (finite y)) (sym is) (between_finite x false 0 (pos 0) false 1 (pos 11) low high)
 
 -- 2 × a Nyquist in range is finite
-nyquist_finite : (nyq : Float) → nyquist_in_range nyq ≡ true → T (finite (two_nyquist_lem nyq))
+nyquist_finite : (nyq : Float) → nyquist_in_range nyq ≡ true → T (finite (two_nyquist nyq))
 unfolding nyquist_in_range
 nyquist_finite nyq h =
     let a = le (fin false 1 (negsuc 2)) nyq in
@@ -151,7 +151,7 @@ wind_number n u g s h k =
     let m = get_or u.mask g 0 in
     let c = get_or u.counts g (pos 0) in
     let l = get_or u.labels g 0 in
-    let y = two_nyquist_lem u.nyquist in
+    let y = two_nyquist u.nyquist in
     let counted = all_at (count_test u.mask u.counts u.labels) (u.rays * u.gates) 0 g (omega arith) (omega (arith, s.gates)) s.counts in
     let speed = velocity_at u.vel u.mask g s.speeds (omega (arith, s.vel)) (s.mask ∙ sym s.vel) (shown_valid m l k) in
     add_number v (mul binary64 (real c) y) (velocity_finite v (T_of speed)) (count_times c y (sym (passes_shown m c l k) ∙ counted) (nyquist_finite u.nyquist s.nyquist))

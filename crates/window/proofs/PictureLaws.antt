@@ -17,7 +17,7 @@ use Rattle.sweep.specs.Velocity.{Counted}
 use Rattle.sweep.proofs.QuestionLaws.{all_yes}
 use Rattle.window.specs.Median.{placed, middle, median, mark, Number}
 use Rattle.window.specs.Window.{Window, shows_at, asked_window, call_window}
-use Rattle.window.specs.Sequence.{window_gates_lem, wind_at, winds_in, picture_of, marks_of, last_eight, after_calls, accepted}
+use Rattle.window.specs.Sequence.{window_gates, wind_at, winds_in, picture_of, marks_of, last_eight, after_calls, accepted}
 use Rattle.window.specs.Theorems.{Shows, ShownAs}
 use Rattle.window.proofs.TakeLaws.{sized_all, same_product, after_yes}
 use Rattle.window.proofs.CallLaws.{call_none, call_some}
@@ -26,7 +26,7 @@ use Rattle.window.proofs.SequenceLaws.{taken, never_0, size_kept, accepted_more}
 
 -- ---- the winds of accepted arrivals are numbers
 
-sound : (n : ℕ) (u : Counted) (w : Window) → window_gates_lem w ≡ n → asked_window u w ≡ none → Sound n u
+sound : (n : ℕ) (u : Counted) (w : Window) → window_gates w ≡ n → asked_window u w ≡ none → Sound n u
 sound n u w e h =
     let z = sized_all u w h in
     let p = same_product u w h ∙ e in
@@ -35,15 +35,15 @@ sound n u w e h =
     record { gates = p; vel = z.vel ∙ p; mask = z.mask ∙ p; nyquist = five.0; speeds = seven.0; counts = (all_yes _ _ seven.1).0 }
 
 -- one call
-sound_call : (n : ℕ) (u : Counted) (w : Window) → window_gates_lem w ≡ n → All (Sound n) (taken u w) × (window_gates_lem (call_window u w).window ≡ n)
+sound_call : (n : ℕ) (u : Counted) (w : Window) → window_gates w ≡ n → All (Sound n) (taken u w) × (window_gates (call_window u w).window ≡ n)
 sound_call n u w e = go (asked_window u w) refl
   where
-    go : (o : Option ℕ) → asked_window u w ≡ o → All (Sound n) (taken u w) × (window_gates_lem (call_window u w).window ≡ n)
+    go : (o : Option ℕ) → asked_window u w ≡ o → All (Sound n) (taken u w) × (window_gates (call_window u w).window ≡ n)
     go none h = rw (call_none u w h) ((sound n u w e h, tt), size_kept u w ∙ e)
     go (some zero) h = absurd (never_0 u w h)
     go (some (suc k)) h = rw (call_some u w (suc k) h, ne_eqb (suc k) 0 (λ x. omega arith)) (tt, e)
 
-sound_calls : (n : ℕ) (us : List Counted) (w : Window) → window_gates_lem w ≡ n → All (Sound n) (accepted w us)
+sound_calls : (n : ℕ) (us : List Counted) (w : Window) → window_gates w ≡ n → All (Sound n) (accepted w us)
 unfolding accepted
 sound_calls n [] w e = tt
 sound_calls n (u ∷ us) w e =
@@ -64,11 +64,11 @@ numbers_in n (u ∷ l) g h a = go (shows_at u g) (wind_number n u g a.0 h) (numb
     go true f r = (f refl, r)
     go false f r = r
 
-pub numbers : (w : Window) (calls : List Counted) (g : ℕ) → g < window_gates_lem w → All Number (winds_in (last_eight (accepted w calls)) g)
+pub numbers : (w : Window) (calls : List Counted) (g : ℕ) → g < window_gates w → All Number (winds_in (last_eight (accepted w calls)) g)
 unfolding last_eight
 numbers w calls g h =
-    numbers_in (window_gates_lem w) (drop (length (accepted w calls) - 8) (accepted w calls)) g h
-    (all_drop (Sound (window_gates_lem w)) (length (accepted w calls) - 8) (accepted w calls) (sound_calls (window_gates_lem w) calls w refl))
+    numbers_in (window_gates w) (drop (length (accepted w calls) - 8) (accepted w calls)) g h
+    (all_drop (Sound (window_gates w)) (length (accepted w calls) - 8) (accepted w calls) (sound_calls (window_gates w) calls w refl))
 
 -- ---- a gate of the picture
 
@@ -77,10 +77,10 @@ unfolding median placed middle mark
 no_median [] h = (refl, refl)
 no_median (v ∷ vs) h = absurd (omega arith)
 
-pub shown_as : (w : Window) (calls : List Counted) → Shows (window_gates_lem w) (after_calls w calls) (accepted w calls) → (g : ℕ) → g < window_gates_lem w
+pub shown_as : (w : Window) (calls : List Counted) → Shows (window_gates w) (after_calls w calls) (accepted w calls) → (g : ℕ) → g < window_gates w
     → (x : Float) (m : ℕ) → median (winds_in (last_eight (accepted w calls)) g) ≡ x → mark (winds_in (last_eight (accepted w calls)) g) ≡ m → ShownAs (after_calls w calls) g x m
 unfolding picture_of marks_of
 shown_as w calls s g h x m ex em = record {
-  picture = ap (λ (l : List Float). get_or l g nan) s.picture ∙ tab_at (λ k. median (winds_in (last_eight (accepted w calls)) k)) (window_gates_lem w) g nan h ∙ ex;
-  marks = ap (λ (l : List ℕ). get_or l g 0) s.marks ∙ tab_at (λ k. mark (winds_in (last_eight (accepted w calls)) k)) (window_gates_lem w) g 0 h ∙ em;
+  picture = ap (λ (l : List Float). get_or l g nan) s.picture ∙ tab_at (λ k. median (winds_in (last_eight (accepted w calls)) k)) (window_gates w) g nan h ∙ ex;
+  marks = ap (λ (l : List ℕ). get_or l g 0) s.marks ∙ tab_at (λ k. mark (winds_in (last_eight (accepted w calls)) k)) (window_gates w) g 0 h ∙ em;
 }

@@ -12,7 +12,7 @@ use borrow.Author.Tests.{ne_eqb}
 use Rattle.sweep.specs.Entry.{answer_of}
 use Rattle.sweep.specs.Velocity.{Counted}
 use Rattle.window.specs.Window.{Window, words_of, lengths_of, more, after, winds_from, gates_of, asked_window, added, call_window}
-use Rattle.window.specs.Sequence.{window_gates_lem, Empty, after_calls, accepted, last_eight, winds_in, picture_of, marks_of}
+use Rattle.window.specs.Sequence.{window_gates, Empty, after_calls, accepted, last_eight, winds_in, picture_of, marks_of}
 use Rattle.window.specs.Theorems.{Shows}
 use Rattle.window.proofs.AskLaws.{asked_none}
 use Rattle.window.proofs.TakeLaws.{sized_all, same_product}
@@ -21,7 +21,7 @@ use Rattle.window.proofs.RingLaws.{Ring, ring_more, picture_drawn, marks_drawn}
 
 -- the window after calls of which those in l were accepted: n gates, the ring, and what it shows once there is an accepted arrival
 pub record Follows (n : ℕ) (w : Window) (l : List Counted) : Type 0 where
-  pub size : window_gates_lem w ≡ n
+  pub size : window_gates w ≡ n
   pub ring : Ring n w l
   pub shows : 0 < length l → Shows n w l
 
@@ -39,7 +39,7 @@ never_0 u w e =
     omega arith
 
 -- an arrival leaves the window's size
-pub size_kept : (u : Counted) (w : Window) → window_gates_lem (added u w) ≡ window_gates_lem w
+pub size_kept : (u : Counted) (w : Window) → window_gates (added u w) ≡ window_gates w
 unfolding added
 size_kept u w =
     let h = more (words_of w).held in
@@ -94,7 +94,7 @@ follows_calls n (u ∷ us) w l s =
     (follows_calls n us (call_window u w).window (l ++ taken u w) (follows_call n u w l s))
 
 -- an empty window follows no arrival
-follows_none : (w : Window) → Empty w → Follows (window_gates_lem w) w []
+follows_none : (w : Window) → Empty w → Follows (window_gates w) w []
 unfolding winds_from winds_in
 follows_none w e = record {
   size = refl;
@@ -102,8 +102,8 @@ follows_none w e = record {
   shows = λ h. absurd (omega arith);
 }
   where
-    nothing : (t : ℕ) → t ≡ 0 → (g : ℕ) → winds_from w.winds w.shown (window_gates_lem w) g (t % 8) (0 - t) ≡ winds_in (drop t []) g
+    nothing : (t : ℕ) → t ≡ 0 → (g : ℕ) → winds_from w.winds w.shown (window_gates w) g (t % 8) (0 - t) ≡ winds_in (drop t []) g
     nothing t z g = rw z refl
 
-pub follows_all : (w : Window) → Empty w → (us : List Counted) → Follows (window_gates_lem w) (after_calls w us) (accepted w us)
-follows_all w e us = follows_calls (window_gates_lem w) us w [] (follows_none w e)
+pub follows_all : (w : Window) → Empty w → (us : List Counted) → Follows (window_gates w) (after_calls w us) (accepted w us)
+follows_all w e us = follows_calls (window_gates w) us w [] (follows_none w e)

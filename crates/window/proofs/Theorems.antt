@@ -9,7 +9,7 @@ use Rattle.lists.specs.Inside.Seg.{seg}
 use Rattle.sweep.specs.Entry.{answer_of}
 use Rattle.window.specs.Window.{WindowAnswer, words_of, gates_of, asked_window, added, call_window}
 use Rattle.window.specs.Median.{median}
-use Rattle.window.specs.Sequence.{window_gates_lem, after_calls, accepted, last_eight, winds_in}
+use Rattle.window.specs.Sequence.{window_gates, after_calls, accepted, last_eight, winds_in}
 use Rattle.window.specs.Theorems.{WindowAnswerIs, WindowRefusalKeeps, WindowTakes, Stays, gate_at, PlacesStay, Afresh, StillAfresh, PictureShows, PictureEmpty}
 use Rattle.window.proofs.CallLaws.{call_none, call_some}
 use Rattle.window.proofs.VelocityLaws.{velocities_left, window_asked, winds_there}
@@ -64,8 +64,8 @@ still_afresh w e calls h = (follows_all w e calls).shows h
 pub afresh : Afresh
 afresh w e calls u h = s.shows some_more
   where
-    s : Follows (window_gates_lem w) (call_window u (after_calls w calls)).window (accepted w calls ++ (u ∷ []))
-    s = rw h at (follows_call (window_gates_lem w) u (after_calls w calls) (accepted w calls) (follows_all w e calls))
+    s : Follows (window_gates w) (call_window u (after_calls w calls)).window (accepted w calls ++ (u ∷ []))
+    s = rw h at (follows_call (window_gates w) u (after_calls w calls) (accepted w calls) (follows_all w e calls))
 
     some_more : 0 < length (accepted w calls ++ (u ∷ []))
     some_more = omega (arith, length-append (accepted w calls) (u ∷ []))

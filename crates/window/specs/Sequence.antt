@@ -7,8 +7,8 @@ use Rattle.window.specs.Median.{median, mark}
 use Rattle.window.specs.Window.{Window, words_of, shows_at, call_window}
 
 -- the gates of a window
-abbrev pub window_gates_lem : Window → ℕ
-window_gates_lem w = (words_of w).rays * (words_of w).gates
+abbrev pub window_gates : Window → ℕ
+window_gates w = (words_of w).rays * (words_of w).gates
 
 -- an empty window, whatever its memory holds
 pub record Empty (w : Window) : Type 0 where

@@ -14,7 +14,7 @@ use Rattle.sweep.specs.Entry.{answer_of}
 use Rattle.sweep.specs.Velocity.{Counted, call_velocity}
 use Rattle.window.specs.Median.{Middle}
 use Rattle.window.specs.Window.{Window, words_of, lengths_of, window_fits, asked_window, gates_of, call_window}
-use Rattle.window.specs.Sequence.{Empty, window_gates_lem, after_calls, accepted, last_eight, winds_in, picture_of, marks_of}
+use Rattle.window.specs.Sequence.{Empty, window_gates, after_calls, accepted, last_eight, winds_in, picture_of, marks_of}
 
 -- ---- one call
 
@@ -63,11 +63,11 @@ pub record Shows (n : ℕ) (v : Window) (us : List Counted) : Type 0 where
 abbrev pub Afresh : Type 0
 Afresh =
     (w : Window) → Empty w → (calls : List Counted) (u : Counted) → (call_window u (after_calls w calls)).number ≡ 0
-    → Shows (window_gates_lem w) (call_window u (after_calls w calls)).window (accepted w calls ++ (u ∷ []))
+    → Shows (window_gates w) (call_window u (after_calls w calls)).window (accepted w calls ++ (u ∷ []))
 
 -- `still_afresh`: after any calls, once one was accepted
 abbrev pub StillAfresh : Type 0
-StillAfresh = (w : Window) → Empty w → (calls : List Counted) → 0 < length (accepted w calls) → Shows (window_gates_lem w) (after_calls w calls) (accepted w calls)
+StillAfresh = (w : Window) → Empty w → (calls : List Counted) → 0 < length (accepted w calls) → Shows (window_gates w) (after_calls w calls) (accepted w calls)
 
 -- ---- a gate of the picture
 
@@ -79,12 +79,12 @@ pub record ShownAs (v : Window) (g : ℕ) (wind : Float) (mark : ℕ) : Type 0 w
 -- `picture_shows`: where the gate shows winds in the last eight accepted arrivals, the picture has their median, and the mark is 0
 abbrev pub PictureShows : Type 0
 PictureShows =
-    (w : Window) → Empty w → (calls : List Counted) → 0 < length (accepted w calls) → (g : ℕ) → g < window_gates_lem w
+    (w : Window) → Empty w → (calls : List Counted) → 0 < length (accepted w calls) → (g : ℕ) → g < window_gates w
     → 0 < length (winds_in (last_eight (accepted w calls)) g)
     → (x : Float) × Middle x (winds_in (last_eight (accepted w calls)) g) × ShownAs (after_calls w calls) g x 0
 
 -- `picture_empty`: where it shows none, the picture has 0, and the mark is 1
 abbrev pub PictureEmpty : Type 0
 PictureEmpty =
-    (w : Window) → Empty w → (calls : List Counted) → 0 < length (accepted w calls) → (g : ℕ) → g < window_gates_lem w
+    (w : Window) → Empty w → (calls : List Counted) → 0 < length (accepted w calls) → (g : ℕ) → g < window_gates w
     → length (winds_in (last_eight (accepted w calls)) g) ≡ 0 → ShownAs (after_calls w calls) g (real (pos 0)) 1

@@ -63,10 +63,10 @@ pub record Slot (w : List ℕ) (d : List Float) (n m t c e : ℕ) : Type 0 where
   pub place : e < c
 
 -- one turn, at pair p: the record goes on, or is written and another begun
-pub record GathersPair (two_nyquist_lem : Float) (t c : ℕ) (p : Pair) (s r : Gathering) (w v : List ℕ) (d b : List Float) : Type 0 where
+pub record GathersPair (two_nyquist : Float) (t c : ℕ) (p : Pair) (s r : Gathering) (w v : List ℕ) (d b : List Float) : Type 0 where
   pub on : alike s.«record» p ≡ true → (v ≡ w) × (b ≡ d) × (r.«record» ≡ plus s.«record» p) × (r.edges ≡ s.edges)
   pub off : alike s.«record» p ≡ false
-      → (v ≡ written w t c s.edges s.«record») × (b ≡ slice_set d s.edges (difference two_nyquist_lem s.«record»))
+      → (v ≡ written w t c s.edges s.«record») × (b ≡ slice_set d s.edges (difference two_nyquist s.«record»))
       × (r.«record» ≡ begun p) × (r.edges ≡ s.edges + 1)
 
 -- what gathering asks: room for all runs
@@ -78,7 +78,7 @@ pub record Gathers (w : List ℕ) (d vel : List Float) (n m t c : ℕ) : Type 0 
   pub fits : length (runs (later w vel n m 0)) ≤ c
 
 -- what gathering leaves: the tables of these records, their differences, and how many
-pub record Gathered (two_nyquist_lem : Float) (w v : List ℕ) (d b : List Float) (t c e : ℕ) (rs : List EdgeRecord) : Type 0 where
+pub record Gathered (two_nyquist : Float) (w v : List ℕ) (d b : List Float) (t c e : ℕ) (rs : List EdgeRecord) : Type 0 where
   pub words : v ≡ tables w t c rs
-  pub diffs : b ≡ put d 0 (map (difference two_nyquist_lem) rs)
+  pub diffs : b ≡ put d 0 (map (difference two_nyquist) rs)
   pub count : e ≡ length rs

@@ -19,7 +19,7 @@ pub record FindsEdges (f : Shape) (w : List ℕ) (d vel : List Float) (n k t : �
   pub diffs : 4 * n ≤ length d
 
 -- the tables from t on hold these records as e edges; the labels are as they were
-pub record Edged (two_nyquist_lem : Float) (n : ℕ) (u v : List ℕ) (b : List Float) (t e : ℕ) (rs : List EdgeRecord) : Type 0 where
+pub record Edged (two_nyquist : Float) (n : ℕ) (u v : List ℕ) (b : List Float) (t e : ℕ) (rs : List EdgeRecord) : Type 0 where
   pub count : e ≡ length rs
   pub few : e ≤ 4 * n
   pub light : sum (map (λ r. r.count) rs) ≤ 4 * n
@@ -28,5 +28,5 @@ pub record Edged (two_nyquist_lem : Float) (n : ℕ) (u v : List ℕ) (b : List 
   pub first : seg v (t + first_at e) e ≡ map (λ r. r.one) rs
   pub second : seg v (t + second_at e) e ≡ map (λ r. r.two) rs
   pub bridged : seg v (t + bridged_at e) e ≡ map (λ r. r.bridged) rs
-  pub diff : seg b 0 e ≡ map (difference two_nyquist_lem) rs
+  pub diff : seg b 0 e ≡ map (difference two_nyquist) rs
   pub labels : seg v 0 n ≡ seg u 0 n

@@ -3,7 +3,7 @@ use Rattle.std.specs.Prelude.{ℕ, ◌+◌, ◌*◌, ◌≤◌, ◌<◌, ◌≡�
 use Rattle.std.specs.Float.Ieee.{is_nan}
 use Rattle.memory.specs.Size.{gates_of_largest}
 use Rattle.arithmetic.specs.Inside.Asked.{Rising}
-use Rattle.arithmetic.specs.Intervals.{at_least0, two_nyquist_lem, limits_of}
+use Rattle.arithmetic.specs.Intervals.{at_least0, two_nyquist, limits_of}
 use Rattle.lists.specs.Inside.Seg.{seg}
 use Rattle.arithmetic.specs.declared.intervals.Plan.{Plan}
 use Rattle.labels.specs.Label.{Found}
@@ -32,7 +32,7 @@ regions_by o p vel mask = regions o.gates vel mask (limits_by o p)
 
 -- the network of these regions
 abbrev pub network_for : Options → Found → List Float → State
-network_for o f vel = network_by (two_nyquist_lem o.nyquist) (shape_of o) f.number f.labels vel
+network_for o f vel = network_by (two_nyquist o.nyquist) (shape_of o) f.number f.labels vel
 
 -- a plan of at most 10,000 limits
 pub record Planned (o : Options) (p : Plan) : Type 0 where

@@ -17,7 +17,7 @@ pub put_size-requires : goal.put_size-requires
 put_size-requires c = let y = writable (goal.at.put_size-requires c).Else-no-ne0 in (long_enough _ _ _ y.buffer, y.rays, omega (arith, y.gates))
 
 pub put_options-requires : goal.put_options-requires
-put_options-requires c = let y = writable (goal.at.put_options-requires c).Else-no-ne0 in record { in_bounds = (omega (arith, c.put_size.auto.file, long_enough _ _ _ y.buffer), y.splits, y.skip_between_rays_lem, y.skip_along_ray_lem); centred_bound = (y.centred, y.wrap) }
+put_options-requires c = let y = writable (goal.at.put_options-requires c).Else-no-ne0 in record { in_bounds = (omega (arith, c.put_size.auto.file, long_enough _ _ _ y.buffer), y.splits, y.skip_between_rays, y.skip_along_ray); centred_bound = (y.centred, y.wrap) }
 
 pub put_rays-requires : goal.put_rays-requires
 put_rays-requires c = let y = writable (goal.at.put_rays-requires c).Else-no-ne0 in record { file_len = (c.put_options.auto.file ∙ c.put_size.auto.file ∙ y.buffer, y.rays, y.gates); velocity_len = (y.vel, y.mask) }

@@ -2,14 +2,14 @@
 use Rattle.sweep.specs.Velocity.{wind}
 use Rattle.sweep.proofs.VelocityLaws.{shown_at, hidden_at}
 use Rattle.arithmetic.specs.Rounding.{real}
-use Rattle.arithmetic.specs.Intervals.{two_nyquist_lem}
+use Rattle.arithmetic.specs.Intervals.{two_nyquist}
 use lib.Ieee.{of_bits, of_int}
 use mir.ValLaws.{to_z-of_z}
 use Rattle.std.proofs.Common.{sym, refl, ◌∙◌, w32}
 use Rattle.sweep.proofs.velocity.unfolded_at.Goals as goal
 
 pub returns-then-shows_wind : goal.returns-then-shows_wind
-unfolding wind two_nyquist_lem real of_bits of_int
+unfolding wind two_nyquist real of_bits of_int
 returns-then-shows_wind c =
     let shown = sym c.shows_wind.ensures ∙ c.if-shows_wind.true in
     rw (shown_at c.args.nyquist c.args.v c.args.valid c.args.count c.args.label shown, c.f32_to_f64_with_nan-fold.ensures, c.f32_to_f64_with_nan.ensures, to_z-of_z w32 c.args.count c.ranges.count) refl
