@@ -1,22 +1,22 @@
 -- Demand 3 at work, computed. Two sweeps of one ray that differ outside an echo, the first two gates: their counts on the echo are the same
--- without centring, and differ by one whole number with it; and a merge list that takes a merge of the rest before the echo's. Assumes nothing.
+-- without centring, and differ by one whole number with it; and a merge list that takes a merge of the rest before the echo's. What follows of them by demand 3 is in
+-- proofs/Example.antt. Assumes nothing.
 use Rattle.std.specs.Prelude.{ℕ, zero, suc, ◌≡◌, refl, Bool, true, false, List, [], ◌∷◌, map, ltb, ℤ, pos, negsuc, get_or}
-use Rattle.std.proofs.Common.{arith, sym, ap, ◌∙◌, ltb-true}
+use Rattle.std.proofs.Common.{arith, ltb-true}
 use Rattle.std.specs.Float.{nan, binary32}
 use Rattle.std.specs.Float.Ieee.{of_int}
 use Rattle.lists.specs.Seq.{keep}
-use Rattle.arithmetic.specs.Intervals.{valid, range, limits_for}
+use Rattle.arithmetic.specs.Intervals.{valid, range}
 use Rattle.arithmetic.specs.declared.intervals.Extremes.TheVariants.{Both}
 use Rattle.network.specs.Network.{Event, trace}
 use Rattle.sweep.specs.Evaluating.{evaluating}
 use Rattle.sweep.specs.Sweep.{Sweep, unfolded}
 use Rattle.sweep.specs.Questions.{Lent, accepted, own_limits, outcome}
-use Rattle.locality.specs.Demand3.{Accepted, Apart, lies_in, both_in, echoes, MergeList, first, Does, Alike, Agree, offset}
+use Rattle.locality.specs.Demand3.{Accepted, Apart, lies_in, both_in, echoes, MergeList, first, offset}
 use Rattle.locality.proofs.ApartTest.{apart, on_side, gate_apart, apart_holds}
-use Rattle.locality.proofs.Demand3Laws.{merge_lists, two_sweeps}
 
 -- eight gates of one ray, Nyquist 10, splits 3, skips 0, centred or not
-abbrev ray : ℕ → List ℤ → List ℕ → Sweep
+abbrev pub ray : ℕ → List ℤ → List ℕ → Sweep
 ray c vs m = record {
   shape = record { rays = 1; gates = 8; skip_between_rays = 0; skip_along_ray = 0; wrap = 0 };
   splits = 3;
@@ -27,50 +27,50 @@ ray c vs m = record {
 }
 
 -- 9, −9 | masked | 9, 9, −9, −9, 9
-abbrev folds : ℕ → Sweep
+abbrev pub folds : ℕ → Sweep
 folds c = ray c (pos 9 ∷ negsuc 8 ∷ pos 0 ∷ pos 9 ∷ pos 9 ∷ negsuc 8 ∷ negsuc 8 ∷ pos 9 ∷ []) (1 ∷ 1 ∷ 0 ∷ 1 ∷ 1 ∷ 1 ∷ 1 ∷ 1 ∷ [])
 
 -- 9, −9 | masked | 5, 5, 5, 5, masked
-abbrev smooth : ℕ → Sweep
+abbrev pub smooth : ℕ → Sweep
 smooth c = ray c (pos 9 ∷ negsuc 8 ∷ pos 0 ∷ pos 5 ∷ pos 5 ∷ pos 5 ∷ pos 5 ∷ pos 0 ∷ []) (1 ∷ 1 ∷ 0 ∷ 1 ∷ 1 ∷ 1 ∷ 1 ∷ 0 ∷ [])
 
 -- the first two gates
-abbrev echo : ℕ → Bool
+abbrev pub echo : ℕ → Bool
 echo g = ltb g 2
 
-abbrev lent : Lent
+abbrev pub lent : Lent
 lent = record { counts = 8; doubtful = 8; pair = 2; words = 832; floats = 144 }
 
 -- ---- their answers
 
 -- uncentred: −1, 0 on the echo in both
-abbrev folds_counts : List ℤ
+abbrev pub folds_counts : List ℤ
 folds_counts = negsuc 0 ∷ pos 0 ∷ pos 0 ∷ negsuc 0 ∷ negsuc 0 ∷ pos 0 ∷ pos 0 ∷ negsuc 0 ∷ []
 
-abbrev smooth_counts : List ℤ
+abbrev pub smooth_counts : List ℤ
 smooth_counts = negsuc 0 ∷ pos 0 ∷ pos 0 ∷ pos 0 ∷ pos 0 ∷ pos 0 ∷ pos 0 ∷ pos 0 ∷ []
 
 -- no merge of either is doubtful
-abbrev unmarked : List ℕ
+abbrev pub unmarked : List ℕ
 unmarked = 0 ∷ 0 ∷ 0 ∷ 0 ∷ 0 ∷ 0 ∷ 0 ∷ 0 ∷ []
 
-folds_off : outcome (folds 0) lent ≡ accepted folds_counts unmarked 5 3
+pub folds_off : outcome (folds 0) lent ≡ accepted folds_counts unmarked 5 3
 unfolding evaluating
 folds_off = refl
 
-smooth_off : outcome (smooth 0) lent ≡ accepted smooth_counts unmarked 3 1
+pub smooth_off : outcome (smooth 0) lent ≡ accepted smooth_counts unmarked 3 1
 unfolding evaluating
 smooth_off = refl
 
 -- centred: 0, 1 on the echo in the first, which takes −1 away, and −1, 0 in the second, which takes 0 away
-abbrev folds_centred : List ℤ
+abbrev pub folds_centred : List ℤ
 folds_centred = pos 0 ∷ pos 1 ∷ pos 0 ∷ pos 0 ∷ pos 0 ∷ pos 1 ∷ pos 1 ∷ pos 0 ∷ []
 
-folds_on : outcome (folds 1) lent ≡ accepted folds_centred unmarked 5 3
+pub folds_on : outcome (folds 1) lent ≡ accepted folds_centred unmarked 5 3
 unfolding evaluating
 folds_on = refl
 
-smooth_on : outcome (smooth 1) lent ≡ accepted smooth_counts unmarked 3 1
+pub smooth_on : outcome (smooth 1) lent ≡ accepted smooth_counts unmarked 3 1
 unfolding evaluating
 smooth_on = refl
 
@@ -88,10 +88,10 @@ smooth_test : (c : ℕ) → apart echo (smooth c) (own_limits (smooth c)) ≡ tr
 unfolding evaluating apart on_side gate_apart
 smooth_test c = refl
 
-folds_apart : (c : ℕ) → Apart echo (folds c) (own_limits (folds c))
+pub folds_apart : (c : ℕ) → Apart echo (folds c) (own_limits (folds c))
 folds_apart c = apart_holds echo (folds c) (own_limits (folds c)) (folds_test c)
 
-smooth_apart : (c : ℕ) → Apart echo (smooth c) (own_limits (smooth c))
+pub smooth_apart : (c : ℕ) → Apart echo (smooth c) (own_limits (smooth c))
 smooth_apart c = apart_holds echo (smooth c) (own_limits (smooth c)) (smooth_test c)
 
 -- ---- two sweeps
@@ -99,42 +99,27 @@ smooth_apart c = apart_holds echo (smooth c) (own_limits (smooth c)) (smooth_tes
 past : (g : ℕ) → ltb (suc (suc g)) 2 ≡ true → ⊥
 past g h = omega (arith, ltb-true (suc (suc g)) 2 h)
 
-masks : (c g : ℕ) → echo g ≡ true → get_or (folds c).mask g 0 ≡ get_or (smooth c).mask g 0
+pub masks : (c g : ℕ) → echo g ≡ true → get_or (folds c).mask g 0 ≡ get_or (smooth c).mask g 0
 masks c zero h = refl
 masks c (suc zero) h = refl
 masks c (suc (suc g)) h = absurd (past g h)
 
-velocities : (c g : ℕ) → echo g ≡ true → get_or (folds c).vel g nan ≡ get_or (smooth c).vel g nan
+pub velocities : (c g : ℕ) → echo g ≡ true → get_or (folds c).vel g nan ≡ get_or (smooth c).vel g nan
 velocities c zero h = refl
 velocities c (suc zero) h = refl
 velocities c (suc (suc g)) h = absurd (past g h)
 
 -- both have −9 and 9 for least and greatest
-folds_range : (c : ℕ) → range (valid (folds c).vel (folds c).mask) ≡ Both (of_int binary32 (negsuc 8)) (of_int binary32 (pos 9))
+pub folds_range : (c : ℕ) → range (valid (folds c).vel (folds c).mask) ≡ Both (of_int binary32 (negsuc 8)) (of_int binary32 (pos 9))
 unfolding evaluating
 folds_range c = refl
 
-smooth_range : (c : ℕ) → range (valid (smooth c).vel (smooth c).mask) ≡ Both (of_int binary32 (negsuc 8)) (of_int binary32 (pos 9))
+pub smooth_range : (c : ℕ) → range (valid (smooth c).vel (smooth c).mask) ≡ Both (of_int binary32 (negsuc 8)) (of_int binary32 (pos 9))
 unfolding evaluating
 smooth_range c = refl
 
-limits_same : (c : ℕ) → own_limits (folds c) ≡ own_limits (smooth c)
-unfolding own_limits
-limits_same c = ap (limits_for (of_int binary32 (pos 10)) 3) (folds_range c ∙ sym (smooth_range c))
-
-alike : (c : ℕ) → Alike echo (folds c) (smooth c)
-alike c = record { shape = refl; splits = refl; centred = refl; nyquist = refl; limits = limits_same c; mask = masks c; vel = λ g h v. velocities c g h }
-
-yes_by : (s : Sweep) (c : List ℤ) (r m : ℕ) → outcome s lent ≡ accepted c unmarked r m → Accepted s c unmarked
+pub yes_by : (s : Sweep) (c : List ℤ) (r m : ℕ) → outcome s lent ≡ accepted c unmarked r m → Accepted s c unmarked
 yes_by s c r m h = record { lent = lent; regions = r; merges = m; yes = h }
-
-pub example_off : Agree echo (folds 0) (smooth 0) folds_counts smooth_counts unmarked unmarked
-example_off = two_sweeps echo (folds 0) (smooth 0) folds_counts smooth_counts unmarked unmarked (yes_by (folds 0) folds_counts 5 3 folds_off) (yes_by (smooth 0) smooth_counts 3 1 smooth_off) (alike 0)
-    (folds_apart 0) (smooth_apart 0)
-
-pub example_on : Agree echo (folds 1) (smooth 1) folds_centred smooth_counts unmarked unmarked
-example_on = two_sweeps echo (folds 1) (smooth 1) folds_centred smooth_counts unmarked unmarked (yes_by (folds 1) folds_centred 5 3 folds_on) (yes_by (smooth 1) smooth_counts 3 1 smooth_on) (alike 1)
-    (folds_apart 1) (smooth_apart 1)
 
 -- ---- a merge list
 
@@ -159,7 +144,7 @@ unfolding evaluating lies_in both_in echoes
 edge_2 = refl
 
 -- the same merges, the echo's between the rest's
-between : MergeList echo (folds 0) (own_limits (folds 0)) (1 ∷ 0 ∷ 2 ∷ [])
+pub between : MergeList echo (folds 0) (own_limits (folds 0)) (1 ∷ 0 ∷ 2 ∷ [])
 unfolding keep
 between = record { echo = rw (own_merges, edge_0, edge_1, edge_2) refl; rest = rw (own_merges, edge_0, edge_1, edge_2) refl }
 
@@ -184,6 +169,3 @@ run_finds = refl
 pub list_finds : map nodes (trace (first (folds 0) (own_limits (folds 0))) (1 ∷ 0 ∷ 2 ∷ [])) ≡ edge_1_finds ∷ edge_0_finds ∷ edge_2_finds ∷ []
 unfolding evaluating
 list_finds = refl
-
-pub example_list : Does (folds 0) (own_limits (folds 0)) (1 ∷ 0 ∷ 2 ∷ [])
-example_list = merge_lists echo (folds 0) folds_counts unmarked (yes_by (folds 0) folds_counts 5 3 folds_off) (folds_apart 0) (1 ∷ 0 ∷ 2 ∷ []) between

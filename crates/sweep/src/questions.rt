@@ -157,6 +157,7 @@ pub fn shows_wind(valid: u8, label: u32) -> bool
 }
 
 // Questions 7 and 10 of one gate: the number of the first that gets a no, or 0. What count stands at a gate that shows no wind does not matter.
+#[tactic(auto, unfolding(crate::specs::Inside::Gates::gate_asked, crate::specs::Inside::Gates::velocity_passes, crate::specs::Velocity::count_passes, crate::specs::Questions::first_no))]
 fn gate_missed(v: f32, valid: u8, count: i32, label: u32) -> u32
     ensures { result ≡ answer_of (gate_asked v valid count label) }
 {
