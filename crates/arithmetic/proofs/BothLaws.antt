@@ -3,8 +3,7 @@ use Rattle.std.proofs.Common.{◌≡◌, ℕ, ◌+◌, ◌*◌, ◌<◌, ◌≤�
 use lib.Ieee.{Float, nan, inf, fin, up, down, below, lt, le}
 use lib.Ieee.Fits.{down_pos, and_l, and_r}
 use Rattle.lists.specs.Seq.{all}
-use Rattle.arithmetic.specs.declared.intervals.Extremes.TheVariants.{Both}
-use Rattle.arithmetic.specs.Intervals.{velocity_in_range, least, greatest, range, over_both}
+use Rattle.arithmetic.specs.Intervals.{velocity_in_range, lesser, greater, least, greatest, both, range, over_both}
 use Rattle.arithmetic.proofs.Signed.{plus, minus}
 use Rattle.arithmetic.proofs.Plans.{cond_fair, range_fair}
 
@@ -91,17 +90,17 @@ module _ (r : Float → Float → Bool) (middle : Through r) (f : Float → List
   after x [] m = sym (ap (λ (z : Float). f z m) (none x))
   after x (v ∷ l) m = one x v (l ++ m) ∙ after (cond (r v x) v x) l m ∙ sym (ap (λ (z : Float). f z m) (one x v l))
 
-  both : (x c : Float) (l m : List Float) → T (velocity_in_range (f x l)) → T (velocity_in_range c) → T (all velocity_in_range m) → cond (r (f c m) (f x l)) (f c m) (f x l) ≡ f x (l ++ (c ∷ m))
-  both x c l m hx hc h = sym (after x l (c ∷ m) ∙ one (f x l) c m ∙ from (f x l) c m hx hc h)
+  joined : (x c : Float) (l m : List Float) → T (velocity_in_range (f x l)) → T (velocity_in_range c) → T (all velocity_in_range m) → cond (r (f c m) (f x l)) (f c m) (f x l) ≡ f x (l ++ (c ∷ m))
+  joined x c l m hx hc h = sym (after x l (c ∷ m) ∙ one (f x l) c m ∙ from (f x l) c m hx hc h)
 
 -- ---- the least, the greatest and the range
-least_both : (x c : Float) (l m : List Float) → T (velocity_in_range (least x l)) → T (velocity_in_range c) → T (all velocity_in_range m) → cond (lt (least c m) (least x l)) (least c m) (least x l) ≡ least x (l ++ (c ∷ m))
-unfolding least
-least_both = both lt through least (λ x. refl) (λ x v l. refl)
+least_both : (x c : Float) (l m : List Float) → T (velocity_in_range (least x l)) → T (velocity_in_range c) → T (all velocity_in_range m) → lesser (least c m) (least x l) ≡ least x (l ++ (c ∷ m))
+unfolding least lesser
+least_both = joined lt through least (λ x. refl) (λ x v l. refl)
 
-greatest_both : (x c : Float) (l m : List Float) → T (velocity_in_range (greatest x l)) → T (velocity_in_range c) → T (all velocity_in_range m) → cond (lt (greatest x l) (greatest c m)) (greatest c m) (greatest x l) ≡ greatest x (l ++ (c ∷ m))
-unfolding greatest
-greatest_both = both (λ x y. lt y x) (λ x y z h k l b p q. through z y x l k h b q p) greatest (λ x. refl) (λ x v l. refl)
+greatest_both : (x c : Float) (l m : List Float) → T (velocity_in_range (greatest x l)) → T (velocity_in_range c) → T (all velocity_in_range m) → greater (greatest x l) (greatest c m) ≡ greatest x (l ++ (c ∷ m))
+unfolding greatest greater
+greatest_both = joined (λ x y. lt y x) (λ x y z h k l b p q. through z y x l k h b q p) greatest (λ x. refl) (λ x v l. refl)
 
 pub range_of_both : (a b : List Float) → T (all velocity_in_range a) → T (all velocity_in_range b) → over_both (range a) (range b) ≡ range (a ++ b)
 unfolding range over_both all
@@ -111,4 +110,4 @@ range_of_both (x ∷ a) (c ∷ b) h k =
     let f = range_fair (x ∷ a) h in
     let hc = and_l (velocity_in_range c) (all velocity_in_range b) k in
     let hb = and_r (velocity_in_range c) (all velocity_in_range b) k in
-    λ i. Both (least_both x c a b f.0 hc hb i) (greatest_both x c a b f.1 hc hb i)
+    λ i. both (least_both x c a b f.0 hc hb i) (greatest_both x c a b f.1 hc hb i)

@@ -1,13 +1,12 @@
 -- The valid velocities and their extremes, one gate more at a time; the tabulated limits, one more at a time. Assumes nothing.
-use Rattle.std.proofs.Common.{◌≡◌, ℕ, zero, suc, ◌+◌, ◌<◌, ◌≤◌, Bool, true, false, cond, T, eqb, List, [], ◌∷◌, ◌++◌, length, get_or, take, drop, set, sym, refl, ap, ◌∙◌, append_assoc, add-one, arith, eqb→eq, length-append, length-take-le, drop-cons, take-suc}
+use Rattle.std.proofs.Common.{◌≡◌, ℕ, zero, suc, ◌+◌, ◌<◌, ◌≤◌, Bool, true, false, cond, T, eqb, List, [], ◌∷◌, ◌++◌, length, get_or, take, drop, set, Option, None, sym, refl, ap, ◌∙◌, append_assoc, add-one, arith, eqb→eq, length-append, length-take-le, drop-cons, take-suc}
 use lib.Dec.{not_T}
 use lib.Ieee.Bits.{is_false}
 use lib.Seq.{set_at, take-length}
-use lib.Ieee.{Float, nan, lt}
+use lib.Ieee.{Float, nan}
 use Rattle.arithmetic.specs.declared.intervals.Extremes.{Extremes}
-use Rattle.arithmetic.specs.declared.intervals.Extremes.TheVariants.{Both, NoneValid}
 use Rattle.lists.specs.Seq.{upto, tabulate}
-use Rattle.arithmetic.specs.Intervals.{valid, least, greatest, range, over_both, include, spaced, limit_at, step_of}
+use Rattle.arithmetic.specs.Intervals.{valid, lesser, greater, least, greatest, both, range, over_both, include, spaced, limit_at, step_of}
 use Rattle.arithmetic.specs.Inside.Asked.{front}
 use Rattle.lists.proofs.SeqLaws.{tab_length, tab_snoc}
 
@@ -35,32 +34,26 @@ valid_snoc (u ∷ vs) (x ∷ ms) v m e =
     swap false true l = refl
     swap false false l = refl
 
-least_snoc : (x : Float) (l : List Float) (v : Float) → least x (l ++ (v ∷ [])) ≡ cond (lt v (least x l)) v (least x l)
+least_snoc : (x : Float) (l : List Float) (v : Float) → least x (l ++ (v ∷ [])) ≡ lesser v (least x l)
 unfolding least
 least_snoc x [] v = refl
-least_snoc x (u ∷ l) v = least_snoc (cond (lt u x) u x) l v
+least_snoc x (u ∷ l) v = least_snoc (lesser u x) l v
 
-greatest_snoc : (x : Float) (l : List Float) (v : Float) → greatest x (l ++ (v ∷ [])) ≡ cond (lt (greatest x l) v) v (greatest x l)
+greatest_snoc : (x : Float) (l : List Float) (v : Float) → greatest x (l ++ (v ∷ [])) ≡ greater (greatest x l) v
 unfolding greatest
 greatest_snoc x [] v = refl
-greatest_snoc x (u ∷ l) v = greatest_snoc (cond (lt x u) u x) l v
+greatest_snoc x (u ∷ l) v = greatest_snoc (greater x u) l v
 
 range_snoc : (l : List Float) (v : Float) → range (l ++ (v ∷ [])) ≡ include (range l) v
 unfolding range over_both least greatest
 range_snoc [] v = refl
-range_snoc (u ∷ l) v = λ i. Both (least_snoc u l v i) (greatest_snoc u l v i)
-
--- over a range of no velocities
-pub over_none : (e : Extremes) → e ≡ over_both e NoneValid
-unfolding over_both
-over_none NoneValid = refl
-over_none (Both lo hi) = refl
+range_snoc (u ∷ l) v = λ i. both (least_snoc u l v i) (greatest_snoc u l v i)
 
 -- the extremes of the first i gates
-unfoldable pub up_to : List Float → List ℕ → ℕ → Extremes
+unfoldable pub up_to : List Float → List ℕ → ℕ → Option Extremes
 up_to vs ms i = range (valid (take i vs) (take i ms))
 
-pub up_none : (vs : List Float) (ms : List ℕ) → up_to vs ms 0 ≡ NoneValid
+pub up_none : (vs : List Float) (ms : List ℕ) → up_to vs ms 0 ≡ None
 unfolding up_to range valid
 up_none vs ms = refl
 
@@ -105,14 +98,14 @@ unfolding front
 front_none w = refl
 
 -- one turn of the loop over the gates
-pub turn_yes : (vs : List Float) (ms : List ℕ) (i : ℕ) (e r : Extremes) (v : Float) → i < length vs → length ms ≡ length vs → get_or ms i 0 ≡ 1 → e ≡ up_to vs ms i → v ≡ get_or vs i nan → r ≡ include e v → r ≡ up_to vs ms (i + 1)
+pub turn_yes : (vs : List Float) (ms : List ℕ) (i : ℕ) (e r : Option Extremes) (v : Float) → i < length vs → length ms ≡ length vs → get_or ms i 0 ≡ 1 → e ≡ up_to vs ms i → v ≡ get_or vs i nan → r ≡ include e v → r ≡ up_to vs ms (i + 1)
 turn_yes vs ms i e r v h l t g k q =
     q ∙ (λ j. include (g j) (k j)) ∙ sym (up_more vs ms i h l ∙ ap (λ (b : Bool). cond b (include (up_to vs ms i) (get_or vs i nan)) (up_to vs ms i)) (yes (get_or ms i 0) t))
   where
     yes : (m : ℕ) → m ≡ 1 → eqb m 1 ≡ true
     yes m t = ap (λ (k : ℕ). eqb k 1) t
 
-pub turn_no : (vs : List Float) (ms : List ℕ) (i : ℕ) (e : Extremes) → i < length vs → length ms ≡ length vs → (get_or ms i 0 ≡ 1 → ⊥) → e ≡ up_to vs ms i → e ≡ up_to vs ms (i + 1)
+pub turn_no : (vs : List Float) (ms : List ℕ) (i : ℕ) (e : Option Extremes) → i < length vs → length ms ≡ length vs → (get_or ms i 0 ≡ 1 → ⊥) → e ≡ up_to vs ms i → e ≡ up_to vs ms (i + 1)
 turn_no vs ms i e h l t g =
     g ∙ sym (up_more vs ms i h l ∙ ap (λ (b : Bool). cond b (include (up_to vs ms i) (get_or vs i nan)) (up_to vs ms i)) (no (get_or ms i 0) t))
   where

@@ -22,7 +22,7 @@ says f s m e h =
     let d = ltb (suc m * up e) (2 ^ suc (emax f) * down e) in
     (ltb→lt (suc m) (2 ^ prec f) (and_r a b (and_l (a && b) c (and_l (a && b && c) d h))), leb→le (down e) (2 ^ low f) (and_r (a && b) c (and_l (a && b && c) d h)), ltb→lt (suc m * up e) (2 ^ suc (emax f) * down e) (and_r (a && b && c) d h))
 
-itself : (f : Format) (x : Float) (s : Bool) (a c : ℕ) → 0 < c → T (fits f x) → HasValue x s a c → HasValue (round f s a c) s a c
+pub itself : (f : Format) (x : Float) (s : Bool) (a c : ℕ) → 0 < c → T (fits f x) → HasValue x s a c → HasValue (round f s a c) s a c
 itself f nan s a c C h v = absurd v
 itself f (inf t) s a c C h v = absurd v
 itself f (fin t zero e) s a c C h v =

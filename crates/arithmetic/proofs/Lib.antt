@@ -1,6 +1,5 @@
 pub mod RoundLaws
 pub mod RangeLaws
-pub mod PatternLaws
 pub mod NarrowLaws
 pub mod IntervalLaws
 pub mod Signed

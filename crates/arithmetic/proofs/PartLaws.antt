@@ -1,17 +1,17 @@
--- What x has above its whole number is exact in f64, and the tests of `is_midway` and `is_doubtful` on it. Assumes nothing.
-use Rattle.std.proofs.Common.{◌≡◌, ℕ, zero, suc, ◌+◌, ◌-◌, ◌*◌, ◌/◌, ◌%◌, ◌^◌, ◌<◌, ◌≤◌, min, Bool, true, false, not, ◌&&◌, T, eqb, ltb, leb, ℤ, pos, negsuc, sym, refl, ap, ◌∙◌, subst, le_of_eq, lt_of_lt_of_le, le_of_suc-le-suc, lt_of_le_of_lt, le_of_lt, lt_irrefl, mul_assoc, div-lt_iff_lt-mul, add_comm, lt_of_not-le, div-add-mod', zero-mul, mul-one, not-le_of_lt, arith, lit<}
-use Rattle.std.proofs.Common.{lit≤, le→leb, ltb→lt, lt→ltb, leb→le, nltb→le, pow_pos, pow_mono, pow-add, shl_lt}
-use mathlib.Core.Bool.{false≢true}
-use native.Mathlib.Nat.{mod-le, zero-mod, mod-one, two-pow-succ}
-use lib.Dec.{not_T}
+-- What the size of q has above its whole number is exact in f64, and the tests of `is_doubtful` on it. Assumes nothing.
+use Rattle.std.proofs.Common.{◌≡◌, ℕ, zero, suc, ◌+◌, ◌-◌, ◌*◌, ◌/◌, ◌%◌, ◌^◌, ◌<◌, ◌≤◌, Bool, true, false, ◌&&◌, T, eqb, ltb, leb, ℤ, pos, negsuc, sym, refl, ap, ◌∙◌, subst, le_of_eq, lt_of_lt_of_le, le_of_suc-le-suc, lt_of_le_of_lt, le_of_lt, lt_irrefl, mul_assoc, div-lt_iff_lt-mul, lt_of_not-le, div-add-mod', zero-mul, mul-one, not-le_of_lt, arith, lit<, zero-lt-suc, le_refl, eqb→eq}
+use Rattle.std.proofs.Common.{lit≤, le→leb, ltb→lt, lt→ltb, leb→le, pow_pos, pow_mono, pow-add, shl_lt}
+use native.Mathlib.Nat.{mod-le, mod-one, two-pow-succ}
+use Rattle.std.proofs.Math.Nat.{div-one}
+use Rattle.std.specs.Float.{float_with_sign, round_with, fract}
 use lib.Pow.{pow-lt}
-use lib.Ieee.{Float, nan, inf, fin, binary64, prec, emax, low, up, down, round, of_int, sub, neg, lt, le, fits, to_unsigned}
-use lib.Ieee.Bits.{is_false}
+use lib.Ieee.{Float, nan, inf, fin, binary64, prec, emax, low, up, down, round, of_int, add, sub, neg, lt, le, eq, fits}
 use lib.Ieee.Exact.{HasValue, round_exact}
 use lib.Ieee.Fits.{down_pos, and_l, and_r}
-use lib.Ieee.Positive.{num, den, positive, above, own_value, first_pos}
+use lib.Ieee.Positive.{num, den, positive, own_value}
 use Rattle.arithmetic.proofs.RoundLaws.{sub_values, rescale}
-use Rattle.arithmetic.proofs.RangeLaws.{iff, T_of, zero_f}
+use Rattle.arithmetic.proofs.RangeLaws.{iff}
+use Rattle.arithmetic.proofs.Itself.{itself}
 use Rattle.arithmetic.proofs.Signed.{le_values, values_le}
 use Rattle.arithmetic.proofs.Units.{whole_has}
 use Rattle.arithmetic.specs.Doubtful.{midway, doubtful}
@@ -114,114 +114,52 @@ module _ (x : Float) (r d : ℕ) (D : 0 < d) (v : HasValue x false r d) where
   pub nine_test : le x nine_f ≡ leb (16 * r) (9 * d)
   nine_test = le_has x nine_f (16 * r) (9 * d) (16 * d) (many d D) (sixteenths x r d D v) (refl, constant 9 d)
 
-pub midway_not : (a c : ℕ) → leb (7 * c) (16 * (a % c)) ≡ false → midway a c ≡ false
-unfolding midway
-midway_not a c h = ap (λ (b : Bool). b && leb (16 * (a % c)) (9 * c)) h
+-- ---- what std's `abs` and `fract` give
+fits_size : (s : Bool) (m : ℕ) (e : ℤ) → T (fits binary64 (fin s m e)) → T (fits binary64 (fin false m e))
+unfolding fits
+fits_size s zero e h = h
+fits_size s (suc m) e h = h
 
-pub midway_second : (a c : ℕ) → leb (7 * c) (16 * (a % c)) ≡ true → midway a c ≡ leb (16 * (a % c)) (9 * c)
-unfolding midway
-midway_second a c h = ap (λ (b : Bool). b && leb (16 * (a % c)) (9 * c)) h
+-- a zero that fits has the exponent 0
+zero_says : (e : ℤ) → T (fits binary64 (fin false zero e)) → up e * down e ≡ 1
+unfolding fits
+zero_says e h = eqb→eq (up e * down e) 1 h
 
--- nothing is left: not midway
-pub whole_not : (a c : ℕ) → 0 < c → a % c ≡ 0 → midway a c ≡ false
-whole_not a c C e = midway_not a c (is_false (leb (7 * c) (16 * (a % c))) (not_T (leb (7 * c) (16 * (a % c))) (λ (t : T (leb (7 * c) (16 * (a % c)))). none (a % c) e (leb→le (7 * c) (16 * (a % c)) t))))
+-- the size of ± m × 2 ^ e less its whole number
+fract_has : (m : ℕ) (e : ℤ) → T (fits binary64 (fin false m e)) → HasValue (fract binary64 (fin false m e)) false (m * up e % down e) (down e)
+unfolding round_with of_int
+fract_has m (pos k) h =
+    let x = fin false m (pos k) in
+    let a = m * 2 ^ k in
+    let y = round binary64 false (a / 1) 1 in
+    let own : HasValue x false a 1 = (refl, refl) in
+    let v : HasValue y false a 1 = subst (λ (z : ℕ). HasValue (round binary64 false z 1) false a 1) (sym (div-one a)) (itself binary64 x false a 1 (lit< tt) h own) in
+    let is : sub binary64 x y ≡ round binary64 false (a % 1) 1 = sub_values binary64 x y a a 1 (lit< tt) (le_refl a) own v ∙ ap (λ (z : ℕ). round binary64 false z 1) (none a ∙ sym (mod-one a)) in
+    subst (λ (z : Float). HasValue z false (a % 1) 1) (sym is) (whole_rest a)
   where
-    none : (r : ℕ) → r ≡ 0 → 7 * c ≤ 16 * r → ⊥
-    none r e h = omega arith
-
--- ---- the tests on q
-abbrev pub big_f : Float
-big_f = fin false 1 (pos 52)
-
-pub above_pos : (x : Float) → lt zero_f x ≡ true → T (above x)
-unfolding lt
-above_pos nan h = absurd (false≢true h)
-above_pos (inf true) h = absurd (false≢true h)
-above_pos (inf false) h = tt
-above_pos (fin true m e) h = absurd (false≢true h)
-above_pos (fin false m e) h = lt→ltb 0 m (first_pos m (up e) (over (0 * down e) (m * up e) (m * up e * 1) (ltb→lt (0 * down e) (m * up e * 1) (T_of h)) (mul-one (m * up e))))
+    none : (a : ℕ) → a - a ≡ 0
+    none a = omega arith
+fract_has zero (negsuc k) h = absurd (no (2 ^ suc k) (2 ^ k) (two-pow-succ k) (zero_says (negsuc k) h))
   where
-    over : (z a b : ℕ) → z < b → b ≡ a → 0 < a
-    over z a b h e = omega arith
-
-pub below_big : (x : Float) → T (above x) → lt x big_f ≡ true → T (positive x) × (num x < 2 ^ 52 * den x)
-unfolding lt
-below_big nan p h = absurd p
-below_big (inf true) p h = absurd p
-below_big (inf false) p h = absurd (false≢true h)
-below_big (fin true m e) p h = absurd p
-below_big (fin false m e) p h = (p, lt_of_le_of_lt (le_of_eq (sym (mul-one (m * up e)))) (ltb→lt (m * up e * 1) (2 ^ 52 * down e) (T_of h)))
-
--- from 2 ^ 52 on an f64 is whole
-pub big_not : (x : Float) → T (fits binary64 x) → T (above x) → lt x big_f ≡ false → doubtful x ≡ false
-unfolding lt doubtful
-big_not nan f p h = refl
-big_not (inf s) f p h = refl
-big_not (fin true m e) f p h = absurd p
-big_not (fin false m (pos k)) f p h = whole_not (m * 2 ^ k) 1 (lit< tt) (mod-one (m * 2 ^ k))
-big_not (fin false m (negsuc k)) f p h =
-    absurd (large m (2 ^ suc k) (2 ^ k) (two-pow-succ k) (pow_pos k) (digits false m k (ltb→lt 0 m p) f).0 (nltb→le (m * 1 * 1) (2 ^ 52 * 2 ^ suc k) (subst (λ (b : Bool). T (not b)) (sym h) tt)))
+    no : (d u : ℕ) → d ≡ u + u → 1 * d ≡ 1 → ⊥
+    no d u e f = omega arith
+fract_has (suc m) (negsuc k) h =
+    part_has (fin false (suc m) (negsuc k)) h (lt→ltb 0 (suc m) (zero-lt-suc m)) (few (suc m) (2 ^ suc k) (2 ^ k) (two-pow-succ k) (pow_pos k) (digits false (suc m) k (zero-lt-suc m) h).0)
   where
-    large : (m d u : ℕ) → d ≡ u + u → 0 < u → m < 2 ^ prec binary64 → 2 ^ 52 * d ≤ m * 1 * 1 → ⊥
-    large m d u e U s h = omega arith
+    few : (m d u : ℕ) → d ≡ u + u → 0 < u → m < 2 ^ prec binary64 → m * 1 < 2 ^ 52 * d
+    few m d u e U h = omega arith
 
-pub neither : (x : Float) → lt zero_f x ≡ false → lt x zero_f ≡ false → doubtful x ≡ false
-unfolding lt doubtful
-neither nan a b = refl
-neither (inf s) a b = refl
-neither (fin false m e) a b = whole_not (m * up e) (down e) (down_pos e) (ap (λ (z : ℕ). z % down e) (nil (m * up e) (down e) (nltb→le (0 * down e) (m * up e * 1) (subst (λ (t : Bool). T (not t)) (sym a) tt))) ∙ zero-mod (down e))
-  where
-    nil : (a d : ℕ) → a * 1 ≤ 0 * d → a ≡ 0
-    nil a d h = omega (arith, zero-mul d)
-neither (fin true m e) a b = whole_not (m * up e) (down e) (down_pos e) (ap (λ (z : ℕ). z % down e) (nil (m * up e) (down e) (nltb→le 0 (m * up e * 1 + 0 * down e) (subst (λ (t : Bool). T (not t)) (sym b) tt))) ∙ zero-mod (down e))
-  where
-    nil : (a d : ℕ) → a * 1 + 0 * d ≤ 0 → a ≡ 0
-    nil a d h = omega arith
-
--- ---- the sign
-pub neg_big : (x : Float) → lt (fin true 1 (pos 52)) x ≡ lt (neg x) big_f
-unfolding lt neg
-neg_big nan = refl
-neg_big (inf true) = refl
-neg_big (inf false) = refl
-neg_big (fin true m e) = refl
-neg_big (fin false m e) = ap (λ (n : ℕ). ltb 0 n) (add_comm (2 ^ 52 * down e) (m * up e * 1))
-
-pub doubtful_neg : (x : Float) → doubtful (neg x) ≡ doubtful x
-unfolding doubtful neg
-doubtful_neg nan = refl
-doubtful_neg (inf s) = refl
-doubtful_neg (fin s m e) = refl
-
-pub doubtful_midway : (x : Float) → T (positive x) → doubtful x ≡ midway (num x) (den x)
-unfolding doubtful
-doubtful_midway nan p = absurd p
-doubtful_midway (inf s) p = absurd p
-doubtful_midway (fin s m e) p = refl
-
--- ---- what the cast to u64 asks and gives
-pub record Cut (x : Float) : Type 0 where
-  pub over : T (lt (fin true 1 (pos 0)) x)
-  pub under : T (lt x (fin false 1 (pos 64)))
-  pub value : to_unsigned 64 x ≡ num x / den x
-  pub small : num x / den x < 2 ^ 52
-
-pub cut : (x : Float) → T (positive x) → num x < 2 ^ 52 * den x → Cut x
-unfolding lt to_unsigned
-cut nan p l = absurd p
-cut (inf s) p l = absurd p
-cut (fin true m e) p l = absurd p
-cut (fin false m e) p l =
-    let a = m * up e in
+of_size : (q : Float) → T (fits binary64 q) → doubtful q ≡ (le seven_f (fract binary64 (float_with_sign false q)) && le (fract binary64 (float_with_sign false q)) nine_f)
+unfolding doubtful float_with_sign round_with sub add neg le lt eq midway
+of_size nan f = refl
+of_size (inf s) f = refl
+of_size (fin s m e) f =
+    let v = fract_has m e (fits_size s m e f) in
+    let x = fract binary64 (fin false m e) in
     let d = down e in
-    let s : a / d < 2 ^ 52 = (div-lt_iff_lt-mul (down_pos e)).1 l in
-    record { over = lt→ltb 0 (1 * d + a * 1) (more a d (down_pos e)); under = lt→ltb (a * 1) (2 ^ 64 * d) (less a d (down_pos e) l); value = least (a / d) s; small = s }
-  where
-    more : (a d : ℕ) → 0 < d → 0 < 1 * d + a * 1
-    more a d h = omega arith
+    let r = m * up e % d in
+    sym (λ i. seven_test x r d (down_pos e) v i && nine_test x r d (down_pos e) v i)
 
-    less : (a d : ℕ) → 0 < d → a < 2 ^ 52 * d → a * 1 < 2 ^ 64 * d
-    less a d p h = omega arith
-
-    least : (q : ℕ) → q < 2 ^ 52 → min q (2 ^ 64 - 1) ≡ q
-    least q h = omega arith
+-- the test on q, by the tests on that part
+pub doubtful_is : (q a p : Float) → T (fits binary64 q) → a ≡ float_with_sign false q → p ≡ fract binary64 a → doubtful q ≡ (le seven_f p && le p nine_f)
+doubtful_is q a p f g e = of_size q f ∙ ap (λ (x : Float). le seven_f x && le x nine_f) (sym (e ∙ ap (fract binary64) g))

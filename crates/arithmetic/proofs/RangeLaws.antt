@@ -1,28 +1,20 @@
--- What the tests of `round_even` and `ceil` say: x against 0 and against 2 ^ 30 either way, and the i32 that is made of a size. Assumes nothing.
-use Rattle.std.proofs.Common.{◌≡◌, ℕ, zero, suc, ◌+◌, ◌*◌, ◌/◌, ◌^◌, ◌<◌, ◌≤◌, Bool, true, false, cond, not, ◌&&◌, ◌||◌, T, eqb, ltb, leb, ◌⊎◌, ℤ, pos, ◌-ℤ◌, neg_ℤ, sym, refl, ap, ◌∙◌, subst, inl, inr, true≢false, le_of_eq, le_of_lt, eq-or-lt_of_le, zero-mul, mul-one, not-le_of_lt, arith, lit<, eqb→eq, ltb→lt, lt→ltb, leb→le, w32, SFits, to_z, of_z}
-use mathlib.Core.Bool.{beq, false≢true}
-use Prim.Native.Nat.{compare, Ordering}
-use native.Mathlib.Nat.{zero-div, zero-mod}
-use lib.Dec.{leb-zero, nleb→lt, eqb_refl, not_T}
-use lib.IntN.{+ℤ_idl}
-use mir.ValLaws.{to_z_pos, to_z-of_z}
-use lib.Ieee.{Float, nan, inf, fin, up, down, nearest, neg, lt, eq, le}
+-- What the range test of `round_even` and `ceil` says, and the i32 that is made within the range. Assumes nothing.
+use Rattle.std.proofs.Common.{◌≡◌, ℕ, zero, suc, ◌+◌, ◌-◌, ◌*◌, ◌/◌, ◌%◌, ◌^◌, ◌<◌, ◌≤◌, min, Bool, true, false, cond, not, ◌&&◌, ◌||◌, T, eqb, ltb, leb, ◌⊎◌, ℤ, pos, neg_ℤ, Some, sym, refl, ap, ◌∙◌, subst, inl, inr, le_trans, le_of_eq, le_of_lt, eq-or-lt_of_le, div-add-mod', mod-lt, div-lt_iff_lt-mul, mul-one, mul_comm, not-le_of_lt, arith, lit<, lit≤, eqb→eq, ltb→lt, lt→ltb, leb→le, w32}
+use Rattle.std.proofs.Math.Nat.{div-eq_of_lt-le}
+use native.Mathlib.Nat.{mul-div_cancel, div-le_of_le-mul}
+use lib.Dec.{nleb→lt, eqb_refl, not_T}
+use Rattle.std.specs.Float.{float_with_sign, float_to_signed, round_with, round_ties_even, ceil}
+use lib.Ieee.{Float, nan, inf, fin, binary64, up, down, round, lt, eq, le, to_signed}
+use lib.Ieee.Back.{round_whole}
 use lib.Ieee.Bits.{is_true, is_false}
-use lib.Ieee.Fits.{down_pos, and_l}
-use lib.Ieee.Nearest.{closest}
-use lib.Ieee.Positive.{num, den, positive, first_pos}
-use Rattle.arithmetic.specs.Rounding.{within, ceiling, nearest_whole, ceiling_whole}
-use Rattle.arithmetic.proofs.RoundLaws.{is_lt}
+use lib.Ieee.Exact.{HasValue}
+use lib.Ieee.Fits.{down_pos}
+use lib.Ieee.Nearest.{closest, closest_mono}
+use Rattle.arithmetic.specs.Rounding.{signed, within, ceiling, nearest_whole, ceiling_whole, if_within, round_even, ceil_of}
 
--- 0, 2 ^ 30 and -2 ^ 30
-abbrev pub zero_f : Float
-zero_f = fin false 0 (pos 0)
-
+-- 2 ^ 30
 abbrev pub most : Float
 most = fin false 1 (pos 30)
-
-abbrev pub least : Float
-least = fin true 1 (pos 30)
 
 -- ---- tests on numbers
 pub le-leb : (a b : ℕ) → (ltb a b || (eqb a b && true)) ≡ leb a b
@@ -62,182 +54,88 @@ eqb_sym a b = iff (eqb a b) (eqb b a) (λ (t : T (eqb a b)). subst (λ (x : ℕ)
 pub T_of : {b : Bool} → b ≡ true → T b
 T_of e = subst T (sym e) tt
 
--- ---- the range test, at each sign
-pub pos_within : (x : Float) → lt zero_f x ≡ true → le x most ≡ within x
-unfolding lt le within
-pos_within nan h = refl
-pos_within (inf true) h = absurd (false≢true h)
-pos_within (inf false) h = refl
-pos_within (fin true m e) h = absurd (false≢true h)
-pos_within (fin false m e) h = le-leb (m * up e * 1) (2 ^ 30 * down e) ∙ ap (λ (a : ℕ). leb a (2 ^ 30 * down e)) (mul-one (m * up e))
+-- ---- the range test
+size_within : (x : Float) → le (float_with_sign false x) most ≡ within x
+unfolding lt eq le within float_with_sign
+size_within nan = refl
+size_within (inf s) = refl
+size_within (fin s m e) = le-leb (m * up e * 1) (2 ^ 30 * down e) ∙ ap (λ (a : ℕ). leb a (2 ^ 30 * down e)) (mul-one (m * up e))
 
-pub pos_positive : (x : Float) → lt zero_f x ≡ true → T (within x) → T (positive x)
-unfolding lt within
-pos_positive nan h w = w
-pos_positive (inf s) h w = w
-pos_positive (fin true m e) h w = absurd (false≢true h)
-pos_positive (fin false m e) h w = lt→ltb 0 m (first_pos m (up e) (above (0 * down e) (m * up e) (m * up e * 1) (ltb→lt (0 * down e) (m * up e * 1) (T_of h)) (mul-one (m * up e))))
+-- the test on a, the size of x
+pub abs_within : (x a : Float) (b : Bool) → a ≡ float_with_sign false x → le a most ≡ b → within x ≡ b
+abs_within x a b e t = sym (size_within x) ∙ ap (λ (y : Float). le y most) (sym e) ∙ t
+
+-- ---- the i32 of a float that is whole, and up to 2 ^ 30 either way
+cast_is : (y : Float) (s : Bool) (n : ℕ) → HasValue y s n 1 → n ≤ 2 ^ 30 → to_signed 31 y ≡ signed s n
+unfolding to_signed
+cast_is nan s n v h = absurd v
+cast_is (inf t) s n v h = absurd v
+cast_is (fin t m e) s n v h =
+    let q : m * up e / down e ≡ n = ap (λ (z : ℕ). z / down e) (sym (mul-one (m * up e)) ∙ v.1) ∙ mul-div_cancel n (down_pos e) in
+    ap (λ (z : ℕ). cond t (neg_ℤ (pos (min z (2 ^ 31)))) (pos (min z (2 ^ 31 - 1)))) q ∙ go t v.0
   where
-    above : (z a b : ℕ) → z < b → b ≡ a → 0 < a
-    above z a b h e = omega arith
+    even_min : (n k : ℕ) → n ≤ 2 ^ 30 → 2 ^ 30 ≤ k → min n k ≡ n
+    even_min n k h g = omega arith
 
-pub neg_within : (x : Float) → lt x zero_f ≡ true → le least x ≡ within x
-unfolding lt le within
-neg_within nan h = refl
-neg_within (inf true) h = refl
-neg_within (inf false) h = absurd (false≢true h)
-neg_within (fin false m e) h = absurd (nothing (m * up e * 1) (down e) (ltb→lt (m * up e * 1) (0 * down e) (T_of h)))
+    go : (t : Bool) → t ≡ s → cond t (neg_ℤ (pos (min n (2 ^ 31)))) (pos (min n (2 ^ 31 - 1))) ≡ signed s n
+    go false e = ap pos (even_min n (2 ^ 31 - 1) h (lit≤ tt)) ∙ ap (λ (b : Bool). signed b n) e
+    go true e = ap (λ (z : ℕ). neg_ℤ (pos z)) (even_min n (2 ^ 31) h (lit≤ tt)) ∙ ap (λ (b : Bool). signed b n) e
+
+made : (s : Bool) (n : ℕ) → n ≤ 2 ^ 30 → to_signed 31 (round binary64 s n 1) ≡ signed s n
+made s n h = cast_is (round binary64 s n 1) s n (round_whole binary64 s n (le_trans h (lit≤ tt))) h
+
+closest_few : (a d : ℕ) → 0 < d → a ≤ 2 ^ 30 * d → closest a d ≤ 2 ^ 30
+closest_few a d D h = closest_mono a d (2 ^ 30) 1 D (lit< tt) (le_trans (le_of_eq (mul-one a)) h)
+
+-- the number nearest to x, cast
+even_cast : (x : Float) → T (within x) → to_signed 31 (round_ties_even binary64 x) ≡ nearest_whole x
+unfolding within round_with nearest_whole
+even_cast nan w = absurd w
+even_cast (inf s) w = absurd w
+even_cast (fin false m e) w = made false (closest (m * up e) (down e)) (closest_few (m * up e) (down e) (down_pos e) (leb→le (m * up e) (2 ^ 30 * down e) w))
+even_cast (fin true m e) w = made true (closest (m * up e) (down e)) (closest_few (m * up e) (down e) (down_pos e) (leb→le (m * up e) (2 ^ 30 * down e) w))
+
+floor_few : (a d : ℕ) → a ≤ 2 ^ 30 * d → a / d ≤ 2 ^ 30
+floor_few a d h = div-le_of_le-mul d (le_trans h (le_of_eq (mul_comm (2 ^ 30) d)))
+
+-- the ceiling of a fraction, as std has it
+ratio_is : (a d : ℕ) → 0 < d → (a + d - 1) / d ≡ ceiling a d
+ratio_is a d D = go (eqb (a % d) 0) (eqb→eq (a % d) 0) (some (a % d)) (div-add-mod' a d) (mod-lt a D)
   where
-    nothing : (a d : ℕ) → a < 0 * d → ⊥
-    nothing a d h = omega (arith, zero-mul d)
-neg_within (fin true m e) h =
-    ap (λ (t : Bool). ltb (m * up e * 1) (2 ^ 30 * down e) || (t && true)) (eqb_sym (2 ^ 30 * down e) (m * up e * 1))
-    ∙ le-leb (m * up e * 1) (2 ^ 30 * down e) ∙ ap (λ (a : ℕ). leb a (2 ^ 30 * down e)) (mul-one (m * up e))
+    some : (r : ℕ) → T (not (eqb r 0)) → 0 < r
+    some zero h = absurd h
+    some (suc r) h = omega arith
 
-pub within_neg : (x : Float) → within (neg x) ≡ within x
-unfolding within neg
-within_neg nan = refl
-within_neg (inf s) = refl
-within_neg (fin s m e) = refl
+    go : (b : Bool) → (T b → a % d ≡ 0) → (T (not b) → 0 < a % d) → a / d * d + a % d ≡ a → a % d < d → (a + d - 1) / d ≡ cond b (a / d) (suc (a / d))
+    go true z n e l = let r = z tt in div-eq_of_lt-le d (omega arith) (omega arith)
+    go false z n e l = let r = n tt in div-eq_of_lt-le d (omega arith) (omega arith)
 
-pub neg_positive : (x : Float) → lt x zero_f ≡ true → T (within x) → T (positive (neg x))
-unfolding lt within neg
-neg_positive nan h w = w
-neg_positive (inf s) h w = w
-neg_positive (fin false m e) h w = absurd (nothing (m * up e * 1) (down e) (ltb→lt (m * up e * 1) (0 * down e) (T_of h)))
+ceiling_few : (a d : ℕ) → 0 < d → a ≤ 2 ^ 30 * d → (a + d - 1) / d ≤ 2 ^ 30
+ceiling_few a d D h = most_of ((a + d - 1) / d) ((div-lt_iff_lt-mul D).1 (under a d D h))
   where
-    nothing : (a d : ℕ) → a < 0 * d → ⊥
-    nothing a d h = omega (arith, zero-mul d)
-neg_positive (fin true m e) h w = lt→ltb 0 m (first_pos m (up e) (above (down e) (m * up e) (m * up e * 1) (ltb→lt 0 (m * up e * 1 + 0 * down e) (T_of h)) (mul-one (m * up e))))
-  where
-    above : (d a b : ℕ) → 0 < b + 0 * d → b ≡ a → 0 < a
-    above d a b h e = omega (arith, zero-mul d)
+    under : (a d : ℕ) → 0 < d → a ≤ 2 ^ 30 * d → a + d - 1 < (2 ^ 30 + 1) * d
+    under a d D h = omega arith
 
--- ---- zero, and what is none of the three
-abbrev pub Zero : Float → Type 0
-Zero nan = ⊥
-Zero (inf s) = ⊥
-Zero (fin s m e) = m * up e ≡ 0
+    most_of : (q : ℕ) → q < 2 ^ 30 + 1 → q ≤ 2 ^ 30
+    most_of q h = omega arith
 
-pub zero_of : (x : Float) → eq x zero_f ≡ true → Zero x
-unfolding eq
-zero_of nan h = absurd (false≢true h)
-zero_of (inf s) h = absurd (false≢true h)
-zero_of (fin s m e) h = nil (m * up e) (down e) (eqb→eq (m * up e * 1) (0 * down e) (and_l (eqb (m * up e * 1) (0 * down e)) (beq s false || eqb (m * up e * 1) 0) (T_of h)))
-  where
-    nil : (a d : ℕ) → a * 1 ≡ 0 * d → a ≡ 0
-    nil a d h = omega (arith, zero-mul d)
+-- the ceiling of x, cast
+ceiling_cast : (x : Float) → T (within x) → to_signed 31 (ceil binary64 x) ≡ ceiling_whole x
+unfolding within round_with ceiling_whole
+ceiling_cast nan w = absurd w
+ceiling_cast (inf s) w = absurd w
+ceiling_cast (fin false m e) w =
+    let h = leb→le (m * up e) (2 ^ 30 * down e) w in
+    made false ((m * up e + down e - 1) / down e) (ceiling_few (m * up e) (down e) (down_pos e) h) ∙ ap pos (ratio_is (m * up e) (down e) (down_pos e))
+ceiling_cast (fin true m e) w = made true (m * up e / down e) (floor_few (m * up e) (down e) (leb→le (m * up e) (2 ^ 30 * down e) w))
 
-pub zero_within : (x : Float) → eq x zero_f ≡ true → within x ≡ true
-unfolding within
-zero_within x h = go x (zero_of x h)
-  where
-    go : (x : Float) → Zero x → within x ≡ true
-    go nan z = absurd z
-    go (inf s) z = absurd z
-    go (fin s m e) z = ap (λ (a : ℕ). leb a (2 ^ 30 * down e)) z ∙ leb-zero (2 ^ 30 * down e)
+-- ---- what `round_even` and `ceil` answer
+answer_same : (b : Bool) (y z : ℤ) → (T b → y ≡ z) → if_within b y ≡ if_within b z
+answer_same true y z e = ap Some (e tt)
+answer_same false y z e = refl
 
-closest_zero : (d : ℕ) → 0 < d → closest 0 d ≡ 0
-closest_zero d D =
-    ap (λ (r : ℕ). nearest (0 / d) (compare (r * 2) d)) (zero-mod d) ∙ ap (λ (o : Ordering). nearest (0 / d) o) (is_lt 0 d D) ∙ zero-div d
+pub even_is : (x : Float) → if_within (within x) (float_to_signed w32 (round_ties_even binary64 x)) ≡ round_even x
+even_is x = answer_same (within x) (to_signed 31 (round_ties_even binary64 x)) (nearest_whole x) (even_cast x)
 
-pub nearest_zero : (x : Float) → eq x zero_f ≡ true → nearest_whole x ≡ pos 0
-unfolding nearest_whole
-nearest_zero x h = go x (zero_of x h)
-  where
-    go : (x : Float) → Zero x → nearest_whole x ≡ pos 0
-    go nan z = refl
-    go (inf s) z = refl
-    go (fin true m e) z = ap (λ (a : ℕ). neg_ℤ (pos (closest a (down e)))) z ∙ ap (λ (a : ℕ). neg_ℤ (pos a)) (closest_zero (down e) (down_pos e))
-    go (fin false m e) z = ap (λ (a : ℕ). pos (closest a (down e))) z ∙ ap pos (closest_zero (down e) (down_pos e))
-
-pub ceiling_zero : (x : Float) → eq x zero_f ≡ true → ceiling_whole x ≡ pos 0
-unfolding ceiling_whole
-ceiling_zero x h = go x (zero_of x h)
-  where
-    go : (x : Float) → Zero x → ceiling_whole x ≡ pos 0
-    go nan z = refl
-    go (inf s) z = refl
-    go (fin true m e) z = ap (λ (a : ℕ). neg_ℤ (pos (a / down e))) z ∙ ap (λ (a : ℕ). neg_ℤ (pos a)) (zero-div (down e))
-    go (fin false m e) z =
-        ap (λ (a : ℕ). pos (ceiling a (down e))) z ∙ ap (λ (r : ℕ). pos (cond (eqb r 0) (0 / down e) (suc (0 / down e)))) (zero-mod (down e)) ∙ ap pos (zero-div (down e))
-
-pub within_size : (x : Float) → T (within x) → num x ≤ 2 ^ 30 * den x
-unfolding within
-within_size (fin s m e) w = leb→le (m * up e) (2 ^ 30 * down e) w
-within_size nan w = absurd w
-within_size (inf s) w = absurd w
-
--- a float with the sign set is below zero or zero
-pub below_or_zero : (k d : ℕ) → ltb 0 (k * 1 + 0 * d) ≡ false → (eqb (k * 1) (0 * d) && (false || eqb (k * 1) 0)) ≡ false → ⊥
-below_or_zero zero d a c = true≢false (sym (ap (λ (z : ℕ). eqb 0 z && true) (zero-mul d)) ∙ c)
-below_or_zero (suc k) d a c = true≢false (sym (is_true (ltb 0 (suc k * 1 + 0 * d)) (lt→ltb 0 (suc k * 1 + 0 * d) (more k d))) ∙ a)
-  where
-    more : (k d : ℕ) → 0 < suc k * 1 + 0 * d
-    more k d = omega arith
-
-pub none_within : (x : Float) → lt zero_f x ≡ false → lt x zero_f ≡ false → eq x zero_f ≡ false → within x ≡ false
-unfolding lt eq within
-none_within nan a b c = refl
-none_within (inf s) a b c = refl
-none_within (fin false m e) a b c = absurd (some (m * up e) (down e) a c)
-  where
-    some : (k d : ℕ) → ltb (0 * d) (k * 1) ≡ false → (eqb (k * 1) (0 * d) && true) ≡ false → ⊥
-    some zero d a c = true≢false (sym (ap (λ (z : ℕ). eqb 0 z && true) (zero-mul d)) ∙ c)
-    some (suc k) d a c = true≢false (sym (is_true (ltb (0 * d) (suc k * 1)) (lt→ltb (0 * d) (suc k * 1) (more k d))) ∙ a)
-      where
-        more : (k d : ℕ) → 0 * d < suc k * 1
-        more k d = omega (arith, zero-mul d)
-none_within (fin true m e) a b c = absurd (below_or_zero (m * up e) (down e) b c)
-
--- ---- the whole number by the size
-pub nearest_pos : (x : Float) → T (positive x) → nearest_whole x ≡ pos (closest (num x) (den x))
-unfolding nearest_whole
-nearest_pos nan p = absurd p
-nearest_pos (inf s) p = absurd p
-nearest_pos (fin true m e) p = absurd p
-nearest_pos (fin false m e) p = refl
-
-pub nearest_neg : (x : Float) → T (positive (neg x)) → nearest_whole x ≡ neg_ℤ (pos (closest (num (neg x)) (den (neg x))))
-unfolding nearest_whole neg
-nearest_neg nan p = absurd p
-nearest_neg (inf s) p = absurd p
-nearest_neg (fin false m e) p = absurd p
-nearest_neg (fin true m e) p = refl
-
-pub ceiling_pos : (x : Float) → T (positive x) → ceiling_whole x ≡ pos (ceiling (num x) (den x))
-unfolding ceiling_whole
-ceiling_pos nan p = absurd p
-ceiling_pos (inf s) p = absurd p
-ceiling_pos (fin true m e) p = absurd p
-ceiling_pos (fin false m e) p = refl
-
-pub ceiling_neg : (x : Float) → T (positive (neg x)) → ceiling_whole x ≡ neg_ℤ (pos (num (neg x) / den (neg x)))
-unfolding ceiling_whole neg
-ceiling_neg nan p = absurd p
-ceiling_neg (inf s) p = absurd p
-ceiling_neg (fin false m e) p = absurd p
-ceiling_neg (fin true m e) p = refl
-
--- ---- the i32 of a size up to 2 ^ 30, and its negation
-under : (r : ℕ) → r ≤ 2 ^ 30 → r < 2 ^ 31
-under r h = omega arith
-
-pub as_i32 : (r : ℕ) → r ≤ 2 ^ 30 → to_z w32 r ≡ pos r
-as_i32 r h = to_z_pos w32 r (under r h)
-
-minus_is : (r : ℕ) → r ≤ 2 ^ 30 → pos 0 -ℤ to_z w32 r ≡ neg_ℤ (pos r)
-minus_is r h = ap (λ (z : ℤ). pos 0 -ℤ z) (as_i32 r h) ∙ +ℤ_idl (neg_ℤ (pos r))
-
-neg-fits : (r : ℕ) → r ≤ 2 ^ 30 → SFits w32 (neg_ℤ (pos r))
-neg-fits zero h = record { sfits = lit< tt }
-neg-fits (suc r) h = record { sfits = less r h }
-  where
-    less : (r : ℕ) → suc r ≤ 2 ^ 30 → r < 2 ^ 31
-    less r h = omega arith
-
-pub minus_fits : (r : ℕ) → r ≤ 2 ^ 30 → SFits w32 (pos 0 -ℤ to_z w32 r)
-minus_fits r h = subst (λ (z : ℤ). SFits w32 z) (sym (minus_is r h)) (neg-fits r h)
-
-pub as_minus : (r : ℕ) → r ≤ 2 ^ 30 → to_z w32 (of_z w32 (pos 0 -ℤ to_z w32 r)) ≡ neg_ℤ (pos r)
-as_minus r h = to_z-of_z w32 (pos 0 -ℤ to_z w32 r) (minus_fits r h) ∙ minus_is r h
+pub ceiling_is : (x : Float) → if_within (within x) (float_to_signed w32 (ceil binary64 x)) ≡ ceil_of x
+ceiling_is x = answer_same (within x) (to_signed 31 (ceil binary64 x)) (ceiling_whole x) (ceiling_cast x)

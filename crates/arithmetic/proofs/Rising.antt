@@ -1,13 +1,12 @@
 -- THE LAW: for a sweep that passes questions 5 to 8 no limit is below the one before it. Assumes nothing.
-use Rattle.std.proofs.Common.{◌≡◌, ℕ, zero, suc, ◌+◌, ◌*◌, ◌<◌, ◌≤◌, Bool, true, false, cond, T, eqb, List, [], ◌∷◌, ◌++◌, length, get_or, ℤ, pos, ◌+ℤ◌, sym, refl, ap, ◌∙◌, subst, inl, inr, le_trans, le_of_eq, eq-or-lt_of_le, zero-mul, arith, lit≤, length-append}
+use Rattle.std.proofs.Common.{◌≡◌, ℕ, zero, suc, ◌+◌, ◌*◌, ◌<◌, ◌≤◌, Bool, true, false, cond, T, eqb, List, [], ◌∷◌, ◌++◌, length, get_or, Option, Some, None, ℤ, pos, ◌+ℤ◌, sym, refl, ap, ◌∙◌, subst, inl, inr, le_trans, le_of_eq, eq-or-lt_of_le, zero-mul, arith, lit≤, length-append}
 use lib.ListN.{get_or-append}
 use lib.Seq.{get_or_at}
 use lib.Ieee.{Float, nan, binary32, binary64, mul, lt, le, fits}
 use lib.Ieee.Fits.{add-fits, cond-fits, fits_widens}
 use Rattle.arithmetic.specs.Rounding.{real}
 use Rattle.arithmetic.specs.declared.intervals.Extremes.{Extremes}
-use Rattle.arithmetic.specs.declared.intervals.Extremes.TheVariants.{Both, NoneValid}
-use Rattle.arithmetic.specs.Intervals.{velocity_in_range, valid, least, greatest, range, over_both, width, over_start, over_end, beyond, widened, no_adds, adds, number, spaced, step_of, limit_at, at_least0, start_of, end_of, limits_of, limits_for, number_for}
+use Rattle.arithmetic.specs.Intervals.{velocity_in_range, valid, lesser, greater, least, greatest, range, over_both, width, over_start, over_end, beyond, widened, no_adds, adds, number, spaced, step_of, limit_at, at_least0, start_of, end_of, limits_of, limits_for, number_for}
 use Rattle.arithmetic.proofs.Units.{tiny}
 use Rattle.arithmetic.proofs.Plans.{range_fair}
 use Rattle.arithmetic.proofs.Quotient.{Nyquist, nyquist, Wide, wide, speed, over_start_lem, over_end_lem, Add, add_of}
@@ -82,19 +81,20 @@ no_add W = record { whole = lit≤ tt; wide = le_trans (le_of_eq (zero-mul W)) (
     none : (x : ℕ) → 0 ≤ x
     none x = omega arith
 
-adds_of : (nyq : Float) (S : ℕ) (e : Extremes) (n : Nyquist nyq) (w : Wide nyq n.size S) → 1 ≤ S → S ≤ 9999 → Held e → ExtremesInRange e → Add (adds nyq S e).start w.size × Add (adds nyq S e).end w.size
+adds_of : (nyq : Float) (S : ℕ) (e : Option Extremes) (n : Nyquist nyq) (w : Wide nyq n.size S) → 1 ≤ S → S ≤ 9999 → Held e → ExtremesInRange e → Add (adds nyq S e).start w.size × Add (adds nyq S e).end w.size
 unfolding adds no_adds widened
-adds_of nyq S NoneValid n w some few f h = (no_add w.size, no_add w.size)
-adds_of nyq S (Both lo hi) n w some few f h = go (beyond nyq lo hi)
+adds_of nyq S None n w some few f h = (no_add w.size, no_add w.size)
+adds_of nyq S (Some e) n w some few f h = go e.least e.greatest f h (beyond nyq e.least e.greatest)
   where
-    go : (b : Bool) → Add (cond b (widened nyq (width nyq S) lo hi) no_adds).start w.size × Add (cond b (widened nyq (width nyq S) lo hi) no_adds).end w.size
-    go true = (
+    go : (lo hi : Float) → T (fits binary64 lo) × T (fits binary64 hi) → T (velocity_in_range lo) × T (velocity_in_range hi) → (b : Bool)
+        → Add (cond b (widened nyq (width nyq S) lo hi) no_adds).start w.size × Add (cond b (widened nyq (width nyq S) lo hi) no_adds).end w.size
+    go lo hi f h true = (
       add_of nyq (over_start nyq hi) S n w (over_start_lem nyq hi n (speed hi f.1 h.1)) some few,
       add_of nyq (over_end nyq lo) S n w (over_end_lem nyq lo n (speed lo f.0 h.0)) some few,
     )
-    go false = (no_add w.size, no_add w.size)
+    go lo hi f h false = (no_add w.size, no_add w.size)
 
-limits_never_fall : (nyq : Float) (S : ℕ) (e : Extremes) → T (fits binary64 nyq) → Held e → Asked nyq S → ExtremesInRange e → at_least0 (number S (adds nyq S e)) ≤ 10000 → Rising (limits_for nyq S e)
+limits_never_fall : (nyq : Float) (S : ℕ) (e : Option Extremes) → T (fits binary64 nyq) → Held e → Asked nyq S → ExtremesInRange e → at_least0 (number S (adds nyq S e)) ≤ 10000 → Rising (limits_for nyq S e)
 unfolding limits_for number
 limits_never_fall nyq S e f g a h l =
     let n = nyquist nyq f a in
@@ -108,12 +108,12 @@ AllHeld [] = Unit {0}
 AllHeld (v ∷ vs) = T (fits binary64 v) × AllHeld vs
 
 least_held : (x : Float) (l : List Float) → T (fits binary64 x) → AllHeld l → T (fits binary64 (least x l))
-unfolding least
+unfolding lesser least
 least_held x [] f h = f
 least_held x (v ∷ l) f h = least_held (cond (lt v x) v x) l (cond-fits binary64 (lt v x) v x h.0 f) h.1
 
 greatest_held : (x : Float) (l : List Float) → T (fits binary64 x) → AllHeld l → T (fits binary64 (greatest x l))
-unfolding greatest
+unfolding greater greatest
 greatest_held x [] f h = f
 greatest_held x (v ∷ l) f h = greatest_held (cond (lt x v) v x) l (cond-fits binary64 (lt x v) v x h.0 f) h.1
 
@@ -132,12 +132,6 @@ valid_held (v ∷ vs) (m ∷ ms) h = go (eqb m 1) (valid_held vs ms h.1)
     go true k = (h.0, k)
     go false k = k
 
-pub over_held : (e f : Extremes) → Held e → Held f → Held (over_both e f)
-unfolding over_both
-over_held NoneValid f h k = k
-over_held (Both lo hi) NoneValid h k = h
-over_held (Both lo hi) (Both lo2 hi2) h k = (cond-fits binary64 (lt lo2 lo) lo2 lo k.0 h.0, cond-fits binary64 (lt hi hi2) hi2 hi k.1 h.1)
-
 -- ---- as an entry has it: what a slice of f32 holds, and questions 5 to 8
 slice_held : (vs : List Float) → ((i : ℕ) → T (fits binary32 (get_or vs i nan))) → AllHeld vs
 slice_held [] h = tt
@@ -146,7 +140,7 @@ slice_held (v ∷ vs) h = (fits_widens v (h 0), slice_held vs (λ (i : ℕ). h (
 pub slice_range_held : (vs : List Float) (ms : List ℕ) → ((i : ℕ) → T (fits binary32 (get_or vs i nan))) → Held (range (valid vs ms))
 slice_range_held vs ms h = range_held (valid vs ms) (valid_held vs ms (slice_held vs h))
 
-pub asked_limits_rise : (nyq : Float) (S : ℕ) (e : Extremes) → T (fits binary32 nyq) → Held e → Asked nyq S → ExtremesInRange e → at_least0 (number_for nyq S e) ≤ 10000 → Rising (limits_for nyq S e)
+pub asked_limits_rise : (nyq : Float) (S : ℕ) (e : Option Extremes) → T (fits binary32 nyq) → Held e → Asked nyq S → ExtremesInRange e → at_least0 (number_for nyq S e) ≤ 10000 → Rising (limits_for nyq S e)
 unfolding number_for
 asked_limits_rise nyq S e f g a h l = limits_never_fall nyq S e (fits_widens nyq f) g a h l
 

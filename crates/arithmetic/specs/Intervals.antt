@@ -1,12 +1,11 @@
 -- intervals.rs: the least and the greatest valid velocity, the adds, and the limits. Arithmetic is f64, one rounding an operation.
 --
-use Rattle.std.specs.Prelude.{ℕ, zero, suc, ◌+◌, Bool, true, false, cond, ◌&&◌, ◌||◌, List, [], ◌∷◌, ◌++◌, ℤ, pos, negsuc, ◌+ℤ◌, ◌==◌, Float}
+use Rattle.std.specs.Prelude.{ℕ, zero, suc, ◌+◌, Bool, true, false, cond, ◌&&◌, ◌||◌, List, [], ◌∷◌, ◌++◌, ℤ, pos, negsuc, ◌+ℤ◌, ◌==◌, Float, Option, Some, None}
 use Rattle.std.specs.Float.{fin, binary64}
 use Rattle.std.specs.Float.Ieee.{add, sub, mul, div, neg, lt, le}
 use Rattle.lists.specs.Seq.{tabulate}
 use Rattle.arithmetic.specs.Rounding.{ceiling_whole, real}
 use Rattle.arithmetic.specs.declared.intervals.Extremes.{Extremes}
-use Rattle.arithmetic.specs.declared.intervals.Extremes.TheVariants.{Both, NoneValid}
 use Rattle.arithmetic.specs.declared.intervals.Plan.{Plan}
 
 -- the velocities at valid gates, whose mask byte is 1
@@ -15,30 +14,42 @@ valid [] ms = []
 valid (v ∷ vs) [] = []
 valid (v ∷ vs) (m ∷ ms) = cond (m == 1) (v ∷ valid vs ms) (valid vs ms)
 
+-- the lesser of two
+unfoldable pub lesser : Float → Float → Float
+lesser x y = cond (lt x y) x y
+
+-- the other one
+unfoldable pub greater : Float → Float → Float
+greater x y = cond (lt x y) y x
+
 -- the least of x and the rest
 unfoldable pub least : Float → List Float → Float
 least x [] = x
-least x (v ∷ vs) = least (cond (lt v x) v x) vs
+least x (v ∷ vs) = least (lesser v x) vs
 
 -- the greatest of x and the rest
 unfoldable pub greatest : Float → List Float → Float
 greatest x [] = x
-greatest x (v ∷ vs) = greatest (cond (lt x v) v x) vs
+greatest x (v ∷ vs) = greatest (greater x v) vs
+
+-- a range from lo to hi
+abbrev pub both : Float → Float → Option Extremes
+both lo hi = Some (record { least = lo; greatest = hi })
 
 -- the least and the greatest, or that none is valid
-unfoldable pub range : List Float → Extremes
-range [] = NoneValid
-range (v ∷ vs) = Both (least v vs) (greatest v vs)
+unfoldable pub range : List Float → Option Extremes
+range [] = None
+range (v ∷ vs) = both (least v vs) (greatest v vs)
 
 -- the least and the greatest over two ranges
-unfoldable pub over_both : Extremes → Extremes → Extremes
-over_both NoneValid f = f
-over_both (Both lo hi) NoneValid = Both lo hi
-over_both (Both lo hi) (Both lo2 hi2) = Both (cond (lt lo2 lo) lo2 lo) (cond (lt hi hi2) hi2 hi)
+unfoldable pub over_both : Option Extremes → Option Extremes → Option Extremes
+over_both None f = f
+over_both (Some e) None = Some e
+over_both (Some e) (Some f) = both (lesser f.least e.least) (greater e.greatest f.greatest)
 
 -- a range with one velocity more
-abbrev pub include : Extremes → Float → Extremes
-include e v = over_both e (Both v v)
+abbrev pub include : Option Extremes → Float → Option Extremes
+include e v = over_both e (both v v)
 
 -- 2 × Nyquist
 unfoldable pub two_nyquist : Float → Float
@@ -74,9 +85,9 @@ unfoldable pub no_adds : Adds
 no_adds = record { start = pos 0; end = pos 0 }
 
 -- the adds of a sweep
-unfoldable pub adds : Float → ℕ → Extremes → Adds
-adds nyq splits NoneValid = no_adds
-adds nyq splits (Both lo hi) = cond (beyond nyq lo hi) (widened nyq (width nyq splits) lo hi) no_adds
+unfoldable pub adds : Float → ℕ → Option Extremes → Adds
+adds nyq splits None = no_adds
+adds nyq splits (Some e) = cond (beyond nyq e.least e.greatest) (widened nyq (width nyq splits) e.least e.greatest) no_adds
 
 -- how many limits there are; none where this is not above 0
 unfoldable pub number : ℕ → Adds → ℤ
@@ -118,11 +129,11 @@ unfoldable pub limits_of : Float → ℕ → ℤ → ℤ → ℤ → List Float
 limits_of nyq splits a b n = spaced (start_of nyq (width nyq splits) a) (end_of nyq (width nyq splits) b) (at_least0 n)
 
 -- the number of limits of a sweep
-unfoldable pub number_for : Float → ℕ → Extremes → ℤ
+unfoldable pub number_for : Float → ℕ → Option Extremes → ℤ
 number_for nyq splits e = number splits (adds nyq splits e)
 
 -- the limits of a sweep
-unfoldable pub limits_for : Float → ℕ → Extremes → List Float
+unfoldable pub limits_for : Float → ℕ → Option Extremes → List Float
 limits_for nyq splits e = let a = adds nyq splits e in limits_of nyq splits a.start a.end (number splits a)
 
 -- question 5: a Nyquist from 0.125 to 1,024

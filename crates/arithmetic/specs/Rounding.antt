@@ -1,11 +1,9 @@
 -- The float helpers: a float to a whole number, a whole number to f32, and f64 to f32, over the fraction ± m × up e / down e that a
 -- finite float is. A whole number to the nearest f32 is the library's `of_int binary32`.
-use Rattle.std.specs.Prelude.{ℕ, suc, ◌*◌, ◌/◌, ◌%◌, ◌^◌, Bool, true, false, cond, ℤ, pos, ◌*ℤ◌, neg_ℤ, ◌==◌, nat_le, Float}
+use Rattle.std.specs.Prelude.{ℕ, suc, ◌*◌, ◌/◌, ◌%◌, ◌^◌, Bool, true, false, cond, ℤ, pos, ◌*ℤ◌, neg_ℤ, ◌==◌, nat_le, Float, Option, Some, None}
 use Rattle.std.specs.Float.{nan, inf, fin, binary32, binary64}
 use Rattle.std.specs.Float.Ieee.{up, down, round, of_int}
 use Rattle.std.specs.Float.Ieee.Nearest.{closest}
-use Rattle.arithmetic.specs.declared.rounding.Rounded.{Rounded}
-use Rattle.arithmetic.specs.declared.rounding.Rounded.TheVariants.{Whole, Outside}
 
 -- n with a sign
 abbrev pub signed : Bool → ℕ → ℤ
@@ -36,16 +34,16 @@ within (inf s) = false
 within (fin s m e) = nat_le (m * up e) (2 ^ 30 * down e)
 
 -- the answer of a helper whose range test gave b
-abbrev pub if_within : Bool → ℤ → Rounded
-if_within true z = Whole z
-if_within false z = Outside
+abbrev pub if_within : Bool → ℤ → Option ℤ
+if_within true z = Some z
+if_within false z = None
 
 -- Rust's `round_ties_even`, where x is in range
-abbrev pub round_even : Float → Rounded
+abbrev pub round_even : Float → Option ℤ
 round_even x = if_within (within x) (nearest_whole x)
 
 -- Rust's `ceil`, where x is in range
-abbrev pub ceil_of : Float → Rounded
+abbrev pub ceil_of : Float → Option ℤ
 ceil_of x = if_within (within x) (ceiling_whole x)
 
 -- Rust's `as f32` of an f64: the nearest f32, a tie to the even one

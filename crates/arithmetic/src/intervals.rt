@@ -1,18 +1,17 @@
 // intervals.rs: the interval limits of a sweep, in f64, one rounding an operation.
-ghost use Rattle.std.specs.Prelude.{◌≡◌, ◌+◌, ◌<◌, ◌≤◌, not, T, length, pos, ◌+ℤ◌, if◌then◌else◌, is_nan};
+ghost use Rattle.std.specs.Prelude.{◌≡◌, ◌+◌, ◌<◌, ◌≤◌, not, T, length, pos, ◌+ℤ◌, is_nan};
 ghost use Rattle.std.specs.Float.Ieee as Ieee;
 ghost use Rattle.std.specs.Float.{binary64};
 ghost use Rattle.std.specs.Float.Ieee.{div};
 ghost use Rattle.arithmetic.specs.Rounding.{within, ceiling_whole};
 ghost use Rattle.arithmetic.specs.Intervals as I;
-ghost use Rattle.arithmetic.specs.declared.intervals.Extremes.TheVariants.{Both};
 ghost use Rattle.arithmetic.specs.Inside.Asked.{Asked, ExtremesInRange, front};
 
-// The least and the greatest valid velocity, or that there is none.
+// The least and the greatest of velocities.
 #[derive(Clone, Copy)]
-pub enum Extremes {
-    Both(f64, f64),
-    NoneValid,
+pub struct Extremes {
+    pub least: f64,
+    pub greatest: f64,
 }
 
 // How far the limits are widened, and how many there are; none where the number is not above 0.
@@ -23,51 +22,74 @@ pub struct Plan {
     pub number: i64,
 }
 
-fn lower(x: f64, v: f64) -> f64
-    ensures { result ≡ (if Ieee.lt v x then v else x) }
-{
-    if v < x { v } else { x }
-}
-
-fn upper(x: f64, v: f64) -> f64
-    ensures { result ≡ (if Ieee.lt x v then v else x) }
-{
-    if x < v { v } else { x }
-}
-
-// The least and the greatest over a range and one from `lo2` to `hi2`.
-fn widen(e: Extremes, lo2: f64, hi2: f64) -> Extremes
-    ensures { result ≡ I.over_both e (Both lo2 hi2) }
-{
-    match e {
-        Extremes::Both(lo, hi) => Extremes::Both(lower(lo, lo2), upper(hi, hi2)),
-        Extremes::NoneValid => Extremes::Both(lo2, hi2),
+impl Plan {
+    // The number as a length: 0 where it is below 0.
+    pub fn how_many(self) -> usize
+        ensures { result ≡ I.at_least0 self.number }
+    {
+        usize::try_from(self.number).unwrap_or(0)
     }
 }
 
-pub fn least_and_greatest(velocity: &[f32], valid: &[u8]) -> Extremes
+// The lesser of two.
+#[tactic(auto, unfolding(crate::specs::Intervals::lesser))]
+pub fn lesser(x: f64, y: f64) -> f64
+    ensures { result ≡ I.lesser x y }
+{
+    if x < y { x } else { y }
+}
+
+// The other one.
+#[tactic(auto, unfolding(crate::specs::Intervals::greater))]
+pub fn greater(x: f64, y: f64) -> f64
+    ensures { result ≡ I.greater x y }
+{
+    if x < y { y } else { x }
+}
+
+// The least and the greatest over the ranges of e and f, where e may have none.
+#[tactic(auto, unfolding(crate::specs::Intervals::over_both))]
+fn widen(e: Option<Extremes>, f: Extremes) -> Extremes
+    ensures { Some result ≡ I.over_both e (Some f) }
+{
+    match e {
+        Some(e) => Extremes {
+            least: lesser(f.least, e.least),
+            greatest: greater(e.greatest, f.greatest),
+        },
+        None => f,
+    }
+}
+
+// The least and the greatest valid velocity; none where none is valid.
+pub fn least_and_greatest(velocity: &[f32], valid: &[u8]) -> Option<Extremes>
     requires { length valid.now ≡ length velocity.now }
     ensures { result ≡ I.range (I.valid velocity.now valid.now) }
 {
-    let mut e = Extremes::NoneValid;
-    let mut i = 0;
-    while i < velocity.len() {
-        if valid[i] == 1 {
-            let v = std::num::f32_to_f64_with_nan(velocity[i]);
-            e = widen(e, v, v);
+    let mut e = None;
+    for (v, m) in velocity.iter().zip(valid) {
+        if *m == 1 {
+            let v = std::num::f32_to_f64_with_nan(*v);
+            e = Some(widen(
+                e,
+                Extremes {
+                    least: v,
+                    greatest: v,
+                },
+            ));
         }
-        i += 1;
     }
     e
 }
 
 // The least and the greatest over two ranges.
-pub fn over_both(e: Extremes, f: Extremes) -> Extremes
+#[tactic(auto, unfolding(crate::specs::Intervals::over_both))]
+pub fn over_both(e: Option<Extremes>, f: Option<Extremes>) -> Option<Extremes>
     ensures { result ≡ I.over_both e f }
 {
     match f {
-        Extremes::Both(lo, hi) => widen(e, lo, hi),
-        Extremes::NoneValid => e,
+        Some(f) => Some(widen(e, f)),
+        None => e,
     }
 }
 
@@ -82,10 +104,7 @@ fn ceil_of(d: f64, w: f64) -> i32
     requires { T (within (div binary64 d w)) }
     ensures { result ≡ ceiling_whole (div binary64 d w) }
 {
-    match crate::rounding::ceil(d / w) {
-        crate::rounding::Rounded::Whole(k) => k,
-        crate::rounding::Rounded::Outside => 0,
-    }
+    crate::rounding::ceil(d / w).unwrap_or(0)
 }
 
 // start + step * i for i below n - 1, and then the end, at the front of `out`.
@@ -102,10 +121,8 @@ fn linspace(start: f64, end: f64, n: usize, out: &mut [f64])
     }
     let last = n - 1;
     let step = (end - start) / (last as f64);
-    let mut i = 0;
-    while i < last {
+    for i in 0..last {
         out[i] = start + step * (i as f64);
-        i += 1;
     }
     out[last] = end;
 }
@@ -117,15 +134,23 @@ fn count(splits: u32, a: i32, b: i32) -> i64
     ((splits + 1) as i64) + (a as i64) + (b as i64)
 }
 
+// Whether a valid velocity is above Nyquist or below -Nyquist.
+#[tactic(auto, unfolding(crate::specs::Intervals::beyond))]
+fn is_beyond(nyquist: f64, e: Extremes) -> bool
+    ensures { result ≡ I.beyond nyquist e.least e.greatest }
+{
+    e.greatest > nyquist || e.least < -nyquist
+}
+
 // The adds where a velocity is beyond Nyquist.
-fn widened(nyquist: f64, splits: u32, lo: f64, hi: f64) -> Plan
+fn widened(nyquist: f64, splits: u32, e: Extremes) -> Plan
     requires asked { Asked nyquist splits }
-    requires t { T (I.velocity_in_range lo) × T (I.velocity_in_range hi) }
-    ensures { result ≡ I.plan_of splits (I.widened nyquist (I.width nyquist splits) lo hi) }
+    requires extremes_in_range { ExtremesInRange (Some e) }
+    ensures { result ≡ I.plan_of splits (I.widened nyquist (I.width nyquist splits) e.least e.greatest) }
 {
     let w = width(nyquist, splits);
-    let a = ceil_of(hi - nyquist, w);
-    let b = ceil_of(-(lo + nyquist), w);
+    let a = ceil_of(e.greatest - nyquist, w);
+    let b = ceil_of(-(e.least + nyquist), w);
     Plan {
         add_start: a,
         add_end: b,
@@ -144,44 +169,28 @@ fn plain(splits: u32) -> Plan
     }
 }
 
-pub fn plan_limits(nyquist: f32, splits: u32, e: Extremes) -> Plan
+#[tactic(auto, unfolding(crate::specs::Intervals::adds))]
+pub fn plan_limits(nyquist: f32, splits: u32, e: Option<Extremes>) -> Plan
     requires asked { Asked nyquist splits }
     requires extremes_in_range { ExtremesInRange e }
     ensures { result ≡ I.plan_of splits (I.adds nyquist splits e) }
 {
+    let nyq = nyquist as f64;
     match e {
-        Extremes::Both(lo, hi) => {
-            let nyq = nyquist as f64;
-            if hi > nyq {
-                return widened(nyq, splits, lo, hi);
-            }
-            if lo < -nyq {
-                return widened(nyq, splits, lo, hi);
-            }
-            plain(splits)
-        }
-        Extremes::NoneValid => plain(splits),
-    }
-}
-
-fn place(start: f64, end: f64, number: i64, out: &mut [f64])
-    requires { (I.at_least0 number ≤ length out.old) × (I.at_least0 number ≤ 10000) }
-    ensures { out.new ≡ front (I.spaced start end (I.at_least0 number)) out.old }
-{
-    if number > 0 {
-        linspace(start, end, number as usize, out);
+        Some(e) if is_beyond(nyq, e) => widened(nyq, splits, e),
+        _ => plain(splits),
     }
 }
 
 // The limits of a plan, at the front of `out`.
-pub fn limits(nyquist: f32, splits: u32, a: i32, b: i32, number: i64, out: &mut [f64])
-    requires t { T (not (is_nan nyquist)) }
-    requires number_in_bounds { (I.at_least0 number ≤ length out.old) × (I.at_least0 number ≤ 10000) }
-    ensures { out.new ≡ front (I.limits_of nyquist splits a b number) out.old }
+pub fn limits(nyquist: f32, splits: u32, p: Plan, out: &mut [f64])
+    requires not_nan { T (not (is_nan nyquist)) }
+    requires number_in_bounds { (I.at_least0 p.number ≤ length out.old) × (I.at_least0 p.number ≤ 10000) }
+    ensures { out.new ≡ front (I.limits_of nyquist splits p.add_start p.add_end p.number) out.old }
 {
     let nyq = nyquist as f64;
     let w = width(nyq, splits);
-    let start = -nyq - (a as f64) * w;
-    let end = nyq + (b as f64) * w;
-    place(start, end, number, out);
+    let start = -nyq - (p.add_start as f64) * w;
+    let end = nyq + (p.add_end as f64) * w;
+    linspace(start, end, p.how_many(), out);
 }

@@ -6,15 +6,18 @@ use mathlib.Core.Bool.{Bool, true, false, true≢false, false≢true}
 use mathlib.Core.List.{List, [], ◌∷◌, ◌++◌}
 use lib.ListN.{length}
 use lib.Ieee.{Float}
-use Rattle.network.specs.declared.find.Finding.{Finding}
-use Rattle.network.specs.declared.find.Finding.TheVariants.{Regions, Refused}
+use Rattle.std.specs.Prelude.{Ok, Err, is_err}
+use Rattle.network.specs.Inside.Find.{Finding}
 use Rattle.sweep.specs.Sweep.{Unfolded}
 use Rattle.sweep.specs.Questions.{Outcome, refused, accepted, ask, first_no, answered, asked9}
 use Rattle.sweep.specs.Call.{Answer, ending}
 use Rattle.sweep.specs.Entry.{answer_of}
+use Rattle.sweep.specs.Refusal.{number_of}
+use Rattle.sweep.specs.declared.refusal.Refusal.{Refusal}
+use Rattle.sweep.specs.declared.refusal.Refusal.TheVariants.{Size, Lengths, Mask, Work, Nyquist, Options, Velocities, Limits, Merges, Counts, CutShort, Malformed, Book, Window}
 use Rattle.sweep.specs.Inside.Finish.{lent, outcome_by}
 use Rattle.channels.specs.Call.{Channel, channel_of, TwoMemory, two_memory_of, TwoAnswer, two_answer_by, cleared_for_two, ending_two}
-use Rattle.channels.specs.Inside.Both.{is_refused, lent_both}
+use Rattle.channels.specs.Inside.Both.{lent_both}
 use Rattle.channels.specs.Theorems.{ChannelsKept}
 
 -- question 9's yes of one channel
@@ -54,29 +57,47 @@ end_floats (accepted cs ds r k) (accepted es fs q j) m = refl
 
 -- ---- both channels as they are written
 
--- question 9 refused horizontal, or vertical after it
-pub first_refused : (f : Finding) (w mask : List ℕ) (centred : ℕ) (y : Outcome) (m : TwoMemory) → is_refused f ≡ true → ◌≡◌ {A = TwoAnswer} (record { number = 9; memory = m }) (ending_two (outcome_by f w mask centred) y m)
+-- question 9 refused vertical: whatever horizontal is, the number is 9
+pub vertical_refused : (f g : Finding) (w u hMask vMask : List ℕ) (hc vc : ℕ) (m : TwoMemory) → is_err g ≡ true → ◌≡◌ {A = TwoAnswer} (record { number = 9; memory = m }) (ending_two (outcome_by f w hMask hc) (outcome_by g u vMask vc) m)
 unfolding ending_two
-first_refused (Regions r) w mask centred y m h = absurd (false≢true h)
-first_refused Refused w mask centred y m h = refl
+vertical_refused (Ok r) (Err z) w u hMask vMask hc vc m e = refl
+vertical_refused (Err z) g w u hMask vMask hc vc m e = refl
+vertical_refused (Ok r) (Ok q) w u hMask vMask hc vc m e = absurd (false≢true e)
 
-pub second_refused : (f g : Finding) (w u hMask vMask : List ℕ) (centred : ℕ) (m : TwoMemory) → is_refused f ≡ false → is_refused g ≡ true
-    → ◌≡◌ {A = TwoAnswer} (record { number = 9; memory = m }) (ending_two (outcome_by f w hMask centred) (outcome_by g u vMask centred) m)
-unfolding ending_two
-second_refused (Regions r) Refused w u hMask vMask centred m a b = refl
-second_refused Refused g w u hMask vMask centred m a b = absurd (true≢false a)
-second_refused (Regions r) (Regions q) w u hMask vMask centred m a b = absurd (false≢true b)
+-- no question has the number 0
+pub number_some : (r : Refusal) → 0 < number_of r
+number_some Size = omega arith
+number_some Lengths = omega arith
+number_some Mask = omega arith
+number_some Work = omega arith
+number_some Nyquist = omega arith
+number_some Options = omega arith
+number_some Velocities = omega arith
+number_some Limits = omega arith
+number_some Merges = omega arith
+number_some Counts = omega arith
+number_some CutShort = omega arith
+number_some Malformed = omega arith
+number_some Book = omega arith
+number_some Window = omega arith
+
+-- it refused horizontal, a being how that was written
+pub horizontal_refused : (f : Finding) (w mask : List ℕ) (centred : ℕ) (y : Outcome) (a : Answer) (h v : Channel) → 0 < a.number → a ≡ ending (outcome_by f w mask centred) (lent h.counts h.doubtful h.pair)
+    → two_answer_by a.number (channel_of a.memory.counts a.memory.doubtful a.memory.pair) v [] [] ≡ ending_two (outcome_by f w mask centred) y (lent_both h v)
+unfolding ending ending_two
+horizontal_refused (Ok r) w mask centred y a h v n e = let z = ap (λ (x : Answer). x.number) e in absurd (omega (arith, z))
+horizontal_refused (Err z) w mask centred y a h v n e = λ i. two_answer_by (e i).number (channel_of (e i).memory.counts (e i).memory.doubtful (e i).memory.pair) v [] []
 
 -- it refused neither, and each is written
-pub both_written : (f g : Finding) (w u hMask vMask : List ℕ) (centred : ℕ) (a b : Answer) (h v : Channel) → is_refused f ≡ false → is_refused g ≡ false
-    → a ≡ ending (outcome_by f w hMask centred) (lent h.counts h.doubtful h.pair) → b ≡ ending (outcome_by g u vMask centred) (lent v.counts v.doubtful v.pair)
+pub both_written : (f g : Finding) (w u hMask vMask : List ℕ) (hc vc : ℕ) (a b : Answer) (h v : Channel) → a.number ≡ 0 → is_err g ≡ false
+    → a ≡ ending (outcome_by f w hMask hc) (lent h.counts h.doubtful h.pair) → b ≡ ending (outcome_by g u vMask vc) (lent v.counts v.doubtful v.pair)
     → two_answer_by b.number (channel_of a.memory.counts a.memory.doubtful a.memory.pair) (channel_of b.memory.counts b.memory.doubtful b.memory.pair) [] []
-    ≡ ending_two (outcome_by f w hMask centred) (outcome_by g u vMask centred) (lent_both h v)
+    ≡ ending_two (outcome_by f w hMask hc) (outcome_by g u vMask vc) (lent_both h v)
 unfolding ending ending_two
-both_written (Regions r) (Regions q) w u hMask vMask centred a b h v x y e d =
+both_written (Ok r) (Ok q) w u hMask vMask hc vc a b h v x y e d =
     λ i. two_answer_by (d i).number (channel_of (e i).memory.counts (e i).memory.doubtful (e i).memory.pair) (channel_of (d i).memory.counts (d i).memory.doubtful (d i).memory.pair) [] []
-both_written Refused g w u hMask vMask centred a b h v x y e d = absurd (true≢false x)
-both_written (Regions r) Refused w u hMask vMask centred a b h v x y e d = absurd (true≢false y)
+both_written (Err j) g w u hMask vMask hc vc a b h v x y e d = let z = ap (λ (x : Answer). x.number) e in absurd (omega (arith, x, z))
+both_written (Ok r) (Err j) w u hMask vMask hc vc a b h v x y e d = absurd (true≢false y)
 
 -- ---- the same end with the work memory
 

@@ -3,11 +3,12 @@ use Prim.Native.Nat.{ℕ, zero, suc, ◌+◌, ◌-◌, ◌*◌, ◌≤◌, ◌<�
 use native.Mathlib.Omega.{arith}
 use mathlib.Core.Path.{◌≡◌, refl, sym, ap, ◌∙◌, subst}
 use mathlib.Core.List.{List, [], ◌∷◌}
-use lib.ListN.{length, get_or, take, drop}
+use lib.ListN.{length, get_or, take, drop, length-drop}
+use lib.Seq.{take_all, length-take-le}
 use lib.Ieee.{Float}
 use borrow.Rule.Slice.PartMut.{put_mid}
 use Rattle.lists.specs.Inside.Seg.{seg, put}
-use Rattle.lists.proofs.SegLaws.{length-seg, get_or-put_below, seg-put_below, put_mid_lem, lent_seg, seg_all, length-put}
+use Rattle.lists.proofs.SegLaws.{get_or-put_below, seg-put_below, put_mid_lem, lent_seg, length-put}
 use Rattle.arithmetic.specs.Intervals.{two_nyquist}
 use Rattle.arithmetic.specs.declared.intervals.Plan.{Plan}
 use Rattle.labels.specs.Label.{Found}
@@ -15,11 +16,11 @@ use Rattle.labels.proofs.RegionLaws.{number_at_most}
 use Rattle.memory.specs.Inside.Layout.{sizes_at, counts_at, marks_at, book_at}
 use Rattle.merge.specs.Inside.Steps.{unbias}
 use Rattle.network.specs.Network.{State, merges}
-use Rattle.network.specs.Inside.Find.{shape_of, limits_by, regions_by, network_for, Finds, Leaves}
+use Rattle.network.specs.Inside.Find.{Finding, shape_of, limits_by, regions_by, network_for, Finds, Leaves}
 use Rattle.network.specs.declared.options.Options.{Options}
-use Rattle.network.specs.declared.find.Finding.{Finding}
 use Rattle.network.proofs.LogIs.{entries_same}
 use Rattle.network.proofs.BookLaws.{merges_less}
+use Rattle.sweep.specs.declared.input.Sweep.{Sweep as Lent}
 use Rattle.channels.specs.Inside.Both.{behind, FindsBoth, LeavesOf, LeavesBoth}
 
 -- what finding asks of a sweep it asks with any words and floats that are enough
@@ -39,16 +40,8 @@ finds_in o p vel mask w u d e q a b = record {
 }
 
 -- vertical's part of the words
-pub part_long : (w u : List ℕ) (n : ℕ) → length u ≡ length w → 77 * n + 64 ≤ length w → length (take (length w - 13 * n) (drop (13 * n) u)) ≡ length w - 13 * n
-part_long w u n e h = unfold seg in length-seg u (13 * n) (length w - 13 * n) (omega (arith, e, h))
-
--- after horizontal's run, which keeps lengths, vertical's asks the same
-pub vertical_asks : (o : Options) (p : Plan) (hVel : List Float) (hMask : List ℕ) (vVel : List Float) (vMask w u : List ℕ) (d e : List Float) → FindsBoth o p hVel hMask vVel vMask w d
-    → length u ≡ length w → length e ≡ length d → Finds o p vVel vMask (take (length w - 13 * length hVel) (drop (13 * length hVel) u)) e
-vertical_asks o p hVel hMask vVel vMask w u d e q a b =
-    let n : ℕ = length hVel in
-    finds_in o p vVel vMask (behind n w) (take (length w - 13 * n) (drop (13 * n) u)) d e q.vertical
-    (omega (arith, q.vertical.words, part_long w w n refl q.horizontal.words, part_long w u n a q.horizontal.words)) (omega (arith, q.vertical.floats, b))
+pub behind_long : (n : ℕ) (w : List ℕ) → length (behind n w) ≡ length w - 13 * n
+behind_long n w = length-take-le (length w - 13 * n) (drop (13 * n) w) (omega (arith, length-drop (13 * n) w))
 
 -- ---- what was left before the place 13n stays when something else is put there
 module _ (f : Found) (t : State) (n : ℕ) (w ys : List ℕ) (x : Finding) (some : 1 ≤ n) (few : f.number ≤ n) (less : length (merges t) ≤ f.number - 1) where
@@ -84,48 +77,44 @@ leaves_none o p [] [] (v ∷ vs) vMask w u x y a b c e R S = absurd (omega (arit
 leaves_none o p [] [] [] (m ∷ ms) w u x y a b c e R S = absurd (omega (arith, e))
 
 -- ---- w being the words that horizontal left, and ys what vertical left in its part
-module _ (o : Options) (p : Plan) (hVel : List Float) (hMask : List ℕ) (vVel : List Float) (vMask w0 w ys : List ℕ) (d : List Float)
-    (q : FindsBoth o p hVel hMask vVel vMask w0 d) (x y : Finding) (long : length w ≡ length w0) (part : length ys ≡ length w0 - 13 * length hVel)
-    (R : LeavesOf o p hVel hMask w x) (S : LeavesOf o p vVel vMask ys y) where
+module _ (h v : Lent) (p : Plan) (w0 w ys : List ℕ) (d : List Float) (q : FindsBoth h v p w0 d) (x y : Finding) (long : length w ≡ length w0) (part : length ys ≡ length (behind (length h.velocity.now) w))
+    (R : LeavesOf h.options p h.velocity.now h.valid.now w x) (S : LeavesOf v.options p v.velocity.now v.valid.now ys y) where
   abbrev n : ℕ
-  n = length hVel
+  n = length h.velocity.now
 
   -- all words afterwards
   abbrev u : List ℕ
-  u = put_mid (13 * n) (length w0 - 13 * n) w ys
+  u = put_mid (13 * n) (length w - 13 * n) w ys
 
-  room : 13 * n + (length w0 - 13 * n) ≤ length w
+  room : 13 * n ≤ length w
   room = omega (arith, long, q.horizontal.words)
 
-  put_is : u ≡ put w (13 * n) ys
-  put_is = put_mid_lem w (13 * n) (length w0 - 13 * n) ys part room
+  rest : length ys ≡ length w - 13 * n
+  rest = part ∙ behind_long n w
 
-  u_long : length u ≡ length w0
-  u_long = ap length put_is ∙ length-put w (13 * n) ys ∙ long
+  put_is : u ≡ put w (13 * n) ys
+  put_is = put_mid_lem w (13 * n) (length w - 13 * n) ys rest (omega (arith, room))
 
   behind_is : behind n u ≡ ys
   behind_is =
-      ap (λ (k : ℕ). take (k - 13 * n) (drop (13 * n) u)) u_long
-      ∙ (unfold seg in lent_seg w (13 * n) (length w0 - 13 * n) ys part room)
+      ap (λ (k : ℕ). take (k - 13 * n) (drop (13 * n) u)) (ap length put_is ∙ length-put w (13 * n) ys)
+      ∙ (unfold seg in lent_seg w (13 * n) (length w - 13 * n) ys rest (omega (arith, room)))
 
-  few : (regions_by o p hVel hMask).number ≤ n
-  few = omega (arith, number_at_most o.gates hVel hMask (limits_by o p) q.horizontal.limited.rising, q.horizontal.limited.masks)
+  few : (regions_by h.options p h.velocity.now h.valid.now).number ≤ n
+  few = omega (arith, number_at_most h.options.gates h.velocity.now h.valid.now (limits_by h.options p) q.horizontal.limited.rising, q.horizontal.limited.masks)
 
-  -- no gates: vertical's part is all
-  all_is : n ≡ 0 → ys ≡ u
-  all_is e = sym behind_is ∙ ap (λ (k : ℕ). behind k u) e ∙ (unfold seg in seg_all u (length u - 13 * 0) (omega arith))
-
-  horizontal_stays : LeavesOf o p hVel hMask u x
+  horizontal_stays : LeavesOf h.options p h.velocity.now h.valid.now u x
   horizontal_stays = go n refl
     where
-      go : (k : ℕ) → n ≡ k → LeavesOf o p hVel hMask u x
+      go : (k : ℕ) → n ≡ k → LeavesOf h.options p h.velocity.now h.valid.now u x
       go zero e =
-          leaves_none o p hVel hMask vVel vMask w u x y e (omega (arith, q.horizontal.limited.masks, e)) (omega (arith, q.same, e)) (omega (arith, q.vertical.limited.masks, q.same, e))
-          R (subst (λ (l : List ℕ). LeavesOf o p vVel vMask l y) (all_is e) S)
+          let all : ys ≡ u = sym behind_is ∙ ap (λ (k : ℕ). behind k u) e ∙ take_all (length u - 13 * 0) u (omega arith) in
+          leaves_none h.options p h.velocity.now h.valid.now v.velocity.now v.valid.now w u x y e (omega (arith, q.horizontal.limited.masks, e)) (omega (arith, q.same, e)) (omega (arith, q.vertical.limited.masks, q.same, e))
+          R (subst (λ (l : List ℕ). LeavesOf h.options p v.velocity.now v.valid.now l y) all (subst (λ (o : Options). LeavesOf o p v.velocity.now v.valid.now ys y) q.options S))
       go (suc k) e =
-          subst (λ (l : List ℕ). LeavesOf o p hVel hMask l x) (sym put_is)
-          (leaves_stay (regions_by o p hVel hMask) (network_for o (regions_by o p hVel hMask) hVel) n w ys x (omega (arith, e)) few
-          (merges_less (two_nyquist o.nyquist) (shape_of o) (regions_by o p hVel hMask).number (regions_by o p hVel hMask).labels hVel) R)
+          subst (λ (l : List ℕ). LeavesOf h.options p h.velocity.now h.valid.now l x) (sym put_is)
+          (leaves_stay (regions_by h.options p h.velocity.now h.valid.now) (network_for h.options (regions_by h.options p h.velocity.now h.valid.now) h.velocity.now) n w ys x (omega (arith, e)) few
+          (merges_less (two_nyquist h.options.nyquist) (shape_of h.options) (regions_by h.options p h.velocity.now h.valid.now).number (regions_by h.options p h.velocity.now h.valid.now).labels h.velocity.now) R)
 
-  pub leaves_both : LeavesBoth o p hVel hMask vVel vMask u (record { horizontal = x; vertical = y })
-  leaves_both = record { horizontal = horizontal_stays; vertical = subst (λ (l : List ℕ). LeavesOf o p vVel vMask l y) (sym behind_is) S }
+  pub leaves_both : LeavesBoth h v p u (record { horizontal = x; vertical = y })
+  leaves_both = record { horizontal = horizontal_stays; vertical = subst (λ (l : List ℕ). LeavesOf v.options p v.velocity.now v.valid.now l y) (sym behind_is) S }

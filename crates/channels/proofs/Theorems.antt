@@ -1,4 +1,5 @@
 -- The theorems of specs/Theorems. Assumes nothing.
+use Rattle.std.specs.Prelude as Std
 use Prim.Native.Nat.{ℕ, ◌≤◌, ◌<◌}
 use native.Mathlib.Omega.{arith}
 use mathlib.Core.Path.{◌≡◌, refl, sym, ap, ◌∙◌, subst}
@@ -96,7 +97,7 @@ pub horizontal_same : HorizontalSame
 unfolding shared_limits shared_range
 horizontal_same h v w m k e y z =
     (channels_are h v m y).horizontal
-    ∙ ap (λ (x : Extremes). left_by (unfolded h (limits_for h.nyquist h.splits (over_both (range_of h) x)))) e
+    ∙ ap (λ (x : Std.Option Extremes). left_by (unfolded h (limits_for h.nyquist h.splits (over_both (range_of h) x)))) e
     ∙ sym (channels_are h w k z).horizontal
 
 pub vertical_same : VerticalSame
@@ -109,7 +110,7 @@ vertical_same h g v m k n s e y z =
 -- ---- beside the sweep entry
 
 -- there are as many limits as their number says
-limits_number : (nyq : Float) (S : ℕ) (e : Extremes) → length (limits_for nyq S e) ≡ at_least0 (number_for nyq S e)
+limits_number : (nyq : Float) (S : ℕ) (e : Std.Option Extremes) → length (limits_for nyq S e) ≡ at_least0 (number_for nyq S e)
 unfolding limits_for number_for
 limits_number nyq S e = let a = adds nyq S e in limits_length nyq S a.start a.end (number S a)
 
@@ -119,7 +120,7 @@ unfolding at_most
 few_if (pos n) h = le-leb n 10000 h
 few_if (negsuc n) h = refl
 
-own_few : (s : Sweep) (nyq : Float) (S : ℕ) (x : Extremes) → own_limits s ≡ limits_for nyq S x → few_for nyq S x ≡ true → limits_few s ≡ true
+own_few : (s : Sweep) (nyq : Float) (S : ℕ) (x : Std.Option Extremes) → own_limits s ≡ limits_for nyq S x → few_for nyq S x ≡ true → limits_few s ≡ true
 unfolding limits_few own_limits
 own_few s nyq S x e t =
     few_if (number_for s.nyquist s.splits (range_of s))

@@ -1,5 +1,6 @@
 -- U10: the call of two polarisations of one antenna. From the inputs and everything lent to the answer number and everything lent afterwards.
 -- h and v are the sweeps of the horizontal and the vertical channel: gates of one size, with one Nyquist and one set of options.
+use Rattle.std.specs.Prelude as Std
 use Rattle.std.specs.Prelude.{ℕ, Bool, List, [], ◌∷◌, ◌++◌, ℤ, pos, Float}
 use Rattle.std.proofs.Math.Option.{Option, none, some}
 use Rattle.arithmetic.specs.Rounding.{real}
@@ -8,12 +9,21 @@ use Rattle.arithmetic.specs.declared.intervals.Extremes.{Extremes}
 use Rattle.sweep.specs.Sweep.{Sweep, unfolded}
 use Rattle.sweep.specs.Questions.{Question, ask, Outcome, refused, accepted, first_no, gates_in, words_for, floats_for, range_of, few_for, seven, room, asked9}
 use Rattle.sweep.specs.Call.{Memory, memory_of, lengths, cleared}
+use Rattle.sweep.specs.Entry.{sweep_by}
 use Rattle.sweep.specs.declared.questions.Room.{Room}
+use Rattle.channels.specs.declared.input.Channels.{Channels}
+
+-- the sweeps of the channels that a host lends
+abbrev pub horizontal_in : Channels → Sweep
+horizontal_in c = sweep_by c.options c.h_velocity.now c.h_valid.now
+
+abbrev pub vertical_in : Channels → Sweep
+vertical_in c = sweep_by c.options c.v_velocity.now c.v_valid.now
 
 -- ---- the limits
 
 -- the least and the greatest over the valid velocities of both channels
-unfoldable pub shared_range : Sweep → Sweep → Extremes
+unfoldable pub shared_range : Sweep → Sweep → Std.Option Extremes
 shared_range h v = over_both (range_of h) (range_of v)
 
 -- the limits that both channels go by

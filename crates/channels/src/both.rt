@@ -1,63 +1,49 @@
 // Both channels by the limits of a plan, in one work memory. What finding leaves for writing lies before its tables (layout::TABLES);
 // vertical works behind that place, so that what horizontal left stays, and no merge is done twice.
+// Each channel's counts, marks and pair stay parameters here and in entry: as `&mut` fields of a struct they would need a clause on the ghost name of each in every function.
 ghost use Rattle.std.specs.Prelude.{◌≡◌, length, []};
 ghost use Rattle.network.specs.Inside.Find.{limits_by};
 ghost use Rattle.sweep.specs.Sweep.{unfolded};
 ghost use Rattle.sweep.specs.Questions.{asked9};
-ghost use Rattle.sweep.specs.Entry.{sweep_by};
+ghost use Rattle.sweep.specs.Entry.{sweep_in, answer_of};
 ghost use Rattle.sweep.specs.Inside.Finish.{outcome_by};
+ghost use Rattle.sweep.specs.Refusal.{missed_by};
 ghost use Rattle.channels.specs.Call.{channel_of, two_memory_of, two_answer_by, ending_two};
-ghost use Rattle.channels.specs.Inside.Both.{behind, FindsBoth, LeavesBoth, is_refused, lengths_by, WritesBoth, lent_both, all_zero_two};
+ghost use Rattle.channels.specs.Inside.Both.{behind, FindsBoth, LeavesBoth, lengths_by, WritesBoth, lent_both, all_zero_two};
 
+use arithmetic::intervals::Plan;
 use memory::layout;
+use network::find::{self, Finding};
+use sweep::input::Sweep;
+use sweep::refusal::Refusal;
+use sweep::sweep::{clear, write};
 
 // What was found of each channel.
 #[derive(Clone, Copy)]
 pub struct Findings {
-    pub horizontal: network::find::Finding,
-    pub vertical: network::find::Finding,
+    pub horizontal: Finding,
+    pub vertical: Finding,
 }
 
 // The regions of both channels, merged.
-fn find_both(
-    o: network::options::Options,
-    p: arithmetic::intervals::Plan,
-    h_velocity: &[f32],
-    h_valid: &[u8],
-    v_velocity: &[f32],
-    v_valid: &[u8],
-    words: &mut [u32],
-    floats: &mut [f64],
-) -> Findings
-    requires { FindsBoth o p h_velocity.now h_valid.now v_velocity.now v_valid.now words.old floats.old }
-    ensures { LeavesBoth o p h_velocity.now h_valid.now v_velocity.now v_valid.now words.new result }
+fn find_both(h: Sweep, v: Sweep, p: Plan, words: &mut [u32], floats: &mut [f64]) -> Findings
+    requires { FindsBoth h v p words.old floats.old }
+    ensures { LeavesBoth h.entry v.entry p words.new result }
 {
-    let at = layout::TABLES * h_velocity.len();
-    let end = words.len();
-    let h = network::find::find(o, p, h_velocity, h_valid, words, floats);
-    let v = network::find::find(o, p, v_velocity, v_valid, &mut words[at..end], floats);
+    let at = layout::TABLES * h.velocity.len();
+    let horizontal = find::find(h.options, p, h.velocity, h.valid, words, floats);
+    let vertical = find::find(v.options, p, v.velocity, v.valid, &mut words[at..], floats);
     Findings {
-        horizontal: h,
-        vertical: v,
+        horizontal,
+        vertical,
     }
 }
 
-// Whether question 9 refused.
-fn is_refused(f: network::find::Finding) -> bool
-    ensures { result ≡ is_refused f }
-{
-    match f {
-        network::find::Finding::Regions(r) => false,
-        network::find::Finding::Refused => true,
-    }
-}
-
-// What was found, written: counts, marks and pair of each channel, or nothing where question 9 refused one of them. The answer's number.
+// What was found, written: counts, marks and pair of each channel, or nothing where question 9 refused one of them.
 fn write_both(
     f: Findings,
-    centred: u32,
-    h_valid: &[u8],
-    v_valid: &[u8],
+    h: Sweep,
+    v: Sweep,
     w: &[u32],
     h_folds: &mut [i32],
     h_doubtful: &mut [u8],
@@ -65,46 +51,44 @@ fn write_both(
     v_folds: &mut [i32],
     v_doubtful: &mut [u8],
     v_pair: &mut [u32],
-) -> u32
-    requires { WritesBoth f w.now h_valid.now v_valid.now (lengths_by (length h_folds.old) (length h_doubtful.old) (length h_pair.old))
+) -> Result<(), Refusal>
+    requires { WritesBoth f w.now h.valid.now v.valid.now (lengths_by (length h_folds.old) (length h_doubtful.old) (length h_pair.old))
         (lengths_by (length v_folds.old) (length v_doubtful.old) (length v_pair.old)) }
-    ensures { let h = channel_of h_folds.old h_doubtful.old h_pair.old in
-        let v = channel_of v_folds.old v_doubtful.old v_pair.old in
-        two_answer_by result (channel_of h_folds.new h_doubtful.new h_pair.new)
+    ensures { let m = lent_both (channel_of h_folds.old h_doubtful.old h_pair.old) (channel_of v_folds.old v_doubtful.old v_pair.old) in
+        two_answer_by (answer_of (missed_by result)) (channel_of h_folds.new h_doubtful.new h_pair.new)
         (channel_of v_folds.new v_doubtful.new v_pair.new) [] []
-        ≡ ending_two (outcome_by f.horizontal w.now h_valid.now centred)
-        (outcome_by f.vertical (behind (length h_valid.now) w.now) v_valid.now centred) (lent_both h v) }
+        ≡ ending_two (outcome_by f.horizontal w.now h.entry.valid.now h.entry.options.centred)
+        (outcome_by f.vertical (behind (length h.entry.valid.now) w.now) v.entry.valid.now v.entry.options.centred) m }
 {
-    let h = f.horizontal;
-    let v = f.vertical;
-    if is_refused(h) {
-        return 9;
+    if f.vertical.is_err() {
+        return Err(Refusal::Merges);
     }
-    if is_refused(v) {
-        return 9;
-    }
-    let at = layout::TABLES * h_valid.len();
-    let end = w.len();
-    sweep::sweep::write(h, centred, h_valid, w, h_folds, h_doubtful, h_pair);
-    sweep::sweep::write(
-        v,
-        centred,
-        v_valid,
-        &w[at..end],
+    let at = layout::TABLES * h.valid.len();
+    write(
+        f.horizontal,
+        h.options.centred,
+        h.valid,
+        w,
+        h_folds,
+        h_doubtful,
+        h_pair,
+    )?;
+    write(
+        f.vertical,
+        v.options.centred,
+        v.valid,
+        &w[at..],
         v_folds,
         v_doubtful,
         v_pair,
     )
 }
 
-// Two channels that passed questions 1 to 8, their limits planned: find both, write both, clear. 0, or the refusal by question 9.
+// Two channels that passed questions 1 to 8, their limits planned: find both, write both, clear. Question 9 may still refuse one of them.
 pub fn solve_both(
-    o: network::options::Options,
-    p: arithmetic::intervals::Plan,
-    h_velocity: &[f32],
-    h_valid: &[u8],
-    v_velocity: &[f32],
-    v_valid: &[u8],
+    h: Sweep,
+    v: Sweep,
+    p: Plan,
     h_folds: &mut [i32],
     h_doubtful: &mut [u8],
     h_pair: &mut [u32],
@@ -113,25 +97,20 @@ pub fn solve_both(
     v_pair: &mut [u32],
     words: &mut [u32],
     floats: &mut [f64],
-) -> u32
-    requires finds_both { FindsBoth o p h_velocity.now h_valid.now v_velocity.now v_valid.now words.old floats.old }
-    requires h_folds_len { (length h_folds.old ≡ length h_velocity.now) × (length h_doubtful.old ≡ length h_velocity.now) × (length h_pair.old ≡ 2) }
-    requires v_folds_len { (length v_folds.old ≡ length v_velocity.now) × (length v_doubtful.old ≡ length v_velocity.now) × (length v_pair.old ≡ 2) }
-    ensures { let h = sweep_by o h_velocity.now h_valid.now in
-        let v = sweep_by o v_velocity.now v_valid.now in
-        let m = two_memory_of (channel_of h_folds.old h_doubtful.old h_pair.old)
+) -> Result<(), Refusal>
+    requires finds_both { FindsBoth h v p words.old floats.old }
+    requires h_long { (length h_folds.old ≡ length h.velocity.now) × (length h_doubtful.old ≡ length h.velocity.now) × (length h_pair.old ≡ 2) }
+    requires v_long { (length v_folds.old ≡ length v.velocity.now) × (length v_doubtful.old ≡ length v.velocity.now) × (length v_pair.old ≡ 2) }
+    ensures { let m = two_memory_of (channel_of h_folds.old h_doubtful.old h_pair.old)
         (channel_of v_folds.old v_doubtful.old v_pair.old) words.old floats.old in
-        two_answer_by result (channel_of h_folds.new h_doubtful.new h_pair.new)
+        two_answer_by (answer_of (missed_by result)) (channel_of h_folds.new h_doubtful.new h_pair.new)
         (channel_of v_folds.new v_doubtful.new v_pair.new) words.new floats.new
-        ≡ ending_two (asked9 (unfolded h (limits_by o p))) (asked9 (unfolded v (limits_by o p))) (all_zero_two m) }
+        ≡ ending_two (asked9 (unfolded (sweep_in h.entry) (limits_by h.entry.options p))) (asked9 (unfolded (sweep_in v.entry) (limits_by v.entry.options p))) (all_zero_two m) }
 {
-    let f = find_both(
-        o, p, h_velocity, h_valid, v_velocity, v_valid, words, floats,
-    );
+    let f = find_both(h, v, p, words, floats);
     let r = write_both(
-        f, o.centred, h_valid, v_valid, words, h_folds, h_doubtful, h_pair, v_folds, v_doubtful,
-        v_pair,
+        f, h, v, words, h_folds, h_doubtful, h_pair, v_folds, v_doubtful, v_pair,
     );
-    sweep::sweep::clear(words, floats);
+    clear(words, floats);
     r
 }

@@ -3,3 +3,4 @@
 
 pub mod both;
 pub mod entry;
+pub mod input;

@@ -11,10 +11,10 @@ use Rattle.memory.specs.Inside.Sort.{sorted}
 use Rattle.memory.proofs.SortLaws.{all_sorted}
 use Rattle.edges.specs.Edges.{Shape, Left, Right, Top, Bottom, sees, bridges, Pair, plus_one_if, difference, pairs, used}
 use Rattle.edges.specs.declared.edges.Shape.{Shape}
-use Rattle.edges.specs.Inside.GatePairs.{GatePair, both, coded, gate_word, far_word, gate_pair_to, gate_pairs_of, gate_pairs_at, gate_pairs, pair_of, AddsPairs}
+use Rattle.edges.specs.Inside.GatePairs.{GatePair, both, gates_by, coded, gate_word, far_word, gate_pair_to, gate_pairs_of, gate_pairs_at, gate_pairs, pair_of, AddsPairs}
 use Rattle.edges.specs.Inside.Order.{ordered, runs}
 use Rattle.edges.specs.Inside.Sorts.{labels_of, Sorts, Sorted}
-use Rattle.edges.specs.Inside.Gather.{gates_by, pair_at, later, ReadsPairs, tables, Gathers, Gathered}
+use Rattle.edges.specs.Inside.Gather.{sorted_at, pair_at, later, ReadsPairs, tables, Gathers, Gathered}
 use Rattle.edges.specs.Inside.Whole.{FindsEdges, Edged}
 use Rattle.lists.proofs.AllLaws.{all_append, all_each, all_index, index_all}
 use Rattle.edges.proofs.Stored.{gates, fars, adds_labels, adds_length, adds_gates, adds_fars}
@@ -26,7 +26,7 @@ use Rattle.edges.proofs.Weights.{weights, spans}
 use Rattle.edges.proofs.GatherLaws.{tables_labels}
 use Rattle.edges.specs.declared.edges.EdgeRecord.{EdgeRecord}
 
--- ---- the gatePairs' gates
+-- ---- the gates of the pairs are in the sweep
 
 record Within (n : ℕ) (t : GatePair) : Type 0 where
   pub gate : t.gate < n
@@ -91,11 +91,8 @@ nowhere = both 0 0 false
 
 -- ---- the three calls
 
-module _ (f : Shape) (u : List ℕ) (a vel : List Float) (n k t : ℕ) (q : FindsEdges f u a vel n k t) where
-  ts : List GatePair
-  ts = gate_pairs f (seg u 0 n)
-
-  module _ (w : List ℕ) (m : ℕ) (p : AddsPairs n u w 0 m (gate_pairs f (seg u 0 n))) (few : m ≤ 4 * n) where
+module _ {f : Shape} {u : List ℕ} {a vel : List Float} {n k t : ℕ} (q : FindsEdges f u a vel n k t) where
+  module _ {w : List ℕ} {m : ℕ} (p : AddsPairs n u w 0 m (gate_pairs f (seg u 0 n))) (few : m ≤ 4 * n) where
     lw : length w ≡ length u
     lw = adds_length n u w 0 m (gate_pairs f (seg u 0 n)) p
 
@@ -153,7 +150,7 @@ module _ (f : Shape) (u : List ℕ) (a vel : List Float) (n k t : ℕ) (q : Find
         ∙ keys_same w vel n (gate_pairs f (seg u 0 n)) far_word (λ p. p.two) (λ x i. label_at w n x.far i.far ∙ ap (λ (z : ℕ). get_or w z 0) (sym (half x.bridged x.far))) inside
         ∙ ap (λ (l : List ℕ). map (λ (p : Pair). p.two) (map (pair_of l vel) (gate_pairs f (seg u 0 n)))) labels_w
 
-    module _ (v : List ℕ) (lv : length v ≡ length w) (o : Sorted w v n m (k + 1)) where
+    module _ {v : List ℕ} (lv : length v ≡ length w) (o : Sorted w v n m (k + 1)) where
       numbers : length (seg v (9 * n) m) ≡ m
       numbers = length-seg v (9 * n) m (omega (arith, q.scratch, lv, lw, few))
 
@@ -169,7 +166,7 @@ module _ (f : Shape) (u : List ℕ) (a vel : List Float) (n k t : ℕ) (q : Find
           ext_get_or 0 (seg v 0 n) (seg u 0 n) (a ∙ sym b) (λ j h. label_at v n j (omega arith) ∙ o.kept j (omega arith) ∙ sym (label_at w n j (omega arith)) ∙ ap (λ (l : List ℕ). get_or l j 0) labels_w)
 
       place : (i : ℕ) → i < m → pair_at v vel n i ≡ get_or (map (pair_of (seg u 0 n) vel) (gate_pairs f (seg u 0 n))) (get_or (seg v (9 * n) m) i 0) blank
-      unfolding pair_at pair_of
+      unfolding pair_at sorted_at pair_of
       place i h =
           let X : ℕ = get_or (seg v (9 * n) m) i 0 in
           let x : get_or v (9 * n + i) 0 ≡ X = sym (get_or-seg v (9 * n) m i 0 h) in
@@ -217,7 +214,7 @@ module _ (f : Shape) (u : List ℕ) (a vel : List Float) (n k t : ℕ) (q : Find
       unfolding later
       later_long = length-map (upto (m - 0) 0) (pair_at v vel n) ∙ upto-length (m - 0) 0 ∙ omega arith
 
-      module _ (c : ℕ) (rc : c ≡ length (runs (later v vel n m 0))) where
+      module _ {c : ℕ} (rc : c ≡ length (runs (later v vel n m 0))) where
         few_edges : c ≤ 4 * n
         few_edges = omega (arith, rc, runs_few (later v vel n m 0), later_long, few)
 
@@ -230,9 +227,9 @@ module _ (f : Shape) (u : List ℕ) (a vel : List Float) (n k t : ℕ) (q : Find
           fits = omega (arith, rc);
         }
 
-        pub edged : (two_nyquist : Float) (y : List ℕ) (b : List Float) (e : ℕ) → Gathered two_nyquist v y a b t c e (runs (later v vel n m 0)) → Edged two_nyquist n u y b t e (used k (pairs f (seg u 0 n) vel))
+        pub edged : {two_nyquist : Float} {y : List ℕ} {b : List Float} {e : ℕ} → Gathered two_nyquist v y a b t c e (runs (later v vel n m 0)) → Edged two_nyquist n u y b t e (used k (pairs f (seg u 0 n) vel))
         unfolding tables
-        edged two_nyquist y b e r =
+        edged {two_nyquist} {y} {b} {e} r =
             let R : List EdgeRecord = runs (later v vel n m 0) in
             let fit : e ≤ c = omega (arith, r.count, rc) in
             let ce : c ≡ e = rc ∙ sym r.count in

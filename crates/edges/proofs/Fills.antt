@@ -4,6 +4,7 @@ use lib.ListN.{length-map}
 use Rattle.lists.proofs.SeqLaws.{map_append}
 use Rattle.lists.specs.Inside.Seg.{seg, put}
 use Rattle.lists.proofs.SegLaws.{length-put, length-seg, put_nil, get_or-put_below, seg_snoc}
+use Rattle.edges.specs.Inside.GatePairs.{GatePair, gates_by}
 use Rattle.edges.specs.Inside.Sorts.{labels_of, with_labels, Reads}
 use Rattle.edges.proofs.GrowLaws.{two}
 
@@ -24,27 +25,21 @@ unfolding with_labels
 with_below w n m i j h =
     get_or-put_below (put w (9 * n + m + m) (labels_of w n i)) (9 * n + m + m + m) (labels_of w (5 * n) i) j 0 (omega arith) ∙ get_or-put_below w (9 * n + m + m) (labels_of w n i) j 0 h
 
-pub record Turn (w₀ w : List ℕ) (n m i : ℕ) : Type 0 where
-  pub long : length w ≡ length w₀
-  pub room : 9 * n + m + m + m + m ≤ length w
-  pub few : m ≤ 4 * n
-  pub g_lt : get_or w (n + i) 0 / 2 < n
-  pub h_lt : get_or w (5 * n + i) 0 / 2 < n
-  pub step : (
-      let v : List ℕ = set w (9 * n + m + m + i) (get_or w (get_or w (n + i) 0 / 2) 0) in
-      set v (9 * n + m + m + m + i) (get_or v (get_or w (5 * n + i) 0 / 2) 0) ≡ with_labels w₀ n m (i + 1)
-      )
+-- a turn at pair p: its gates are in the sweep, and the two stores leave the memory at i + 1
+pub record Turn (w₀ w : List ℕ) (n m i : ℕ) (p : GatePair) : Type 0 where
+  pub g_lt : p.gate < n
+  pub h_lt : p.far < n
+  pub step : (let v : List ℕ = set w (9 * n + m + m + i) (get_or w p.gate 0) in set v (9 * n + m + m + m + i) (get_or v p.far 0) ≡ with_labels w₀ n m (i + 1))
 
 pub labels_begin : (w : List ℕ) (n m : ℕ) → w ≡ with_labels w n m 0
 unfolding with_labels labels_of seg
 labels_begin w n m = sym (put_nil (put w (9 * n + m + m) []) (9 * n + m + m + m) ∙ put_nil w (9 * n + m + m))
 
-pub turn : (w₀ w : List ℕ) (n m i : ℕ) → Reads w₀ n m → w ≡ with_labels w₀ n m i → i < m → Turn w₀ w n m i
+turn_at : (w₀ w : List ℕ) (n m i : ℕ) → Reads w₀ n m → w ≡ with_labels w₀ n m i → i < m → Turn w₀ w n m i (gates_by (get_or w (n + i) 0) (get_or w (5 * n + i) 0))
 unfolding with_labels
-turn w₀ w n m i lay e h =
+turn_at w₀ w n m i lay e h =
     let O : ℕ = 9 * n + m + m in
     let T : ℕ = 9 * n + m + m + m in
-    let long : length w ≡ length w₀ = ap length e ∙ length_with w₀ n m i in
     let same : (j : ℕ) → j < O → get_or w j 0 ≡ get_or w₀ j 0 = λ j l. ap (λ (x : List ℕ). get_or x j 0) e ∙ with_below w₀ n m i j l in
     let ge : get_or w (n + i) 0 ≡ get_or w₀ (n + i) 0 = same (n + i) (omega (arith, lay.few)) in
     let he : get_or w (5 * n + i) 0 ≡ get_or w₀ (5 * n + i) 0 = same (5 * n + i) (omega (arith, lay.few)) in
@@ -59,9 +54,6 @@ turn w₀ w n m i lay e h =
     let l_a : length A ≡ i = length_labels w₀ n i (omega (arith, lay.room, lay.few)) in
     let l_b : length B ≡ i = length_labels w₀ (5 * n) i (omega (arith, lay.room, lay.few)) in
     record {
-      long = long;
-      room = omega (arith, long, lay.room);
-      few = lay.few;
       g_lt = gl;
       h_lt = hl;
       step =
@@ -70,3 +62,6 @@ turn w₀ w n m i lay e h =
           ∙ two w₀ O T i A B (get_or w₀ (get_or w₀ (n + i) 0 / 2) 0) (get_or w₀ (get_or w₀ (5 * n + i) 0 / 2) 0) l_a l_b (omega arith)
           ∙ (λ j. put (put w₀ O (labels_more w₀ n i (omega (arith, lay.room, lay.few)) j)) T (labels_more w₀ (5 * n) i (omega (arith, lay.room, lay.few)) j));
     }
+
+pub turn : (w₀ w : List ℕ) (n m i : ℕ) (p : GatePair) → Reads w₀ n m → w ≡ with_labels w₀ n m i → i < m → p ≡ gates_by (get_or w (n + i) 0) (get_or w (5 * n + i) 0) → Turn w₀ w n m i p
+turn w₀ w n m i p lay e h q = subst (Turn w₀ w n m i) (sym q) (turn_at w₀ w n m i lay e h)

@@ -1,71 +1,21 @@
 -- Gathering, over plain values. Assumes nothing.
-use Rattle.std.proofs.Common.{◌≡◌, ℕ, suc, ◌+◌, ◌-◌, ◌*◌, ◌/◌, ◌%◌, ◌^◌, ◌<◌, ◌≤◌, Bool, true, false, cond, eqb, List, [], ◌∷◌, ◌++◌, map, length, get_or, set, sym, refl, ap, ◌∙◌, arith}
+use Rattle.std.proofs.Common.{◌≡◌, ℕ, suc, ◌+◌, ◌-◌, ◌*◌, ◌<◌, ◌≤◌, Bool, true, false, cond, List, [], ◌∷◌, ◌++◌, map, length, get_or, set, sym, refl, ap, ◌∙◌, arith}
 use lib.ListN.{length-map}
-use lib.Ieee.{Float, nan}
+use lib.Ieee.{Float}
 use Rattle.lists.specs.Seq.{upto}
 use Rattle.lists.proofs.SeqLaws.{map_append}
 use Rattle.lists.specs.Inside.Seg.{seg, put}
 use Rattle.lists.proofs.SegLaws.{length-put, get_or-put_below, seg-put_below}
 use Rattle.edges.proofs.GrowLaws.{snoc_at, four}
 use Rattle.edges.specs.Edges.{Pair, begun, plus, difference}
-use Rattle.edges.specs.Inside.GatePairs.{pair_of}
 use Rattle.edges.specs.Inside.Order.{alike, runs_from}
-use Rattle.edges.specs.Inside.Gather.{pair_at, later, ReadsPairs, written, tables}
-use Rattle.edges.proofs.PairTurn.{label_at}
+use Rattle.edges.specs.Inside.Gather.{sorted_at, pair_at, later, ReadsPairs, written, tables}
 use Rattle.edges.specs.declared.edges.EdgeRecord.{EdgeRecord}
 
--- the words of the i-th pair
-abbrev pub gate_at_order : List ℕ → ℕ → ℕ → ℕ
-gate_at_order w n i = get_or w (n + get_or w (9 * n + i) 0) 0
-
-abbrev pub far_at_order : List ℕ → ℕ → ℕ → ℕ
-far_at_order w n i = get_or w (5 * n + get_or w (9 * n + i) 0) 0
-
--- where its gates lie
-pub record Found (w : List ℕ) (vel : List Float) (n m i : ℕ) : Type 0 where
-  pub x_lt : get_or w (9 * n + i) 0 < m
-  pub g_lt : gate_at_order w n i / 2 < n
-  pub h_lt : far_at_order w n i / 2 < n
-  pub g_vel : gate_at_order w n i / 2 < length vel
-  pub h_vel : far_at_order w n i / 2 < length vel
-  pub room : 9 * n + m ≤ length w
-  pub few : m ≤ 4 * n
-  pub little : n < 2 ^ 32
-
-pub found : (w : List ℕ) (vel : List Float) (n m i : ℕ) → ReadsPairs w vel n m → i < m → Found w vel n m i
-found w vel n m i r h =
-    let x : ℕ = get_or w (9 * n + i) 0 in
-    let xl : x < m = r.index i h in
-    record {
-      x_lt = xl;
-      g_lt = r.gate x xl;
-      h_lt = r.far x xl;
-      g_vel = omega (arith, r.gate x xl, r.vels);
-      h_vel = omega (arith, r.far x xl, r.vels);
-      room = r.room;
-      few = r.few;
-      little = r.little;
-    }
-
-pub is_pair : (w : List ℕ) (vel : List Float) (n m i : ℕ) → ReadsPairs w vel n m → i < m → (v u : Float) (b : Bool)
-    → v ≡ get_or vel (gate_at_order w n i / 2) nan → u ≡ get_or vel (far_at_order w n i / 2) nan → b ≡ eqb (far_at_order w n i % 2) 1
-    → ◌≡◌ {A = Pair} (record { one = get_or w (gate_at_order w n i / 2) 0; two = get_or w (far_at_order w n i / 2) 0; vel1 = v; vel2 = u; bridged = b }) (pair_at w vel n i)
-unfolding pair_at pair_of
-is_pair w vel n m i r h v u b ev eu eb =
-    let f : Found w vel n m i = found w vel n m i r h in
-    let g : ℕ = gate_at_order w n i / 2 in
-    let k : ℕ = far_at_order w n i / 2 in
-    let la : get_or w g 0 ≡ get_or (seg w 0 n) g 0 = sym (label_at w n g f.g_lt) in
-    let lb : get_or w k 0 ≡ get_or (seg w 0 n) k 0 = sym (label_at w n k f.h_lt) in
-    λ j. record { one = la j; two = lb j; vel1 = ev j; vel2 = eu j; bridged = eb j }
-
--- its labels, whatever the velocities are
-pub are_labels : (w : List ℕ) (vel : List Float) (n m i : ℕ) → ReadsPairs w vel n m → i < m → (v : List Float)
-    → (get_or w (gate_at_order w n i / 2) 0 ≡ (pair_at w v n i).one) × (get_or w (far_at_order w n i / 2) 0 ≡ (pair_at w v n i).two)
-unfolding pair_at pair_of
-are_labels w vel n m i r h v =
-    let f : Found w vel n m i = found w vel n m i r h in
-    (sym (label_at w n (gate_at_order w n i / 2) f.g_lt), sym (label_at w n (far_at_order w n i / 2) f.h_lt))
+-- the gates of the sorted pairs are in the sweep
+pub sorted_in : (w : List ℕ) (vel : List Float) (n m i : ℕ) → ReadsPairs w vel n m → i < m → ((sorted_at w n i).gate < n) × ((sorted_at w n i).far < n)
+unfolding sorted_at
+sorted_in w vel n m i r h = let x = r.index i h in (r.gate (get_or w (9 * n + i) 0) x, r.far (get_or w (9 * n + i) 0) x)
 
 -- ---- tables
 

@@ -1,15 +1,18 @@
 -- One look's pair, and the four of a gate, over plain values. Assumes nothing.
-use Rattle.std.proofs.Common.{◌≡◌, ℕ, zero, suc, ◌+◌, ◌-◌, ◌*◌, ◌%◌, ◌<◌, ◌≤◌, Bool, true, false, cond, not, eqb, ◌⊎◌, List, [], ◌∷◌, ◌++◌, length, get_or, set, sym, refl, ap, ◌∙◌, subst, inl, inr, ⊎_elim, mul_comm, zero-mul, add-one, arith, length-append, le-ltb, lt-ltb, eq-eqb, ne_eqb, le-leb}
-use mathlib.Core.Option.{Option, none, some, none-ne-some}
+use Rattle.std.proofs.Common.{◌≡◌, ℕ, zero, suc, ◌+◌, ◌-◌, ◌*◌, ◌%◌, ◌<◌, ◌≤◌, max, Bool, true, false, cond, eqb, ◌==◌, ◌⊎◌, List, [], ◌∷◌, ◌++◌, length, get_or, set, sym, refl, ap, ◌∙◌, subst, ⊎_elim, mul_comm, zero-mul, add-one, arith, length-append, le-ltb, lt-ltb, eq-eqb, ne_eqb, le-leb}
+use mathlib.Core.Option.{Option, none, some}
+use borrow.Author.Tests.{eqb-false}
+use Rattle.std.proofs.lemmas.Bool.Decides.{nat_tests}
 use Rattle.lists.specs.Inside.Seg.{seg}
 use Rattle.lists.proofs.SegLaws.{get_or-seg, length-seg}
 use Rattle.lists.specs.Seq.{upto, each}
 use Rattle.edges.specs.Edges.{Shape, Direction, Left, Right, Top, Bottom, next, skip, sees, bridges}
 use Rattle.edges.specs.declared.edges.Shape.{Shape}
-use Rattle.edges.specs.Inside.GatePairs.{GatePair, coded, gate_pair_to, gate_pairs_of, gate_pairs_at, gate_pairs, AddsPairs, Puts, Place, Sheet, LabelledGate, Amid}
+use Rattle.edges.specs.Inside.GatePairs.{GatePair, coded, gate_pair_to, gate_pair_along, gate_pairs_of, gate_pairs_at, gate_pairs, AddsPairs, Puts, Place, Sheet, LabelledAmid}
 use Rattle.edges.specs.Inside.Sees.{sighted}
 use Rattle.edges.specs.declared.edges.Sight.{Sight}
-use Rattle.edges.specs.declared.edges.Sight.TheVariants.{Near, Bridged, Unseen}
+use Rattle.std.specs.Prelude.{Some, None}
+use Rattle.std.specs.Prelude as Std
 use Rattle.edges.proofs.Stored.{adds_none, adds_one, adds_then, adds_labels, adds_length}
 use Rattle.lists.proofs.SeqLaws.{each_snoc}
 use Rattle.edges.proofs.GatePairLaws.{link_to_most, sees_in}
@@ -28,73 +31,56 @@ module _ (n : ℕ) (w : List ℕ) (g h c : ℕ) (b : Bool) (p : g < n) (q : h < 
   unfolding gate_pair_to
   put_less l = rw (lt-ltb (get_or (seg w 0 n) h 0) (get_or (seg w 0 n) g 0) (omega (arith, label_at w n g p, label_at w n h q))) (adds_one n w c g h b)
 
+-- two gates beside each other in the words
+module _ (n : ℕ) (w : List ℕ) (gates g h c : ℕ) (p : g < n) (q : h < n) where
+  pub along_other : (get_or w g 0 ≤ get_or w h 0) ⊎ (max g h % gates ≡ 0) → AddsPairs n w w c c (gate_pair_along gates (seg w 0 n) g h)
+  unfolding gate_pair_along
+  along_other e = go (eqb (max g h % gates) 0) refl
+    where
+      go : (x : Bool) → eqb (max g h % gates) 0 ≡ x → AddsPairs n w w c c (cond x [] (gate_pair_to (seg w 0 n) g false (some h)))
+      go true x = adds_none n w c
+      go false x = ⊎_elim (put_other n w g h c false p q) (λ z. absurd (eqb-false (max g h % gates) 0 x z)) e
+
+  pub along_less : (max g h % gates ≡ 0 → ⊥) → (v : List ℕ) (e : ℕ) → AddsPairs n w v c e (gate_pair_to (seg w 0 n) g false (some h)) → AddsPairs n w v c e (gate_pair_along gates (seg w 0 n) g h)
+  unfolding gate_pair_along
+  along_less r v e x = rw (ne_eqb (max g h % gates) 0 r) x
+
 -- ---- by a look's answer
 
 -- the gate seen, from what the frame says
 seen_in : (f : Shape) (n : ℕ) (w : List ℕ) (d : Direction) (g c k h : ℕ) → Place f n w g c k → sees f (seg w 0 n) d g ≡ some h → h < n
 seen_in f n w d g c k h p e = omega (arith, sees_in f d (seg w 0 n) g h (omega (arith, p.whole, p.inside)) e, p.whole)
 
-abbrev gate_of : Sight → Option ℕ
-gate_of (Near h) = some h
-gate_of (Bridged h) = some h
-gate_of Unseen = none
+-- what a look that saw something saw
+sighted_some : (b : Bool) (o : Option ℕ) (s : Sight) → sighted b o ≡ Some s → (o ≡ some s.gate) × (b ≡ s.bridged)
+sighted_some b none s e = absurd (cc)
+sighted_some b (some h) s e = let q : ◌≡◌ {A = Sight} (record { gate = h; bridged = b }) s = cc in (ap (λ (x : Sight). some x.gate) q, ap (λ (x : Sight). x.bridged) q)
 
-gate_of_lem : (b : Bool) (o : Option ℕ) → gate_of (sighted b o) ≡ o
-gate_of_lem true none = refl
-gate_of_lem false none = refl
-gate_of_lem true (some h) = refl
-gate_of_lem false (some h) = refl
+sighted_none : (b : Bool) (o : Option ℕ) → sighted b o ≡ None → o ≡ none
+sighted_none b none e = refl
+sighted_none b (some h) e = absurd (cc)
 
-abbrev over : Sight → Bool
-over (Near h) = false
-over (Bridged h) = true
-over Unseen = false
+module _ (f : Shape) (n : ℕ) (w : List ℕ) (d : Direction) (g : ℕ) where
+  -- a look's answer, by the labels at the front of the words
+  abbrev pub looked : Std.Option Sight
+  looked = sighted (bridges f (seg w 0 n) d g) (sees f (seg w 0 n) d g)
 
-over_of : (b : Bool) (o : Option ℕ) (h : ℕ) → o ≡ some h → over (sighted b o) ≡ b
-over_of true none h e = absurd (none-ne-some h e)
-over_of false none h e = refl
-over_of true (some j) h e = refl
-over_of false (some j) h e = refl
+  pub saw_puts : (s : Sight) (c : ℕ) → Place f n w g c 1 → Some s ≡ looked → Puts n w g s.gate c
+  saw_puts s c p e = record {
+    room = p.room;
+    small = p.small;
+    inside = p.inside;
+    far = seen_in f n w d g c 1 s.gate p (sighted_some (bridges f (seg w 0 n) d g) (sees f (seg w 0 n) d g) s (sym e)).0;
+    place = p.place;
+  }
 
--- a look's answer, by the labels at the front of the words
-abbrev pub looked : Shape → ℕ → List ℕ → Direction → ℕ → Sight
-looked f n w d g = sighted (bridges f (seg w 0 n) d g) (sees f (seg w 0 n) d g)
+  -- the pair put with the gate seen is that of the look
+  pub saw_pair : (s : Sight) (v : List ℕ) (c k : ℕ) → Some s ≡ looked → AddsPairs n w v c k (gate_pair_to (seg w 0 n) g s.bridged (some s.gate)) → AddsPairs n w v c k (gate_pairs_of f (seg w 0 n) g d)
+  saw_pair s v c k e = let q = sighted_some (bridges f (seg w 0 n) d g) (sees f (seg w 0 n) d g) s (sym e) in subst (AddsPairs n w v c k) (λ i. gate_pair_to (seg w 0 n) g (sym q.1 i) (sym q.0 i))
 
-module _ (f : Shape) (n : ℕ) (w : List ℕ) (d : Direction) (g : ℕ) (r : Sight) (e : r ≡ looked f n w d g) where
-  abbrev B : Bool
-  B = bridges f (seg w 0 n) d g
-
-  abbrev O : Option ℕ
-  O = sees f (seg w 0 n) d g
-
-  saw : (h : ℕ) → gate_of r ≡ some h → O ≡ some h
-  saw h x = sym (gate_of_lem B O) ∙ sym (ap gate_of e) ∙ x
-
-  puts : (c h : ℕ) → Place f n w g c 1 → gate_of r ≡ some h → Puts n w g h c
-  puts c h p x = record { room = p.room; small = p.small; inside = p.inside; far = seen_in f n w d g c 1 h p (saw h x); place = p.place }
-
-  pub near_puts : (c h : ℕ) → Place f n w g c 1 → r ≡ Near h → Puts n w g h c
-  near_puts c h p x = puts c h p (ap gate_of x)
-
-  pub bridged_puts : (c h : ℕ) → Place f n w g c 1 → r ≡ Bridged h → Puts n w g h c
-  bridged_puts c h p x = puts c h p (ap gate_of x)
-
-  -- the pairs of a look that saw gate h
-  saw_pairs : (h : ℕ) → gate_of r ≡ some h → gate_pair_to (seg w 0 n) g (over r) (some h) ≡ gate_pairs_of f (seg w 0 n) g d
-  saw_pairs h x =
-      let o : O ≡ some h = saw h x in
-      ap (λ (b : Bool). gate_pair_to (seg w 0 n) g b (some h)) (ap over e ∙ over_of B O h o) ∙ ap (gate_pair_to (seg w 0 n) g B) (sym o)
-
-  module _ (v : List ℕ) (c k : ℕ) where
-    pub saw_near : (h : ℕ) → r ≡ Near h → AddsPairs n w v c k (gate_pair_to (seg w 0 n) g false (some h)) → AddsPairs n w v c k (gate_pairs_of f (seg w 0 n) g d)
-    saw_near h x = subst (AddsPairs n w v c k) (ap (λ (b : Bool). gate_pair_to (seg w 0 n) g b (some h)) (sym (ap over x)) ∙ saw_pairs h (ap gate_of x))
-
-    pub saw_bridged : (h : ℕ) → r ≡ Bridged h → AddsPairs n w v c k (gate_pair_to (seg w 0 n) g true (some h)) → AddsPairs n w v c k (gate_pairs_of f (seg w 0 n) g d)
-    saw_bridged h x = subst (AddsPairs n w v c k) (ap (λ (b : Bool). gate_pair_to (seg w 0 n) g b (some h)) (sym (ap over x)) ∙ saw_pairs h (ap gate_of x))
-
-  pub saw_none : (c : ℕ) → r ≡ Unseen → AddsPairs n w w c c (gate_pairs_of f (seg w 0 n) g d)
+  pub saw_none : (c : ℕ) → None ≡ looked → AddsPairs n w w c c (gate_pairs_of f (seg w 0 n) g d)
   unfolding gate_pair_to
-  saw_none c x = rw (sym (gate_of_lem B O) ∙ sym (ap gate_of e) ∙ ap gate_of x) (adds_none n w c)
+  saw_none c e = rw (sighted_none (bridges f (seg w 0 n) d g) (sees f (seg w 0 n) d g) (sym e)) (adds_none n w c)
 
 -- ---- gates amid labelled ones
 
@@ -110,66 +96,6 @@ none_one : (s : Shape) (L : List ℕ) (d : Direction) (g : ℕ) → next s d g �
 unfolding gate_pair_to
 none_one s L d g e = sym (ap (gate_pair_to L g (bridges s L d g)) (begins s d L (skip s d) g refl ∙ none_on s d L (skip s d) g e))
 
-module _ (f : Shape) (n : ℕ) (w : List ℕ) (g c k : ℕ) (p : LabelledGate f n w g c (suc k)) (q : Amid w n f.gates g) where
-  puts_at : (h : ℕ) → h < n → Puts n w g h c
-  puts_at h l = record { room = p.place.room; small = p.place.small; inside = p.place.inside; far = l; place = omega (arith, p.place.place) }
-
-  -- what a pair put with the gate that a step leads to comes to
-  put_near : (d : Direction) (h : ℕ) → next f d g ≡ some h → h < n → (get_or w h 0 ≡ 0 → ⊥) → (v : List ℕ) (e : ℕ)
-      → AddsPairs n w v c e (gate_pair_to (seg w 0 n) g false (some h)) → AddsPairs n w v c e (gate_pairs_of f (seg w 0 n) g d)
-  put_near d h x l z v e = subst (AddsPairs n w v c e) (near_one f (seg w 0 n) d g h x (λ y. z (sym (label_at w n h l) ∙ y)))
-
-  pub left_puts : Puts n w g (g - f.gates) c
-  left_puts = puts_at (g - f.gates) (omega (arith, p.place.inside))
-
-  pub left_near : (v : List ℕ) (e : ℕ) → AddsPairs n w v c e (gate_pair_to (seg w 0 n) g false (some (g - f.gates))) → AddsPairs n w v c e (gate_pairs_of f (seg w 0 n) g Left)
-  left_near = put_near Left (g - f.gates) (unfold next in (rw (le-leb f.gates g q.below) refl)) (omega (arith, p.place.inside)) q.left
-
-  pub right_puts : Puts n w g (g + f.gates) c
-  right_puts = puts_at (g + f.gates) q.above
-
-  pub right_near : (v : List ℕ) (e : ℕ) → AddsPairs n w v c e (gate_pair_to (seg w 0 n) g false (some (g + f.gates))) → AddsPairs n w v c e (gate_pairs_of f (seg w 0 n) g Right)
-  right_near = put_near Right (g + f.gates) (unfold next in (rw (lt-ltb (g + f.gates) (f.rays * f.gates) (omega (arith, q.above, p.place.whole))) refl)) q.above q.right
-
-  pub top_puts : Puts n w g (g - 1) c
-  top_puts = puts_at (g - 1) (omega (arith, p.place.inside))
-
-  pub top_near : (g % f.gates ≡ 0 → ⊥) → (v : List ℕ) (e : ℕ) → AddsPairs n w v c e (gate_pair_to (seg w 0 n) g false (some (g - 1))) → AddsPairs n w v c e (gate_pairs_of f (seg w 0 n) g Top)
-  top_near r = put_near Top (g - 1) (unfold next in (rw (ne_eqb (g % f.gates) 0 r) refl)) (omega (arith, p.place.inside)) q.top
-
-  pub top_none : g % f.gates ≡ 0 → AddsPairs n w w c c (gate_pairs_of f (seg w 0 n) g Top)
-  top_none r = rw (sym (none_one f (seg w 0 n) Top g (unfold next in (rw (eq-eqb (g % f.gates) 0 r) refl)))) (adds_none n w c)
-
-  pub bottom_puts : Puts n w g (g + 1) c
-  bottom_puts = puts_at (g + 1) (omega (arith, q.above, q.some))
-
-  pub bottom_near : ((g + 1) % f.gates ≡ 0 → ⊥) → (v : List ℕ) (e : ℕ) → AddsPairs n w v c e (gate_pair_to (seg w 0 n) g false (some (g + 1))) → AddsPairs n w v c e (gate_pairs_of f (seg w 0 n) g Bottom)
-  bottom_near r = put_near Bottom (g + 1) (step ∙ ap some {x = suc g} {y = g + 1} (omega arith)) (omega (arith, q.above, q.some)) q.bottom
-    where
-      step : next f Bottom g ≡ some (suc g)
-      step = unfold next in (rw (ne_eqb (suc g % f.gates) 0 (λ z. r (ap (λ (x : ℕ). x % f.gates) {x = g + 1} {y = suc g} (omega arith) ∙ z))) refl)
-
-  pub bottom_none : (g + 1) % f.gates ≡ 0 → AddsPairs n w w c c (gate_pairs_of f (seg w 0 n) g Bottom)
-  bottom_none r = rw (sym (none_one f (seg w 0 n) Bottom g (unfold next in (rw (eq-eqb (suc g % f.gates) 0 (ap (λ (x : ℕ). x % f.gates) {x = suc g} {y = g + 1} (omega arith) ∙ r)) refl)))) (adds_none n w c)
-
-  -- a labelled neighbour of no lesser label
-  even : (d : Direction) (h : ℕ) → h < n → (get_or w h 0 ≡ 0 → ⊥) → get_or w g 0 ≤ get_or w h 0 → (next f d g ≡ none) ⊎ (next f d g ≡ some h) → AddsPairs n w w c c (gate_pairs_of f (seg w 0 n) g d)
-  even d h l z s = ⊎_elim (λ x. rw (sym (none_one f (seg w 0 n) d g x)) (adds_none n w c)) (λ x. put_near d h x l z w c (put_other n w g h c false p.place.inside l s))
-
-  pub top_even : get_or w g 0 ≤ get_or w (g - 1) 0 → AddsPairs n w w c c (gate_pairs_of f (seg w 0 n) g Top)
-  top_even s = even Top (g - 1) (omega (arith, p.place.inside)) q.top s (unfold next in go (not (eqb (g % f.gates) 0)))
-    where
-      go : (b : Bool) → (cond b (some (g - 1)) none ≡ none) ⊎ (cond b (some (g - 1)) none ≡ some (g - 1))
-      go true = inr refl
-      go false = inl refl
-
-  pub bottom_even : get_or w g 0 ≤ get_or w (g + 1) 0 → AddsPairs n w w c c (gate_pairs_of f (seg w 0 n) g Bottom)
-  bottom_even s = even Bottom (g + 1) (omega (arith, q.above, q.some)) q.bottom s (unfold next in go (not (eqb (suc g % f.gates) 0)))
-    where
-      go : (b : Bool) → (cond b (some (suc g)) none ≡ none) ⊎ (cond b (some (suc g)) none ≡ some (g + 1))
-      go true = inr (ap some {x = suc g} {y = g + 1} (omega arith))
-      go false = inl refl
-
 -- ---- one pair after another
 
 -- the pairs that gate g gets in one direction
@@ -177,8 +103,8 @@ abbrev pub one : Shape → ℕ → List ℕ → ℕ → Direction → List GateP
 one f n w g d = gate_pairs_of f (seg w 0 n) g d
 
 -- the next call's needs
-pub place_on : (f : Shape) (n : ℕ) (w v : List ℕ) (g c e k : ℕ) (d : Direction) → Place f n w g c (suc k) → AddsPairs n w v c e (one f n w g d) → Place f n v g e k
-place_on f n w v g c e k d p q = record {
+pub place_on : (k : ℕ) (d : Direction) {f : Shape} {n : ℕ} {w v : List ℕ} {g c e : ℕ} → Place f n w g c (suc k) → AddsPairs n w v c e (one f n w g d) → Place f n v g e k
+place_on k d {f} {n} {w} {v} {g} {c} {e} p q = record {
   whole = p.whole;
   room = omega (arith, p.room, adds_length n w v c e (one f n w g d) q);
   small = p.small;
@@ -186,32 +112,77 @@ place_on f n w v g c e k d p q = record {
   place = omega (arith, p.place, q.count, link_to_most (seg w 0 n) g (bridges f (seg w 0 n) d g) (sees f (seg w 0 n) d g));
 }
 
-pub place_less : (f : Shape) (n : ℕ) (w : List ℕ) (g c k j : ℕ) → Place f n w g c k → j ≤ k → Place f n w g c j
-place_less f n w g c k j p h = record { whole = p.whole; room = p.room; small = p.small; inside = p.inside; place = omega (arith, p.place) }
+pub place_one : {f : Shape} {n : ℕ} {w : List ℕ} {g c k : ℕ} → Place f n w g c k → 1 ≤ k → Place f n w g c 1
+place_one p h = record { whole = p.whole; room = p.room; small = p.small; inside = p.inside; place = omega (arith, p.place) }
 
--- the label is as it was
-pub label_on : (f : Shape) (n : ℕ) (w v : List ℕ) (g c e k : ℕ) (d : Direction) → LabelledGate f n w g c (suc k) → AddsPairs n w v c e (one f n w g d) → LabelledGate f n v g e k
-label_on f n w v g c e k d p q =
-    let i : g < n = p.place.inside in
-    record {
-      place = place_on f n w v g c e k d p.place q;
-      label = λ z. p.label (sym (label_at w n g i) ∙ sym (ap (λ (l : List ℕ). get_or l g 0) (adds_labels n w v c e (one f n w g d) q)) ∙ label_at v n g i ∙ z);
-    }
-
--- the labels beside it are as they were
-pub amid_on : (f : Shape) (n : ℕ) (w v : List ℕ) (g c e : ℕ) (d : Direction) → Amid w n f.gates g → AddsPairs n w v c e (one f n w g d) → Amid v n f.gates g
-amid_on f n w v g c e d q x = record {
-  some = q.some;
-  below = q.below;
-  above = q.above;
-  left = λ z. q.left (same (g - f.gates) (omega (arith, q.above)) ∙ z);
-  right = λ z. q.right (same (g + f.gates) q.above ∙ z);
-  top = λ z. q.top (same (g - 1) (omega (arith, q.above)) ∙ z);
-  bottom = λ z. q.bottom (same (g + 1) (omega (arith, q.above, q.some)) ∙ z);
+-- a labelled gate amid labelled ones, after a pair of its own
+pub amid_on : (f : Shape) (n : ℕ) (w v : List ℕ) (g c e k : ℕ) (d : Direction) → LabelledAmid f n w g c (suc k) → AddsPairs n w v c e (one f n w g d) → LabelledAmid f n v g e k
+amid_on f n w v g c e k d r x = let q = r.amid in record {
+  gate = record {
+    place = place_on k d r.gate.place x;
+    label = λ z. r.gate.label (same g r.gate.place.inside ∙ z);
+  };
+  amid = record {
+    some = q.some;
+    below = q.below;
+    above = q.above;
+    left = λ z. q.left (same (g - f.gates) (omega (arith, q.above)) ∙ z);
+    right = λ z. q.right (same (g + f.gates) q.above ∙ z);
+    top = λ z. q.top (same (g - 1) (omega (arith, q.above)) ∙ z);
+    bottom = λ z. q.bottom (same (g + 1) (omega (arith, q.above, q.some)) ∙ z);
+  };
 }
   where
     same : (j : ℕ) → j < n → get_or w j 0 ≡ get_or v j 0
     same j l = sym (label_at w n j l) ∙ sym (ap (λ (y : List ℕ). get_or y j 0) (adds_labels n w v c e (one f n w g d) x)) ∙ label_at v n j l
+
+module _ (k : ℕ) {f : Shape} {n : ℕ} {w : List ℕ} {g c : ℕ} (r : LabelledAmid f n w g c (suc k)) where
+  puts_at : (h : ℕ) → h < n → Puts n w g h c
+  puts_at h l = let p = r.gate.place in record { room = p.room; small = p.small; inside = p.inside; far = l; place = omega (arith, p.place) }
+
+  -- what a pair put with the gate that a step leads to comes to
+  put_near : (d : Direction) (h : ℕ) → next f d g ≡ some h → h < n → (get_or w h 0 ≡ 0 → ⊥) → {v : List ℕ} {e : ℕ} → AddsPairs n w v c e (gate_pair_to (seg w 0 n) g false (some h)) → AddsPairs n w v c e (one f n w g d)
+  put_near d h x l z {v} {e} = subst (AddsPairs n w v c e) (near_one f (seg w 0 n) d g h x (λ y. z (sym (label_at w n h l) ∙ y)))
+
+  -- and with one beside it in the words, where the step along the ray leads to it or leaves the sweep
+  along_near : (d : Direction) (h : ℕ) → h < n → (get_or w h 0 ≡ 0 → ⊥) → next f d g ≡ cond (max g h % f.gates == 0) none (some h) → {v : List ℕ} {e : ℕ}
+      → AddsPairs n w v c e (gate_pair_along f.gates (seg w 0 n) g h) → AddsPairs n w v c e (one f n w g d)
+  unfolding gate_pair_along
+  along_near d h l z x {v} {e} = go (max g h % f.gates == 0) x
+    where
+      go : (b : Bool) → next f d g ≡ cond b none (some h) → AddsPairs n w v c e (cond b [] (gate_pair_to (seg w 0 n) g false (some h))) → AddsPairs n w v c e (one f n w g d)
+      go true x = subst (AddsPairs n w v c e) (none_one f (seg w 0 n) d g x)
+      go false x = put_near d h x l z
+
+  pub left_near : {v : List ℕ} {e : ℕ} → AddsPairs n w v c e (gate_pair_to (seg w 0 n) g false (some (g - f.gates))) → AddsPairs n w v c e (one f n w g Left)
+  left_near = put_near Left (g - f.gates) (unfold next in (rw (le-leb f.gates g r.amid.below) refl)) (omega (arith, r.gate.place.inside)) r.amid.left
+
+  pub after_left : {v : List ℕ} {e : ℕ} → AddsPairs n w v c e (gate_pair_to (seg w 0 n) g false (some (g - f.gates))) → LabelledAmid f n v g e k
+  after_left {v} {e} x = amid_on f n w v g c e k Left r (left_near x)
+
+  pub right_puts : Puts n w g (g + f.gates) c
+  right_puts = puts_at (g + f.gates) r.amid.above
+
+  pub right_near : {v : List ℕ} {e : ℕ} → AddsPairs n w v c e (gate_pair_to (seg w 0 n) g false (some (g + f.gates))) → AddsPairs n w v c e (one f n w g Right)
+  right_near = put_near Right (g + f.gates) (unfold next in (rw (lt-ltb (g + f.gates) (f.rays * f.gates) (omega (arith, r.amid.above, r.gate.place.whole))) refl)) r.amid.above r.amid.right
+
+  pub after_right : {v : List ℕ} {e : ℕ} → AddsPairs n w v c e (gate_pair_to (seg w 0 n) g false (some (g + f.gates))) → LabelledAmid f n v g e k
+  after_right {v} {e} x = amid_on f n w v g c e k Right r (right_near x)
+
+  pub top_puts : Puts n w g (g - 1) c
+  top_puts = puts_at (g - 1) (omega (arith, r.gate.place.inside))
+
+  pub top_near : {v : List ℕ} {e : ℕ} → AddsPairs n w v c e (gate_pair_along f.gates (seg w 0 n) g (g - 1)) → AddsPairs n w v c e (one f n w g Top)
+  top_near = along_near Top (g - 1) (omega (arith, r.gate.place.inside)) r.amid.top (unfold next in grind (arith, nat_tests))
+
+  pub after_top : {v : List ℕ} {e : ℕ} → AddsPairs n w v c e (gate_pair_along f.gates (seg w 0 n) g (g - 1)) → LabelledAmid f n v g e k
+  after_top {v} {e} x = amid_on f n w v g c e k Top r (top_near x)
+
+  pub bottom_puts : Puts n w g (g + 1) c
+  bottom_puts = puts_at (g + 1) (omega (arith, r.amid.above, r.amid.some))
+
+  pub bottom_near : {v : List ℕ} {e : ℕ} → AddsPairs n w v c e (gate_pair_along f.gates (seg w 0 n) g (g + 1)) → AddsPairs n w v c e (one f n w g Bottom)
+  bottom_near = along_near Bottom (g + 1) (omega (arith, r.amid.above, r.amid.some)) r.amid.bottom (unfold next in grind (arith, nat_tests))
 
 pub some_gates : (f : Shape) (n : ℕ) (w : List ℕ) (g c k : ℕ) → Place f n w g c k → 0 < f.gates
 some_gates f n w g c k p = go f.gates p.whole
@@ -220,44 +191,28 @@ some_gates f n w g c k p = go f.gates p.whole
     go zero e = absurd (omega (arith, p.inside, e, mul_comm f.rays 0, zero-mul f.rays))
     go (suc x) e = omega arith
 
-pub label_less : (f : Shape) (n : ℕ) (w : List ℕ) (g c k : ℕ) → LabelledGate f n w g c (suc k) → LabelledGate f n w g c 1
-label_less f n w g c k p = record { place = place_less f n w g c (suc k) 1 p.place (omega arith); label = p.label }
-
--- a call's pairs are those by the labels at the start
-adds_from : (f : Shape) (n : ℕ) (u w v : List ℕ) (g c e : ℕ) (d : Direction) → seg w 0 n ≡ seg u 0 n → AddsPairs n w v c e (one f n w g d) → AddsPairs n w v c e (one f n u g d)
-adds_from f n u w v g c e d l q = rw l at q
-
 pub unlabelled : (f : Shape) (n : ℕ) (w : List ℕ) (g c : ℕ) → g < n → get_or w g 0 ≡ 0 → AddsPairs n w w c c (gate_pairs_at f (seg w 0 n) g)
 unfolding gate_pairs_at
 unlabelled f n w g c h z = rw (eq-eqb (get_or (seg w 0 n) g 0) 0 (label_at w n g h ∙ z)) (adds_none n w c)
 
-module _ (f : Shape) (n g : ℕ) (u v w x y : List ℕ) (a b c d e : ℕ) where
-  pub four : Place f n u g a 4 → (get_or u g 0 ≡ 0 → ⊥)
-      → AddsPairs n u v a b (one f n u g Left) → AddsPairs n v w b c (one f n v g Right) → AddsPairs n w x c d (one f n w g Top) → AddsPairs n x y d e (one f n x g Bottom)
-      → AddsPairs n u y a e (gate_pairs_at f (seg u 0 n) g)
-  unfolding gate_pairs_at each
-  four pl nz p q r t =
-      let lv : seg v 0 n ≡ seg u 0 n = adds_labels n u v a b (one f n u g Left) p in
-      let lw : seg w 0 n ≡ seg u 0 n = adds_labels n v w b c (one f n v g Right) q ∙ lv in
-      let lx : seg x 0 n ≡ seg u 0 n = adds_labels n w x c d (one f n w g Top) r ∙ lw in
-      let P2 : Place f n v g b 3 = place_on f n u v g a b 3 Left pl p in
-      let P3 : Place f n w g c 2 = place_on f n v w g b c 2 Right P2 q in
-      let P4 : Place f n x g d 1 = place_on f n w x g c d 1 Top P3 r in
-      let P5 : Place f n y g e 0 = place_on f n x y g d e 0 Bottom P4 t in
-      let q' : AddsPairs n v w b c (one f n u g Right) = adds_from f n u v w g b c Right lv q in
-      let r' : AddsPairs n w x c d (one f n u g Top) = adds_from f n u w x g c d Top lw r in
-      let t' : AddsPairs n x y d e (one f n u g Bottom ++ []) = more (adds_from f n u x y g d e Bottom lx t) in
-      let s3 : AddsPairs n w y c e (one f n u g Top ++ (one f n u g Bottom ++ [])) = adds_then n w x y c d e (one f n u g Top) (one f n u g Bottom ++ []) r' t' (omega (arith, P5.place)) in
-      let s2 : AddsPairs n v y b e (one f n u g Right ++ (one f n u g Top ++ (one f n u g Bottom ++ []))) = adds_then n v w y b c e (one f n u g Right) (one f n u g Top ++ (one f n u g Bottom ++ [])) q' s3 (omega (arith, P5.place)) in
-      rw (ne_eqb (get_or (seg u 0 n) g 0) 0 (λ z. nz (sym (label_at u n g pl.inside) ∙ z)))
-      (adds_then n u v y a b e (one f n u g Left) (one f n u g Right ++ (one f n u g Top ++ (one f n u g Bottom ++ []))) p s2 (omega (arith, P5.place)))
-    where
-      nil : (l : List GatePair) → l ++ [] ≡ l
-      nil [] = refl
-      nil (z ∷ zs) = rw (nil zs) refl
-
-      more : AddsPairs n x y d e (one f n u g Bottom) → AddsPairs n x y d e (one f n u g Bottom ++ [])
-      more h = rw (nil (one f n u g Bottom)) h
+pub four : {f : Shape} {n g : ℕ} {u v w x y : List ℕ} {a b c d e : ℕ} → Place f n u g a 4 → (get_or u g 0 ≡ 0 → ⊥)
+    → AddsPairs n u v a b (one f n u g Left) → AddsPairs n v w b c (one f n v g Right) → AddsPairs n w x c d (one f n w g Top) → AddsPairs n x y d e (one f n x g Bottom)
+    → AddsPairs n u y a e (gate_pairs_at f (seg u 0 n) g)
+unfolding gate_pairs_at each
+four {f} {n} {g} {u} {v} {w} {x} {y} {a} {b} {c} {d} {e} pl nz p q r t =
+    let lv : seg v 0 n ≡ seg u 0 n = adds_labels n u v a b (one f n u g Left) p in
+    let lw : seg w 0 n ≡ seg u 0 n = adds_labels n v w b c (one f n v g Right) q ∙ lv in
+    let lx : seg x 0 n ≡ seg u 0 n = adds_labels n w x c d (one f n w g Top) r ∙ lw in
+    let few : e ≤ 4 * n = omega (arith, (place_on 0 Bottom (place_on 1 Top (place_on 2 Right (place_on 3 Left pl p) q) r) t).place) in
+    let bottom : AddsPairs n x y d e (one f n u g Bottom ++ []) = rw nil (rw lx at t) in
+    let top : AddsPairs n w y c e (one f n u g Top ++ (one f n u g Bottom ++ [])) = adds_then n w x y c d e (one f n u g Top) (one f n u g Bottom ++ []) (rw lw at r) bottom few in
+    let right : AddsPairs n v y b e (one f n u g Right ++ (one f n u g Top ++ (one f n u g Bottom ++ []))) = adds_then n v w y b c e (one f n u g Right) (one f n u g Top ++ (one f n u g Bottom ++ [])) (rw lv at q) top few in
+    rw (ne_eqb (get_or (seg u 0 n) g 0) 0 (λ z. nz (sym (label_at u n g pl.inside) ∙ z)))
+    (adds_then n u v y a b e (one f n u g Left) (one f n u g Right ++ (one f n u g Top ++ (one f n u g Bottom ++ []))) p right few)
+  where
+    nil : (l : List GatePair) → l ++ [] ≡ l
+    nil [] = refl
+    nil (z ∷ zs) = rw (nil zs) refl
 
 -- ---- all gates
 
@@ -275,35 +230,34 @@ gate_most s L g = go (eqb (get_or L g 0) 0)
     go true = omega arith
     go false = simp length-append (omega (arith, most Left, most Right, most Top, most Bottom))
 
-module _ (f : Shape) (n : ℕ) (u : List ℕ) (lay : Sheet f n u) where
-  -- the pairs of the gates before g
-  abbrev pub up_to : ℕ → List GatePair
-  up_to g = each (gate_pairs_at f (seg u 0 n)) (upto g 0)
+-- the pairs of the gates before g
+abbrev pub up_to : Shape → ℕ → List ℕ → ℕ → List GatePair
+up_to f n u g = each (gate_pairs_at f (seg u 0 n)) (upto g 0)
 
-  pub scan_begin : AddsPairs n u u 0 0 (up_to 0)
+module _ {f : Shape} {n : ℕ} {u : List ℕ} (lay : Sheet f n u) where
+  pub scan_begin : AddsPairs n u u 0 0 (up_to f n u 0)
   unfolding each upto
   scan_begin = adds_none n u 0
 
-  pub scan_place : (w : List ℕ) (g c : ℕ) → AddsPairs n u w 0 c (up_to g) → c ≤ 4 * g → g < n → Place f n w g c 4
-  scan_place w g c p m h = record {
-    whole = lay.whole;
-    room = omega (arith, lay.room, adds_length n u w 0 c (up_to g) p);
-    small = lay.small;
-    inside = h;
-    place = omega arith;
-  }
+  module _ {w : List ℕ} {g c : ℕ} (p : AddsPairs n u w 0 c (up_to f n u g)) where
+    pub scan_place : c ≤ 4 * g → g < n → Place f n w g c 4
+    scan_place m h = record {
+      whole = lay.whole;
+      room = omega (arith, lay.room, adds_length n u w 0 c (up_to f n u g) p);
+      small = lay.small;
+      inside = h;
+      place = omega arith;
+    }
 
-  pub scan_on : (w v : List ℕ) (g c e : ℕ) → AddsPairs n u w 0 c (up_to g) → c ≤ 4 * g → g < n → AddsPairs n w v c e (gate_pairs_at f (seg w 0 n) g) → AddsPairs n u v 0 e (up_to (g + 1))
-  scan_on w v g c e p m h q =
-      let l : seg w 0 n ≡ seg u 0 n = adds_labels n u w 0 c (up_to g) p in
-      let q' : AddsPairs n w v c e (gate_pairs_at f (seg u 0 n) g) = rw l at q in
-      rw (add-one g, each_snoc (gate_pairs_at f (seg u 0 n)) g) (adds_then n u w v 0 c e (up_to g) (gate_pairs_at f (seg u 0 n) g) p q' (omega (arith, q'.count, gate_most f (seg u 0 n) g)))
+    pub scan_on : {v : List ℕ} {e : ℕ} → c ≤ 4 * g → g < n → AddsPairs n w v c e (gate_pairs_at f (seg w 0 n) g) → (e ≤ 4 * (g + 1)) × AddsPairs n u v 0 e (up_to f n u (g + 1))
+    scan_on {v} {e} m h q =
+        let l : seg w 0 n ≡ seg u 0 n = adds_labels n u w 0 c (up_to f n u g) p in
+        let q' : AddsPairs n w v c e (gate_pairs_at f (seg u 0 n) g) = rw l at q in
+        let most : e ≤ 4 * (g + 1) = omega (arith, q'.count, gate_most f (seg u 0 n) g) in
+        (most, rw (add-one g, each_snoc (gate_pairs_at f (seg u 0 n)) g) (adds_then n u w v 0 c e (up_to f n u g) (gate_pairs_at f (seg u 0 n) g) p q' (omega arith)))
 
-  pub scan_most : (w v : List ℕ) (g c e : ℕ) → c ≤ 4 * g → AddsPairs n w v c e (gate_pairs_at f (seg w 0 n) g) → e ≤ 4 * (g + 1)
-  scan_most w v g c e m q = omega (arith, q.count, gate_most f (seg w 0 n) g)
-
-  pub scan_end : (w : List ℕ) (g c : ℕ) → g ≤ n → n ≤ g → AddsPairs n u w 0 c (up_to g) → AddsPairs n u w 0 c (gate_pairs f (seg u 0 n))
-  unfolding gate_pairs
-  scan_end w g c a b p =
-      let e : g ≡ length (seg u 0 n) = omega (arith, length-seg u 0 n (omega (arith, lay.room))) in
-      rw e at p
+    pub scan_end : g ≤ n → n ≤ g → AddsPairs n u w 0 c (gate_pairs f (seg u 0 n))
+    unfolding gate_pairs
+    scan_end a b =
+        let e : g ≡ length (seg u 0 n) = omega (arith, length-seg u 0 n (omega (arith, lay.room))) in
+        rw e at p

@@ -5,7 +5,6 @@ use Rattle.lists.proofs.AllLaws.{and_left, and_right}
 use Rattle.edges.specs.Edges.{Pair, begun, plus}
 use Rattle.edges.specs.Inside.Order.{alike, runs_from, runs}
 use Rattle.edges.specs.declared.edges.EdgeRecord.{EdgeRecord}
-use Rattle.edges.specs.declared.edges.Labels.{Labels}
 use Rattle.edges.specs.Inside.Gather.{pair_at, later, LabelsAt}
 use Rattle.edges.proofs.GatherLaws.{later_cons, later_end}
 
@@ -77,24 +76,28 @@ pub record Counting (w : List ℕ) (n m a b e i : ℕ) : Type 0 where
   pub few : e ≤ i
   pub most : i ≤ m
 
-module _ (w : List ℕ) (n m : ℕ) where
-  pub count_begin : (r : Labels) → 0 < m → LabelsAt w n 0 r → Counting w n m r.one r.two 1 1
+cond_few : (b : Bool) (e i : ℕ) → e ≤ i → cond b e (e + 1) ≤ i + 1
+cond_few true e i h = omega arith
+cond_few false e i h = omega arith
+
+pub count_none : (w : List ℕ) (n m : ℕ) → m ≡ 0 → (vel : List Float) → 0 ≡ length (runs (later w vel n m 0))
+unfolding runs
+count_none w n m e vel = sym (ap (λ (l : List Pair). length (runs l)) (later_end w vel n m 0 (omega arith)))
+
+module _ {w : List ℕ} {n m : ℕ} where
+  pub count_begin : {r : ℕ × ℕ} → 0 < m → LabelsAt w n 0 r → Counting w n m r.0 r.1 1 1
   unfolding runs
-  count_begin r h L = record {
+  count_begin {r} h L = record {
     left = λ vel.
-        ap (λ (x : ℕ). 1 + x) (runs_labels (begun (labelled r.one r.two)) (begun (pair_at w vel n 0)) (later w vel n m 1) (unfold begun in (L vel).0) (unfold begun in (L vel).1))
+        ap (λ (x : ℕ). 1 + x) (runs_labels (begun (labelled r.0 r.1)) (begun (pair_at w vel n 0)) (later w vel n m 1) (unfold begun in (L vel).0) (unfold begun in (L vel).1))
         ∙ (let t : length (runs (later w vel n m 0)) ≡ length (runs_from (begun (pair_at w vel n 0)) (later w vel n m 1)) = ap (λ (l : List Pair). length (runs l)) (later_cons w vel n m 0 h) in omega (arith, t));
     few = omega arith;
     most = h;
   }
 
-  cond_few : (b : Bool) (e i : ℕ) → e ≤ i → cond b e (e + 1) ≤ i + 1
-  cond_few true e i h = omega arith
-  cond_few false e i h = omega arith
-
-  pub count_on : (a b : ℕ) (s : Labels) (e r i : ℕ) → Counting w n m a b e i → i < m → LabelsAt w n i s → r ≡ cond (eqb a s.one && eqb b s.two) e (e + 1) → Counting w n m s.one s.two r (i + 1)
-  count_on a b s e r i k h L z =
-      let q : Pair = labelled s.one s.two in
+  pub count_on : {a b : ℕ} {s : ℕ × ℕ} {e r i : ℕ} → Counting w n m a b e i → i < m → LabelsAt w n i s → r ≡ cond (eqb a s.0 && eqb b s.1) e (e + 1) → Counting w n m s.0 s.1 r (i + 1)
+  count_on {a} {b} {s} {e} {r} {i} k h L z =
+      let q : Pair = labelled s.0 s.1 in
       let z' : r ≡ cond (alike (begun (labelled a b)) q) e (e + 1) = z ∙ (unfold alike begun in refl) in
       record {
         left = λ vel.
@@ -103,16 +106,12 @@ module _ (w : List ℕ) (n m : ℕ) where
             ∙ ap (λ (x : ℕ). e + x) (head_labels (begun (labelled a b)) q (pair_at w vel n i) (later w vel n m (i + 1)) (L vel).0 (L vel).1)
             ∙ ap (λ (l : List Pair). e + length (runs_from (begun (labelled a b)) l)) (sym (later_cons w vel n m i h))
             ∙ k.left vel;
-        few = omega (arith, z, cond_few (eqb a s.one && eqb b s.two) e i k.few);
+        few = omega (arith, z, cond_few (eqb a s.0 && eqb b s.1) e i k.few);
         most = omega arith;
       }
 
-  pub count_end : (a b e i : ℕ) → Counting w n m a b e i → m ≤ i → (vel : List Float) → e ≡ length (runs (later w vel n m 0))
+  pub count_end : {a b e i : ℕ} → Counting w n m a b e i → m ≤ i → (vel : List Float) → e ≡ length (runs (later w vel n m 0))
   unfolding runs_from
-  count_end a b e i c h vel =
+  count_end {a} {b} {e} {i} c h vel =
       let t : length (runs_from (begun (labelled a b)) (later w vel n m i)) ≡ 1 = ap (λ (l : List Pair). length (runs_from (begun (labelled a b)) l)) (later_end w vel n m i h) in
       omega (arith, t, c.left vel)
-
-  pub count_none : m ≡ 0 → (vel : List Float) → 0 ≡ length (runs (later w vel n m 0))
-  unfolding runs
-  count_none e vel = sym (ap (λ (l : List Pair). length (runs l)) (later_end w vel n m 0 (omega arith)))

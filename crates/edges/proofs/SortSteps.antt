@@ -23,8 +23,8 @@ labels_at : (w : List ℕ) (src m k i : ℕ) → src + m ≤ length w → i < m 
 unfolding labels_of
 labels_at w src m k i r h g = rw (map_at (λ x. get_or w (x / 2) 0) (seg w src m) i 0 0 (omega (arith, length-seg w src m r)) ∙ ap (λ (x : ℕ). get_or w (x / 2) 0) (get_or-seg w src m i 0 h)) g
 
-module _ (u : List ℕ) (n m k : ℕ) (lay : Sorts u n m k) where
-  module _ (v : List ℕ) (e : v ≡ put u (9 * n) (upto m 0)) where
+module _ {u : List ℕ} {n m k : ℕ} (lay : Sorts u n m k) where
+  module _ {v : List ℕ} (e : v ≡ put u (9 * n) (upto m 0)) where
     lv : length v ≡ length u
     lv = ap length e ∙ length-put u (9 * n) (upto m 0)
 
@@ -42,7 +42,7 @@ module _ (u : List ℕ) (n m k : ℕ) (lay : Sorts u n m k) where
     labels_v : (src : ℕ) → src + m ≤ 9 * n → ((i : ℕ) → i < m → get_or u (src + i) 0 / 2 < n) → labels_of v src m ≡ labels_of u src m
     labels_v src h g = ap (λ (l : List ℕ). labels_of l src m) e ∙ labels_kept u (9 * n) (upto m 0) src m h (omega (arith, lay.room)) (λ i l. omega (arith, g i l))
 
-    module _ (y : List ℕ) (g : y ≡ with_labels v n m m) where
+    module _ {y : List ℕ} (g : y ≡ with_labels v n m m) where
       ly : length y ≡ length u
       ly = ap length g ∙ length_with v n m m ∙ lv
 
@@ -91,9 +91,9 @@ module _ (u : List ℕ) (n m k : ℕ) (lay : Sorts u n m k) where
         second = λ j h. omega (arith, get_or-seg y (9 * n + m + m + m) m j 0 h, ap (λ (z : List ℕ). get_or z j 0) part_two, labels_at u (5 * n) m k j (omega (arith, lay.room, lay.few)) h (lay.label (get_or u (5 * n + j) 0 / 2) (lay.far j h)));
       }
 
-      pub sort_done : (r : List ℕ) → seg r (9 * n) m ≡ both y (9 * n) m m k → ((j : ℕ) → (9 * n ≤ j → j < 9 * n + m + m → ⊥) → (9 * n + m + m + m + m ≤ j → j < 9 * n + m + m + m + m + k → ⊥) → get_or r j 0 ≡ get_or y j 0) → Sorted u r n m k
+      pub sort_done : {r : List ℕ} → seg r (9 * n) m ≡ both y (9 * n) m m k → ((j : ℕ) → (9 * n ≤ j → j < 9 * n + m + m → ⊥) → (9 * n + m + m + m + m ≤ j → j < 9 * n + m + m + m + m + k → ⊥) → get_or r j 0 ≡ get_or y j 0) → Sorted u r n m k
       unfolding both
-      sort_done r s t = record {
+      sort_done s t = record {
         order = s ∙ ap (λ (z : List ℕ). sorted z k (sorted (seg y (9 * n + m + m) m) k (seg y (9 * n) m))) part_two ∙ ap (λ (z : List ℕ). sorted (labels_of u (5 * n) m) k (sorted z k (seg y (9 * n) m))) part_one ∙ ap (λ (z : List ℕ). sorted (labels_of u (5 * n) m) k (sorted (labels_of u n m) k z)) part_numbers;
         kept = λ j h. t j (λ a b. omega arith) (λ a b. omega arith) ∙ below_y j h;
       }

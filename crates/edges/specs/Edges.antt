@@ -1,6 +1,7 @@
--- edges.rs: looks, pairs, and the edge records. Three types are the code's own: a `Shape` is rays, gates per ray, the two skips, and whether
--- rays wrap; a `Direction` is Left or Right, from ray to ray, or Top or Bottom, along a ray; an `EdgeRecord` is two labels, the number of
--- their pairs, the sums of the velocities at either end, and how many of the pairs are bridged.
+-- edges.rs: looks, pairs, and the edge records. Four types are the code's own: a `Shape` is rays, gates per ray, the two skips, and whether
+-- rays wrap; a `Direction` is Left or Right, from ray to ray, or Top or Bottom, along a ray; a `Pair` is two labels, the velocities at either
+-- end, and whether the look was bridged; an `EdgeRecord` is two labels, the number of their pairs, the sums of the velocities at either end,
+-- and how many of the pairs are bridged.
 use Rattle.std.specs.Prelude.{ℕ, zero, suc, ◌+◌, ◌-◌, ◌*◌, ◌%◌, Bool, true, false, cond, not, List, [], ◌∷◌, length, ◌==◌, nat_le, nat_lt, slice_index, slice_index_or, Float}
 use mathlib.Core.List.{foldl}
 use Rattle.std.proofs.Math.Option.{Option, none, some}
@@ -11,6 +12,7 @@ use Rattle.arithmetic.specs.Rounding.{narrowed}
 pub use Rattle.edges.specs.declared.edges.Shape.{Shape}
 pub use Rattle.edges.specs.declared.edges.Direction.{Direction}
 pub use Rattle.edges.specs.declared.edges.Direction.TheVariants.{Left, Right, Top, Bottom}
+pub use Rattle.edges.specs.declared.edges.Pair.{Pair}
 pub use Rattle.edges.specs.declared.edges.EdgeRecord.{EdgeRecord}
 
 -- the gate one step from gate g, if it doesn't leave the sweep
@@ -42,14 +44,6 @@ sees s labels d g = look s d labels (suc (skip s d)) g
 -- whether gate g's look takes more than one step, over masked gates or valid ones of label 0: within one step it sees nothing
 unfoldable pub bridges : Shape → List ℕ → Direction → ℕ → Bool
 bridges s labels d g = elim (look s d labels 1 g) [ none ↦ true | some h ↦ false ]
-
--- two labels, the velocities at either end, and whether the look was bridged
-pub record Pair : Type 0 where
-  pub one : ℕ
-  pub two : ℕ
-  pub vel1 : Float
-  pub vel2 : Float
-  pub bridged : Bool
 
 -- a pair, where a gate is seen, by a look that was bridged or not, and has another label
 unfoldable pub pair_to : List ℕ → List Float → ℕ → Bool → Option ℕ → List Pair

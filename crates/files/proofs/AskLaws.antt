@@ -1,7 +1,7 @@
 -- Questions in a row: what a code that asks one list after another cites, and tests of every question. Assumes nothing.
 use Prim.Native.Nat.{ℕ, zero, suc, ◌+◌, ◌≤◌, ◌<◌}
 use native.Mathlib.Omega.{arith}
-use mathlib.Core.Path.{◌≡◌, refl, sym, ap, ◌∙◌, subst}
+use mathlib.Core.Path.{◌≡◌, refl, sym, ap, subst}
 use mathlib.Core.Bool.{true, ◌&&◌}
 use mathlib.Core.List.{List, [], ◌∷◌, ◌++◌}
 use mathlib.Core.Logic.{⊎_elim}
@@ -10,9 +10,8 @@ use lib.Dec.{ltb}
 use Rattle.lists.specs.Seq.{All, all, each, upto}
 use Rattle.lists.proofs.AllLaws.{and_left, and_right, all_append}
 use Rattle.lists.proofs.SegLaws.{eq_or_ne}
-use Rattle.sweep.specs.Questions.{Question, first_no}
+use Rattle.sweep.specs.Questions.{Question}
 use Rattle.sweep.specs.Entry.{answer_of}
-use Rattle.sweep.proofs.QuestionLaws.{list_after, zero_none}
 
 -- every question gets a yes
 abbrev pub Yes : List Question → Type 0
@@ -32,25 +31,6 @@ pub named_each : (f : ℕ → List Question) (l : List ℕ) → ((i : ℕ) → N
 unfolding all each
 named_each f [] h = refl
 named_each f (x ∷ xs) h = named_append (f x) (each f xs) (h x) (named_each f xs h)
-
--- questions before others: where none of them gets a no the others decide, else they do
-pub after_none : (qs rs : List Question) → first_no qs ≡ none → first_no (qs ++ rs) ≡ first_no rs
-after_none qs rs h = list_after qs rs ∙ rw h refl
-
-pub after_some : (qs rs : List Question) (k : ℕ) → first_no qs ≡ some k → first_no (qs ++ rs) ≡ some k
-after_some qs rs k h = list_after qs rs ∙ rw h refl
-
--- an answer other than 0 is a refusal by that number
-pub answer_some : (o : Option ℕ) (k : ℕ) → k ≡ answer_of o → (k ≡ 0 → ⊥) → o ≡ some k
-answer_some none k e n = absurd (n e)
-answer_some (some j) k e n = ap some (sym e)
-
--- the answer where the questions before gave 0, and where they did not
-pub after_zero : (qs rs : List Question) (k : ℕ) → Named qs → k ≡ answer_of (first_no qs) → k ≡ 0 → answer_of (first_no (qs ++ rs)) ≡ answer_of (first_no rs)
-after_zero qs rs k n e z = ap answer_of (after_none qs rs (zero_none qs n (sym e ∙ z)))
-
-pub after_fault : (qs rs : List Question) (k : ℕ) → k ≡ answer_of (first_no qs) → (k ≡ 0 → ⊥) → k ≡ answer_of (first_no (qs ++ rs))
-after_fault qs rs k e n = sym (ap answer_of (after_some qs rs k (answer_some (first_no qs) k e n)))
 
 -- a yes to each of two lists, and to each of many
 pub yes_left : (qs rs : List Question) → Yes (qs ++ rs) → Yes qs

@@ -1,5 +1,4 @@
--- Questions 5 and 7 of the number that a bit pattern is, by the bits: patterns without their sign are in the order of the sizes. Then bits of numbers,
--- and numbers of bits, that may be a NaN's. Assumes nothing.
+-- Questions 5 and 7 of the number that a bit pattern is, by the bits: patterns without their sign are in the order of the sizes. Assumes nothing.
 use Prim.Native.Nat.{ℕ, zero, suc, ◌+◌, ◌*◌, ◌/◌, ◌%◌, ◌^◌, ◌≤◌, ◌<◌}
 use native.Mathlib.Omega.{arith}
 use native.Mathlib.Nat.{mul-le-mul_right, mul-lt-mul_of_pos_right, le_of_mul-le-mul_right, mul_comm, mul_assoc, mul_left_comm, mul_right_comm, mul-pos, add-mul, mul-le-mul_left, mul-lt-mul_of_pos_left, lt_of_lt_of_le, le_of_eq, le_of_lt, pow-suc}
@@ -9,14 +8,12 @@ use mathlib.Core.Logic.{◌⊎◌, inl, inr, ⊎_elim}
 use lib.Dec.{T, eqb, leb, ltb}
 use lib.IntN.{ℤ, pos, negsuc}
 use lib.Pow.{pow_pos, pow_mono, pow-lt}
-use lib.Ieee.{Float, nan, inf, fin, binary32, up, down, le, lt, eq, ne, div, is_nan, nan_bits, of_fields, of_bits, to_bits}
-use lib.Ieee.Compare.{differs_from_itself, nan_differs}
+use lib.Ieee.{Float, nan, inf, fin, binary32, up, down, le, lt, eq, is_nan, of_fields, of_bits, to_bits}
 use lib.Ieee.Exact.{HasValue, odd_sign}
 use lib.Ieee.Bits.{to_bits-of_bits}
 use borrow.Author.Tests.{lt-ltb, le-ltb, le-leb, lt-leb, eq-eqb, ne_eqb, leb-true, leb-false, eqb-true, eqb-false}
 use Rattle.arithmetic.specs.Intervals.{nyquist_in_range, velocity_in_range}
 use Rattle.lists.proofs.SegLaws.{eq_or_ne}
-use Rattle.arithmetic.proofs.RangeLaws.{T_of}
 
 -- ---- comparing with a power of two by the value
 
@@ -369,42 +366,6 @@ nyquist_bits b h = go (leb 2147483648 b) refl
         let k = leb-false 2147483648 b e in
         let w : b ≡ b % 2147483648 / 8388608 * 8388608 + b % 8388608 = omega arith in
         ap (λ (m : ℕ). leb 1040187392 m && leb m 1149239296) w ∙ positive_fields (b % 2147483648 / 8388608) (b % 8388608) (field_under b) (digits_under b)
-
--- ---- the bits of a number that may be a NaN
-
-pub nan_bits_lem : (x : Float) → ne x x ≡ true → 2143289344 ≡ to_bits binary32 x
-unfolding to_bits
-nan_bits_lem x h = go x (differs_from_itself x (T_of h))
-  where
-    go : (x : Float) → x ≡ nan → 2143289344 ≡ to_bits binary32 x
-    go x e = ap (to_bits binary32) (sym e)
-
-pub no_nan : (x : Float) → ne x x ≡ false → T (not (is_nan x))
-unfolding is_nan
-no_nan nan h = absurd (true≢false (sym nan_differs ∙ h))
-no_nan (inf s) h = tt
-no_nan (fin s m e) h = tt
-
--- ---- the number of a pattern that may be a NaN's
-
--- a pattern whose exponent's field is not all ones is no NaN's
-pub no_field : (b : ℕ) → (b % 2147483648 / 8388608 ≡ 255 → ⊥) → T (not (nan_bits binary32 b))
-unfolding nan_bits
-no_field b h = rw (ne_eqb (b % 2147483648 / 8388608) 255 h) tt
-
--- nor is one whose digits are 0
-pub no_digits : (b : ℕ) → b % 8388608 ≡ 0 → T (not (nan_bits binary32 b))
-unfolding nan_bits
-no_digits b h = go (eqb (b % 2147483648 / 8388608) 255) (eqb (b % 8388608) 0) (eq-eqb (b % 8388608) 0 h)
-  where
-    go : (s t : Bool) → t ≡ true → T (not (s && not t))
-    go false t e = tt
-    go true t e = subst (λ (t : Bool). T (not (not t))) (sym e) tt
-
--- any other is read as a NaN, and so is 0 divided by 0
-pub nan_pattern : (b : ℕ) → b % 2147483648 / 8388608 ≡ 255 → (b % 8388608 ≡ 0 → ⊥) → div binary32 (of_bits binary32 0) (of_bits binary32 0) ≡ of_bits binary32 b
-unfolding div of_bits of_fields
-nan_pattern b h k = rw (h, ne_eqb (b % 8388608) 0 k) refl
 
 -- a Nyquist in its range is no NaN, and its bits are the ones that it was read from
 in_range_no_nan : (x : Float) → nyquist_in_range x ≡ true → T (not (is_nan x))

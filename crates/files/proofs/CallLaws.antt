@@ -3,7 +3,7 @@ use Prim.Native.Nat.{ℕ, suc, ◌+◌, ◌*◌, ◌≤◌, ◌<◌}
 use native.Mathlib.Omega.{arith}
 use native.Mathlib.Nat.{mul-le-mul_right}
 use mathlib.Core.Path.{◌≡◌, refl, sym, ap, ◌∙◌}
-use mathlib.Core.Bool.{Bool, true, ◌&&◌}
+use mathlib.Core.Bool.{true, ◌&&◌}
 use mathlib.Core.List.{List, [], ◌∷◌, ◌++◌}
 use mathlib.Core.Option.{Option, none, some}
 use lib.Dec.{eqb, leb}
@@ -11,71 +11,41 @@ use lib.ListN.{length, set, length-append}
 use borrow.Author.Tests.{eq-eqb, ne_eqb, eqb-true, leb-true}
 use Rattle.lists.specs.Seq.{all}
 use Rattle.lists.specs.Inside.Seg.{put}
-use Rattle.lists.proofs.AllLaws.{and_left, and_right, and_three}
-use Rattle.sweep.specs.Questions.{Question, ask, first_no, size_in_range, options_in_range}
+use Rattle.lists.proofs.AllLaws.{and_left, and_right}
+use Rattle.sweep.specs.Questions.{Question, first_no, size_in_range, options_in_range}
 use Rattle.sweep.specs.Entry.{answer_of}
 use Rattle.sweep.proofs.PassedLaws.{size_rays, size_gates}
 use Rattle.files.specs.declared.format.Header.{Header}
-use Rattle.files.specs.Format.{Stored, stored, u16_at, u16_bytes, u32_bytes, ray_at, file_length, field, option_bytes, header_bytes, ray_bytes, rays_bytes, file_of, header_in, bits_in, mask_in, sweep_in}
+use Rattle.files.specs.Format.{Stored, u16_at, u16_bytes, u32_bytes, ray_at, file_length, field, option_bytes, header_bytes, ray_bytes, rays_bytes, file_of, header_in, bits_in, mask_in, sweep_in}
 use Rattle.files.specs.Inside.Header.{size_bytes}
 use Rattle.files.specs.Questions.{as_sweep, sweep_questions, header_questions, body_questions, content_questions, read_questions, slices_fit, write_questions}
 use Rattle.files.specs.Calls.{Read, Written, read_by, ReadAnswer, SizeAnswer, no_header, read, write, header_words, as_words, call_read, call_size}
-use Rattle.sweep.proofs.QuestionLaws.{zero_none, none_all}
-use Rattle.files.proofs.AskLaws.{Yes, Named, named_append, after_none, after_some, answer_some}
+use Rattle.sweep.proofs.QuestionLaws.{zero_none, none_all, goes_on, stops}
+use Rattle.files.proofs.AskLaws.{Yes, Named, named_append}
 use Rattle.lists.proofs.PartLaws.{put_then, put_all, each_length}
-use Rattle.files.proofs.CodeLaws.{header_named, body_named, ray_length, field_length}
+use Rattle.files.proofs.CodeLaws.{header_there, header_named, body_named, ray_length, field_length}
 
--- ---- the reader's later questions, h being the header that was read
-
--- the sweep that is read
-abbrev pub sweep_by : List ℕ → Header → Stored
-sweep_by f h = stored h (bits_in f h.rays h.gates) (mask_in f h.rays h.gates)
-
--- its questions
-abbrev pub content_by : List ℕ → Header → ℕ → ℕ → List Question
-content_by f h v m = ask 2 (eqb v (h.rays * h.gates) && eqb m (h.rays * h.gates)) ∷ sweep_questions (sweep_by f h)
-
-pub content_by_lem : (f : List ℕ) (h : Header) (v m : ℕ) → h ≡ header_in f → content_by f h v m ≡ content_questions f v m
-unfolding content_questions header_in sweep_in
-content_by_lem f h v m e i = content_by f (e i) v m
-
-same_sweep : (f : List ℕ) (h : Header) → h ≡ header_in f → sweep_by f h ≡ sweep_in f
-unfolding header_in sweep_in
-same_sweep f h e i = sweep_by f (e i)
-
--- question 2 by the code's own number of gates
-pub lengths_by_lem : (v m n k : ℕ) {r : Bool} → n ≡ k → r ≡ (eqb v n && eqb m n) → r ≡ (eqb v k && eqb m k)
-lengths_by_lem v m n k e h = h ∙ (λ i. eqb v (e i) && eqb m (e i))
-
--- the sizes of a file whose length is right, by the header that was read
-pub header_length : (f : List ℕ) (h : Header) → h ≡ header_in f → length f ≡ file_length (u16_at f 3) (u16_at f 5) → length f ≡ file_length h.rays h.gates
-unfolding header_in
-header_length f h e l = l ∙ sym (λ i. file_length (e i).rays (e i).gates)
+-- ---- the reader's later questions
 
 later_named : (s : Stored) → Named (sweep_questions s)
 unfolding sweep_questions all
 later_named s = refl
 
-pub content_named : (f : List ℕ) (v m : ℕ) → Named (content_questions f v m)
+content_named : (f : List ℕ) (v m : ℕ) → Named (content_questions f v m)
 unfolding content_questions all
 content_named f v m = later_named (sweep_in f)
 
+-- what question 2's yes gives
 pub record Lengths (f : List ℕ) (v m : ℕ) : Type 0 where
   pub vel : v ≡ u16_at f 3 * u16_at f 5
   pub mask : m ≡ u16_at f 3 * u16_at f 5
 
-content_lengths : (f : List ℕ) (v m : ℕ) → Yes (content_questions f v m) → Lengths f v m
+pub content_lengths : (f : List ℕ) (v m : ℕ) → first_no (content_questions f v m) ≡ none → Lengths f v m
 unfolding content_questions
-content_lengths f v m y =
+content_lengths f v m h =
     let n = u16_at f 3 * u16_at f 5 in
-    record { vel = eqb-true v n (and_left (eqb v n) (eqb m n) y.0); mask = eqb-true m n (and_right (eqb v n) (eqb m n) y.0) }
-
-pub content_zero : (f : List ℕ) (v m k : ℕ) → k ≡ answer_of (first_no (content_questions f v m)) → k ≡ 0 → Lengths f v m
-content_zero f v m k e z = content_lengths f v m (none_all (content_questions f v m) (zero_none (content_questions f v m) (content_named f v m) (sym e ∙ z)))
-
-pub count_read : (f : List ℕ) (h : Header) (v : ℕ) → h ≡ header_in f → v ≡ u16_at f 3 * u16_at f 5 → v ≡ h.rays * h.gates
-unfolding header_in
-count_read f h v e l = l ∙ sym (λ i. (e i).rays * (e i).gates)
+    let y = (none_all (content_questions f v m) h).0 in
+    record { vel = eqb-true v n (and_left (eqb v n) (eqb m n) y); mask = eqb-true m n (and_right (eqb v n) (eqb m n) y) }
 
 -- ---- the reader's call
 
@@ -86,28 +56,31 @@ module _ (f vel mask : List ℕ) where
   -- a fault of the header decides, then one of the rays, then the questions on the contents
   pub at_header : (k : ℕ) → first_no (header_questions f) ≡ some k → first_no asked ≡ some k
   unfolding read_questions
-  at_header k h = after_some (header_questions f ++ body_questions f) _ k (after_some (header_questions f) (body_questions f) k h)
+  at_header k h = stops (header_questions f ++ body_questions f) _ k (stops (header_questions f) (body_questions f) k h)
 
   module _ (begun : first_no (header_questions f) ≡ none) where
     pub at_body : (k : ℕ) → first_no (body_questions f) ≡ some k → first_no asked ≡ some k
     unfolding read_questions
-    at_body k h = after_some (header_questions f ++ body_questions f) _ k (after_none (header_questions f) (body_questions f) begun ∙ h)
+    at_body k h = stops (header_questions f ++ body_questions f) _ k (goes_on (header_questions f) (body_questions f) begun ∙ h)
 
     pub at_content : first_no (body_questions f) ≡ none → first_no asked ≡ first_no (content_questions f (length vel) (length mask))
     unfolding read_questions
-    at_content whole = after_none (header_questions f ++ body_questions f) _ (after_none (header_questions f) (body_questions f) begun ∙ whole)
+    at_content whole = goes_on (header_questions f ++ body_questions f) _ (goes_on (header_questions f) (body_questions f) begun ∙ whole)
 
   -- what a refusal leaves, and what a file that is accepted gives
-  pub read_refused : {k : ℕ} (x : ℕ) (hd : Header) → x ≡ k → hd ≡ no_header → first_no asked ≡ some k → read_by x hd vel mask ≡ read f vel mask
+  pub read_refused : (k : ℕ) → first_no asked ≡ some k → read_by k no_header vel mask ≡ read f vel mask
   unfolding read
-  read_refused x hd a b h = (λ i. read_by (a i) (b i) vel mask) ∙ sym (rw (h, read) refl)
+  read_refused k h = sym (rw (h, read) refl)
 
   pub read_whole : first_no asked ≡ none → read f vel mask ≡ record { number = 0; sweep = sweep_in f }
   unfolding read
   read_whole h = rw (h, read) refl
 
-  pub read_done : (hd : Header) (vs ms : List ℕ) → hd ≡ header_in f → vs ≡ bits_in f hd.rays hd.gates → ms ≡ mask_in f hd.rays hd.gates → first_no asked ≡ none → read_by 0 hd vs ms ≡ read f vel mask
-  read_done hd vs ms a b d h = (λ i. read_by 0 hd (b i) (d i)) ∙ (λ i. record { number = 0; sweep = same_sweep f hd a i }) ∙ sym (read_whole h)
+  pub read_done : (hd : Header) (vs ms : List ℕ) (rays gates : ℕ) → hd ≡ header_in f → rays ≡ u16_at f 3 → gates ≡ u16_at f 5 → vs ≡ bits_in f rays gates → ms ≡ mask_in f rays gates → first_no asked ≡ none → read_by 0 hd vs ms ≡ read f vel mask
+  unfolding sweep_in
+  read_done hd vs ms rays gates a r g b d h =
+      (λ i. read_by 0 (a i) ((b ∙ (λ j. bits_in f (r j) (g j))) i) ((d ∙ (λ j. mask_in f (r j) (g j))) i))
+      ∙ sym (read_whole h)
 
 -- a reading's number is its questions' answer, and where it is 0 no question got a no
 pub read_number : (f vel mask : List ℕ) → (read f vel mask).number ≡ answer_of (first_no (asked f vel mask))
@@ -115,7 +88,7 @@ read_number f vel mask = go (first_no (asked f vel mask)) refl
   where
     go : (o : Option ℕ) → first_no (asked f vel mask) ≡ o → (read f vel mask).number ≡ answer_of (first_no (asked f vel mask))
     go none e = ap (λ (r : Read). r.number) (read_whole f vel mask e) ∙ sym (ap answer_of e)
-    go (some k) e = sym (ap (λ (r : Read). r.number) (read_refused f vel mask k no_header refl refl e)) ∙ sym (ap answer_of e)
+    go (some k) e = sym (ap (λ (r : Read). r.number) (read_refused f vel mask k e)) ∙ sym (ap answer_of e)
 
 pub read_named : (f : List ℕ) (v m : ℕ) → Named (read_questions f v m)
 unfolding read_questions
@@ -129,18 +102,6 @@ read_none f vel mask z = zero_none (asked f vel mask) (read_named f (length vel)
 pub write_named : (s : Stored) (k : ℕ) → Named (write_questions s k)
 unfolding write_questions all
 write_named s k = later_named s
-
--- question 2 by the code's own numbers of gates and bytes
-pub fit_by : (v m b n k e l : ℕ) {r : Bool} → n ≡ k → r ≡ (eqb v n && eqb m n) → e ≡ l → (r && eqb b e) ≡ (eqb v k && eqb m k && eqb b l)
-fit_by v m b n k e l g h z = λ i. (h ∙ (λ i. eqb v (g i) && eqb m (g i))) i && eqb b (z i)
-
--- question 2's yes
-pub fit_same : (s : Stored) (k : ℕ) → slices_fit s k ≡ true → length s.mask ≡ length s.vel
-unfolding slices_fit
-fit_same s k h =
-    let n = s.header.rays * s.header.gates in
-    let p = and_three (eqb (length s.vel) n) (eqb (length s.mask) n) (eqb k (file_length s.header.rays s.header.gates)) h in
-    eqb-true (length s.mask) n p.1 ∙ sym (eqb-true (length s.vel) n p.0)
 
 -- what a yes to all of the writer's questions gives
 pub record Writable (s : Stored) (k : ℕ) : Type 0 where
@@ -216,9 +177,6 @@ write_yes s k h =
       later = y.1.1;
     }
 
-pub write_zero : (s : Stored) (k j : ℕ) → j ≡ answer_of (first_no (write_questions s k)) → j ≡ 0 → first_no (write_questions s k) ≡ none
-write_zero s k j e z = zero_none (write_questions s k) (write_named s k) (sym e ∙ z)
-
 -- ---- the bytes of a whole file
 
 pub long_enough : (k rays gates : ℕ) → k ≡ file_length rays gates → 18 ≤ k
@@ -275,7 +233,7 @@ module _ (s : Stored) (w : List ℕ) where
   unfolding u16_bytes u32_bytes
   both_long = refl
 
-  pub file_stored : (w₁ w₂ w₃ : List ℕ) → length w ≡ file_length s.header.rays s.header.gates → w₁ ≡ put w 0 (size_bytes s.header) → w₂ ≡ put w₁ 11 (option_bytes s.header)
+  file_stored : (w₁ w₂ w₃ : List ℕ) → length w ≡ file_length s.header.rays s.header.gates → w₁ ≡ put w 0 (size_bytes s.header) → w₂ ≡ put w₁ 11 (option_bytes s.header)
       → w₃ ≡ put w₂ 18 (rays_bytes s.vel s.mask s.header.rays s.header.gates) → w₃ ≡ file_of s
   unfolding file_of
   file_stored w₁ w₂ w₃ l a b c =
@@ -288,14 +246,16 @@ module _ (s : Stored) (w : List ℕ) where
 
 -- ---- the writer's call
 
-module _ (s : Stored) (w : List ℕ) (k : ℕ) (e : k ≡ answer_of (first_no (write_questions s (length w)))) where
-  pub write_refused : (k ≡ 0 → ⊥) → ◌≡◌ {A = Written} (record { number = k; file = w }) (write s w)
+module _ (s : Stored) (w : List ℕ) where
+  pub write_refused : (k : ℕ) → first_no (write_questions s (length w)) ≡ some k → ◌≡◌ {A = Written} (record { number = k; file = w }) (write s w)
   unfolding write
-  write_refused n = sym (rw (answer_some (first_no (write_questions s (length w))) k e n, write) refl)
+  write_refused k h = sym (rw (h, write) refl)
 
-  pub write_done : (x : List ℕ) → k ≡ 0 → x ≡ file_of s → ◌≡◌ {A = Written} (record { number = 0; file = x }) (write s w)
+  -- what header, options and rays stored one after another leave
+  pub write_done : (w₁ w₂ w₃ : List ℕ) → first_no (write_questions s (length w)) ≡ none → w₁ ≡ put w 0 (size_bytes s.header) → w₂ ≡ put w₁ 11 (option_bytes s.header)
+      → w₃ ≡ put w₂ 18 (rays_bytes s.vel s.mask s.header.rays s.header.gates) → ◌≡◌ {A = Written} (record { number = 0; file = w₃ }) (write s w)
   unfolding write
-  write_done x z h = (λ i. record { number = 0; file = h i }) ∙ sym (rw (write_zero s (length w) k e z, write) refl)
+  write_done w₁ w₂ w₃ h a b c = (λ i. record { number = 0; file = file_stored s w w₁ w₂ w₃ (write_yes s (length w) h).buffer a b c i }) ∙ sym (rw (h, write) refl)
 
 -- ---- the exported entries
 
@@ -304,14 +264,14 @@ module _ (f size : List ℕ) where
   unfolding call_size
   size_refused n = rw (ne_eqb (length size) 2 n) refl
 
-  module _ (l : length size ≡ 2) (k : ℕ) (e : k ≡ answer_of (first_no (header_questions f))) where
-    pub size_fault : (k ≡ 0 → ⊥) → ◌≡◌ {A = SizeAnswer} (record { number = k; size = size }) (call_size f size)
+  module _ (l : length size ≡ 2) where
+    pub size_fault : (k : ℕ) → first_no (header_questions f) ≡ some k → ◌≡◌ {A = SizeAnswer} (record { number = k; size = size }) (call_size f size)
     unfolding call_size
-    size_fault n = rw (eq-eqb (length size) 2 l, answer_some (first_no (header_questions f)) k e n, call_size) refl
+    size_fault k h = rw (eq-eqb (length size) 2 l, h, call_size) refl
 
-    pub size_done : (w : List ℕ) → k ≡ 0 → w ≡ u16_at f 3 ∷ u16_at f 5 ∷ [] → ◌≡◌ {A = SizeAnswer} (record { number = 0; size = w }) (call_size f size)
+    pub size_done : (w : List ℕ) → first_no (header_questions f) ≡ none → w ≡ u16_at f 3 ∷ u16_at f 5 ∷ [] → ◌≡◌ {A = SizeAnswer} (record { number = 0; size = w }) (call_size f size)
     unfolding call_size
-    size_done w z h = rw (eq-eqb (length size) 2 l, zero_none (header_questions f) (header_named f) (sym e ∙ z), call_size) (λ i. record { number = 0; size = h i })
+    size_done w h e = rw (eq-eqb (length size) 2 l, h, call_size) (λ i. record { number = 0; size = e i })
 
 pub two_words : (l : List ℕ) (a b : ℕ) → length l ≡ 2 → set (set l 0 a) 1 b ≡ a ∷ b ∷ []
 two_words [] a b e = absurd (omega arith)
@@ -335,8 +295,9 @@ module _ (f vel mask header : List ℕ) where
       ∙ (λ i. as_words (e i))
       ∙ sym (rw (eq-eqb (length header) 8 l) refl)
 
-pub words_stored : (w w₁ w₂ : List ℕ) (h : Header) → length w ≡ 8 → w₁ ≡ put w 0 (h.rays ∷ h.gates ∷ h.nyquist ∷ h.splits ∷ []) → w₂ ≡ put w₁ 4 (h.skip_between_rays ∷ h.skip_along_ray ∷ h.centred ∷ h.wrap ∷ []) → w₂ ≡ header_words h
-unfolding header_words
-words_stored w w₁ w₂ h l a b =
-    put_then w w₁ w₂ 0 4 (h.rays ∷ h.gates ∷ h.nyquist ∷ h.splits ∷ []) (h.skip_between_rays ∷ h.skip_along_ray ∷ h.centred ∷ h.wrap ∷ []) a b refl
-    ∙ put_all w (h.rays ∷ h.gates ∷ h.nyquist ∷ h.splits ∷ h.skip_between_rays ∷ h.skip_along_ray ∷ h.centred ∷ h.wrap ∷ []) (sym l)
+-- ---- what the calls are proved by
+pub ruleset of_read = (at_header, at_body, at_content, read_refused, read_done, content_lengths, header_there)
+
+pub ruleset of_size = (size_refused, size_fault, size_done, two_words, header_there)
+
+pub ruleset of_write = (write_yes, write_refused, write_done, long_enough)

@@ -10,9 +10,10 @@ use Rattle.lists.specs.Inside.Seg.{seg}
 use Rattle.lists.proofs.SeqLaws.{tab_at, tab_same}
 use Rattle.lists.proofs.SegLaws.{seg_all, is_tab}
 use Rattle.files.specs.Format.{Stored, u16_at, u32_at, u16_bytes, u32_bytes, ray_at, file_length, gate_at, field, header_bytes, gate_bytes, ray_bytes, rays_bytes, file_of, header_in, bits_in, mask_in, sweep_in}
+use Rattle.files.specs.Inside.Gates.{mask_at, bits_at}
 use Rattle.files.specs.Theorems.{Bytes}
 use Rattle.lists.proofs.PartLaws.{seg_then, seg_one, seg_each, each_at, each_agree}
-use Rattle.files.proofs.CodeLaws.{Field, Begun, gate_room, gate_length, ray_length, field_length, rays_long, mask_of, bits_of}
+use Rattle.files.proofs.CodeLaws.{Field, Begun, gate_inside, gate_length, ray_length, field_length, rays_long}
 use Rattle.files.proofs.CallLaws.{header_long, ray_inside, gates_inside, file_length_lem}
 
 -- ---- from a file to its sweep and back
@@ -91,12 +92,12 @@ module _ (f : List ℕ) (b : Bytes f) where
         put_in k e = omega arith
 
     gate_bytes_lem : (r i : ℕ) → r * gates ≤ i → i < (r + 1) * gates → i < rays * gates → gate_bytes vel mask i ≡ seg f (21 + 3 * r + i * 5) 5
-    unfolding gate_bytes bits_in mask_in
+    unfolding gate_bytes bits_in mask_in mask_at bits_at
     gate_bytes_lem r i p q h =
-        let room = gate_room (length f) rays gates i l a c h in
+        let room = gate_inside (length f) rays gates i l h in
         let e = place r i p q in
-        let fit : 21 + 3 * r + i * 5 + 5 ≤ length f = omega (arith, room.inside) in
-        (λ j. (tab_at (mask_of f gates) (rays * gates) i 0 h ∙ ap (λ (k : ℕ). get_or f k 0) e) j ∷ u32_bytes ((tab_at (bits_of f gates) (rays * gates) i 0 h ∙ ap (λ (k : ℕ). u32_at f (k + 1)) e) j))
+        let fit : 21 + 3 * r + i * 5 + 5 ≤ length f = omega (arith, room) in
+        (λ j. (tab_at (mask_at f gates) (rays * gates) i 0 h ∙ ap (λ (k : ℕ). get_or f k 0) e) j ∷ u32_bytes ((tab_at (bits_at f gates) (rays * gates) i 0 h ∙ ap (λ (k : ℕ). u32_at f (k + 1)) e) j))
         ∙ sym (seg_then f (21 + 3 * r + i * 5) (21 + 3 * r + i * 5 + 1) 1 4 5 (seg_one f (21 + 3 * r + i * 5) 0 (omega arith)) (seg_u32 (21 + 3 * r + i * 5 + 1) (omega arith)) refl refl)
 
     ray_bytes_lem : (r : ℕ) → r < rays → ray_bytes vel mask gates (r * gates) ≡ seg f (ray_at gates r + 3) (5 * gates)
@@ -279,14 +280,14 @@ module _ (s : Stored) where
   some_gates i r (suc g) h = omega arith
 
   mask_back : length s.mask ≡ R * G → mask_in file R G ≡ s.mask
-  unfolding mask_in gate_bytes
+  unfolding mask_in gate_bytes mask_at
   mask_back l =
-      tab_same (mask_of file G) (λ i. get_or s.mask i 0) (R * G) (λ i h. ap (λ (k : ℕ). get_or file k 0) (omega arith) ∙ gate_byte i 0 h (some_gates i R G h) (omega arith))
+      tab_same (mask_at file G) (λ i. get_or s.mask i 0) (R * G) (λ i h. ap (λ (k : ℕ). get_or file k 0) (omega arith) ∙ gate_byte i 0 h (some_gates i R G h) (omega arith))
       ∙ sym (is_tab s.mask (λ i. get_or s.mask i 0) (R * G) l (λ i h. refl))
 
-  bits_at : (i : ℕ) → i < R * G → bits_of file G i ≡ get_or s.vel i 0
-  unfolding u32_at u16_at gate_bytes u32_bytes u16_bytes
-  bits_at i h =
+  bits_are : (i : ℕ) → i < R * G → bits_at file G i ≡ get_or s.vel i 0
+  unfolding u32_at u16_at gate_bytes u32_bytes u16_bytes bits_at
+  bits_are i h =
       let z = some_gates i R G h in
       let v = get_or s.vel i 0 in
       let p = gate_at G i in
@@ -305,8 +306,8 @@ module _ (s : Stored) where
       whole_again v = omega arith
 
   bits_back : length s.vel ≡ R * G → bits_in file R G ≡ s.vel
-  unfolding bits_in
-  bits_back l = tab_same (bits_of file G) (λ i. get_or s.vel i 0) (R * G) bits_at ∙ sym (is_tab s.vel (λ i. get_or s.vel i 0) (R * G) l (λ i h. refl))
+  unfolding bits_in bits_at
+  bits_back l = tab_same (bits_at file G) (λ i. get_or s.vel i 0) (R * G) bits_are ∙ sym (is_tab s.vel (λ i. get_or s.vel i 0) (R * G) l (λ i h. refl))
 
   -- the whole
   pub sweep_back : s.header.centred ≤ 1 → s.header.wrap ≤ 1 → length s.vel ≡ R * G → length s.mask ≡ R * G → sweep_in file ≡ s

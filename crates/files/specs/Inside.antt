@@ -1,2 +1,4 @@
 -- What internal contracts need.
+pub mod Asking
+pub mod Gates
 pub mod Header

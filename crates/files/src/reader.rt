@@ -1,234 +1,215 @@
 // The reader: from a file to a sweep, its velocities as bits.
-ghost use Rattle.std.specs.Prelude.{◌≡◌, map, ◌*◌, ◌<◌, ◌≤◌, length};
+// Velocities and mask go to two slices: a struct of two `&mut` would be built only to be taken apart.
+ghost use Rattle.std.specs.Prelude.{◌≡◌, map, ◌*◌, ◌<◌, ◌≤◌, length, IfOk};
+ghost use Rattle.std.specs.Result.{result_unwrap_or};
 ghost use Rattle.std.specs.Float.{binary32};
 ghost use Rattle.std.specs.Float.Ieee.{of_bits};
 ghost use Rattle.sweep.specs.Questions.{first_no, mask_is_bits, velocities_in_range};
 ghost use Rattle.sweep.specs.Entry.{answer_of};
-ghost use Rattle.files.specs.Format.{file_length, header_in, bits_in, mask_in};
+ghost use Rattle.sweep.specs.Refusal.{missed_by};
+ghost use Rattle.files.specs.Format.{u16_at, file_length, header_in, bits_in, mask_in};
+ghost use Rattle.files.specs.Inside.Gates.{mask_at, bits_at};
 ghost use Rattle.files.specs.Questions.{field_questions, header_questions, rays_questions, body_questions, content_questions};
 ghost use Rattle.files.specs.Calls.{no_header, read_by, read};
 
+use crate::format::Header;
 use crate::{bits, format};
+use sweep::questions;
+use sweep::refusal::Refusal;
 
-// The answer and the header; velocities and mask go to the slices lent.
-#[derive(Clone, Copy)]
-pub struct Reading {
-    pub number: u32,
-    pub header: format::Header,
-}
-
-// The first fault of a field that is to begin at a place, or 0.
-fn field_fault(file: &[u8], at: usize, tag: u8, len: usize) -> u32
+// The first fault of a field that is to begin at a place.
+#[tactic(auto, unfolding(crate::specs::Inside::Asking::asking))]
+fn field_fault(file: &[u8], at: usize, tag: u8, len: usize) -> Result<(), Refusal>
     requires { (at < 30000000000) × (len < 400000) }
-    ensures { result ≡ answer_of (first_no (field_questions file.now at tag len)) }
+    ensures { missed_by result ≡ first_no (field_questions file.now at tag len) }
 {
     let end = at + 3 + len;
     if file.len() <= at {
-        return 11;
+        return Err(Refusal::CutShort);
     }
     if file[at] != tag {
-        return 12;
+        return Err(Refusal::Malformed);
     }
     if file.len() < end {
-        return 11;
+        return Err(Refusal::CutShort);
     }
     if format::read_u16(file, at + 1) as usize != len {
-        return 11;
+        return Err(Refusal::CutShort);
     }
-    0
+    Ok(())
 }
 
-// The first fault of the header, question 1 with it, or 0.
-pub fn header_fault(file: &[u8]) -> u32
-    ensures { result ≡ answer_of (first_no (header_questions file.now)) }
+// The first fault of the header, question 1 with it.
+#[tactic(auto, unfolding(crate::specs::Inside::Asking::asking))]
+pub fn header_fault(file: &[u8]) -> Result<(), Refusal>
+    ensures { missed_by result ≡ first_no (header_questions file.now) }
 {
-    let fault = field_fault(file, 0, 1, 15);
-    if fault != 0 {
-        return fault;
-    }
+    field_fault(file, 0, 1, 15)?;
     if file[17] >= 4 {
-        return 12;
+        return Err(Refusal::Malformed);
     }
-    if !sweep::questions::size_in_range(format::read_u16(file, 3), format::read_u16(file, 5)) {
-        return 1;
+    let rays = format::read_u16(file, 3);
+    let gates = format::read_u16(file, 5);
+    if !questions::size_in_range(rays as u32, gates as u32) {
+        return Err(Refusal::Size);
     }
-    0
+    Ok(())
 }
 
-// The first fault of the rays' fields, or 0.
-fn rays_fault(file: &[u8], rays: usize, gates: usize) -> u32
-    requires { (rays < 65536) × (gates < 65536) }
-    ensures { result ≡ answer_of (first_no (rays_questions file.now gates rays 0)) }
+// The first fault of the rays' fields.
+#[tactic(auto, using(crate::proofs::CodeLaws::of_rays))]
+fn rays_fault(file: &[u8], rays: u16, gates: u16) -> Result<(), Refusal>
+    ensures { missed_by result ≡ first_no (rays_questions file.now gates rays 0) }
 {
-    let mut r = 0;
-    while r < rays {
-        let fault = field_fault(file, format::ray_at(gates, r), 2, 5 * gates);
-        if fault != 0 {
-            return fault;
-        }
-        r += 1;
+    for r in 0..rays {
+        let at = format::ray_at(gates as usize, r as usize);
+        field_fault(file, at, 2, 5 * gates as usize)?;
     }
-    0
+    Ok(())
 }
 
-// The first fault after a whole header, or 0.
-fn body_fault(file: &[u8]) -> u32
+// A file whose fields are whole: rays and gates are those of its header, and it ends after the last ray.
+#[derive(Clone, Copy)]
+struct Whole<'a> {
+    file: &'a [u8],
+    rays: u16,
+    gates: u16,
+    ghost rays_read: { rays ≡ u16_at file.now 3 },
+    ghost gates_read: { gates ≡ u16_at file.now 5 },
+    ghost long: { length file.now ≡ file_length rays gates },
+}
+
+// The file after a whole header, or its first fault.
+#[tactic(auto, using(crate::proofs::CodeLaws::of_body), unfolding(crate::specs::Format::file_length))]
+fn whole_file(file: &[u8]) -> Result<Whole, Refusal>
     requires { 18 ≤ length file.now }
-    ensures { result ≡ answer_of (first_no (body_questions file.now)) }
+    ensures missed { missed_by result ≡ first_no (body_questions file.now) }
+    ensures same { IfOk result (λ w. w.file.now ≡ file.now) }
 {
-    let rays = format::read_u16(file, 3) as usize;
-    let gates = format::read_u16(file, 5) as usize;
-    let fault = rays_fault(file, rays, gates);
-    if fault != 0 {
-        return fault;
+    let rays = format::read_u16(file, 3);
+    let gates = format::read_u16(file, 5);
+    rays_fault(file, rays, gates)?;
+    if file.len() != format::ray_at(gates as usize, rays as usize) {
+        return Err(Refusal::Malformed);
     }
-    if file.len() != format::ray_at(gates, rays) {
-        return 12;
-    }
-    0
+    Ok(Whole { file, rays, gates })
 }
 
-// Question 3, of the mask bytes in the file.
-fn mask_is_bits(file: &[u8], rays: usize, gates: usize) -> bool
-    requires { (rays < 65536) × (gates < 65536) × (length file.now ≡ file_length rays gates) }
-    ensures { result ≡ mask_is_bits (mask_in file.now rays gates) }
-{
-    let n = rays * gates;
-    let mut i = 0;
-    while i < n {
-        let at = format::gate_at(gates, i);
-        if file[at] > 1 {
-            return false;
-        }
-        i += 1;
+impl Whole<'_> {
+    // How many gates it has.
+    fn gates_in(self) -> usize
+        ensures { result ≡ self.entry.rays * self.entry.gates }
+    {
+        questions::gates_in(self.rays as u32, self.gates as u32)
     }
-    true
-}
 
-// Question 7, of the velocities' bits in the file. What stands at a masked gate does not matter.
-fn velocities_in_range(file: &[u8], rays: usize, gates: usize) -> bool
-    requires { (rays < 65536) × (gates < 65536) × (length file.now ≡ file_length rays gates) }
-    ensures { result ≡ velocities_in_range (map (of_bits binary32) (bits_in file.now rays gates)) (mask_in file.now rays gates) }
-{
-    let n = rays * gates;
-    let mut i = 0;
-    while i < n {
-        let at = format::gate_at(gates, i);
-        if file[at] == 1 {
-            if !bits::velocity_in_range(format::read_u32(file, at + 1)) {
-                return false;
-            }
-        }
-        i += 1;
+    // A gate's mask byte.
+    #[tactic(auto, using(crate::proofs::CodeLaws::gate_inside), unfolding(crate::specs::Inside::Gates::mask_at))]
+    fn mask(self, i: usize) -> u8
+        requires { i < self.rays * self.gates }
+        ensures { result ≡ mask_at self.entry.file.now self.entry.gates i }
+    {
+        self.file[format::gate_at(self.gates as usize, i)]
     }
-    true
+
+    // The bits of a gate's velocity.
+    #[tactic(auto, using(crate::proofs::CodeLaws::gate_inside), unfolding(crate::specs::Inside::Gates::bits_at))]
+    fn bits(self, i: usize) -> u32
+        requires { i < self.rays * self.gates }
+        ensures { result ≡ bits_at self.entry.file.now self.entry.gates i }
+    {
+        format::read_u32(self.file, format::gate_at(self.gates as usize, i) + 1)
+    }
+
+    // Question 3.
+    fn mask_is_bits(self) -> bool
+        ensures { result ≡ mask_is_bits (mask_in self.entry.file.now self.entry.rays self.entry.gates) }
+    {
+        (0..self.gates_in()).all(|i| self.mask(i) <= 1)
+    }
+
+    // Question 7. What stands at a masked gate does not matter.
+    fn velocities_in_range(self) -> bool
+        ensures { result ≡ velocities_in_range (map (of_bits binary32) (bits_in self.entry.file.now self.entry.rays self.entry.gates)) (mask_in self.entry.file.now self.entry.rays self.entry.gates) }
+    {
+        (0..self.gates_in()).all(|i| self.mask(i) != 1 || bits::velocity_in_range(self.bits(i)))
+    }
+
+    // Questions 2, 3, 5, 6 and 7, h being the file's header. `velocity` and `valid` are lengths.
+    #[tactic(auto, unfolding(crate::specs::Inside::Asking::asking))]
+    fn content_missed(self, h: Header, velocity: usize, valid: usize) -> Result<(), Refusal>
+        requires { h ≡ header_in self.file.now }
+        ensures { missed_by result ≡ first_no (content_questions self.entry.file.now velocity valid) }
+    {
+        let n = self.gates_in();
+        if !questions::two_long(velocity, n, valid, n) {
+            return Err(Refusal::Lengths);
+        }
+        if !self.mask_is_bits() {
+            return Err(Refusal::Mask);
+        }
+        if !bits::nyquist_in_range(h.nyquist) {
+            return Err(Refusal::Nyquist);
+        }
+        if !questions::options_in_range(
+            h.splits,
+            h.skip_between_rays,
+            h.skip_along_ray,
+            h.centred,
+            h.wrap,
+        ) {
+            return Err(Refusal::Options);
+        }
+        if !self.velocities_in_range() {
+            return Err(Refusal::Velocities);
+        }
+        Ok(())
+    }
+
+    // Velocities' bits and mask bytes.
+    #[tactic(auto, using(sweep::proofs::FillLaws::fill_begin, sweep::proofs::FillLaws::fill_on))]
+    fn read_gates(self, velocity: &mut [u32], valid: &mut [u8])
+        requires velocity_long { length velocity.old ≡ self.rays * self.gates }
+        requires valid_long { length valid.old ≡ self.rays * self.gates }
+        ensures velocity { velocity.new ≡ bits_in self.entry.file.now self.entry.rays self.entry.gates }
+        ensures valid { valid.new ≡ mask_in self.entry.file.now self.entry.rays self.entry.gates }
+    {
+        for i in 0..velocity.len() {
+            velocity[i] = self.bits(i);
+            valid[i] = self.mask(i);
+        }
+    }
 }
 
 // The header's numbers.
-fn read_header(file: &[u8]) -> format::Header
+#[tactic(auto, unfolding(crate::specs::Format::header_in))]
+fn read_header(file: &[u8]) -> Header
     requires { 18 ≤ length file.now }
-    ensures { (result ≡ header_in file.now) × (result.rays < 65536) × (result.gates < 65536) }
+    ensures { result ≡ header_in file.now }
 {
-    let options = format::wide(file[17]);
-    format::Header {
-        rays: format::read_u16(file, 3),
-        gates: format::read_u16(file, 5),
+    let options = file[17] as u32;
+    Header {
+        rays: format::read_u16(file, 3) as u32,
+        gates: format::read_u16(file, 5) as u32,
         nyquist: format::read_u32(file, 7),
-        splits: format::read_u16(file, 11),
-        skip_between_rays: format::read_u16(file, 13),
-        skip_along_ray: format::read_u16(file, 15),
+        splits: format::read_u16(file, 11) as u32,
+        skip_between_rays: format::read_u16(file, 13) as u32,
+        skip_along_ray: format::read_u16(file, 15) as u32,
         centred: options % 2,
         wrap: options / 2 % 2,
     }
 }
 
-// Questions 2, 3, 5, 6 and 7 of a file whose fields are whole, h being its header: the number of the first that gets a no, or 0.
-// `velocity` and `valid` are lengths.
-fn content_missed(file: &[u8], h: format::Header, velocity: usize, valid: usize) -> u32
-    requires { (h ≡ header_in file.now) × (h.rays < 65536) × (h.gates < 65536) × (length file.now ≡ file_length h.rays h.gates) }
-    ensures { result ≡ answer_of (first_no (content_questions file.now velocity valid)) }
-{
-    let n = sweep::questions::gates_in(h.rays, h.gates);
-    if !sweep::questions::two_long(velocity, n, valid, n) {
-        return 2;
-    }
-    if !mask_is_bits(file, h.rays as usize, h.gates as usize) {
-        return 3;
-    }
-    if !bits::nyquist_in_range(h.nyquist) {
-        return 5;
-    }
-    if !sweep::questions::options_in_range(
-        h.splits,
-        h.skip_between_rays,
-        h.skip_along_ray,
-        h.centred,
-        h.wrap,
-    ) {
-        return 6;
-    }
-    if !velocities_in_range(file, h.rays as usize, h.gates as usize) {
-        return 7;
-    }
-    0
-}
-
-// Velocities' bits and mask bytes of a file.
-fn read_gates(file: &[u8], rays: usize, gates: usize, velocity: &mut [u32], valid: &mut [u8])
-    requires rays_bound { (rays < 65536) × (gates < 65536) × (length file.now ≡ file_length rays gates) }
-    requires velocity_len { (length velocity.old ≡ rays * gates) × (length valid.old ≡ rays * gates) }
-    ensures velocity_after { velocity.new ≡ bits_in file.now rays gates }
-    ensures valid_after { valid.new ≡ mask_in file.now rays gates }
-{
-    let mut i = 0;
-    while i < velocity.len() {
-        let at = format::gate_at(gates, i);
-        velocity[i] = format::read_u32(file, at + 1);
-        valid[i] = file[at];
-        i += 1;
-    }
-}
-
-// A refusal: all eight numbers are 0.
-fn refused(number: u32) -> Reading
-    ensures { (result.number ≡ number) × (result.header ≡ no_header) }
-{
-    Reading {
-        number: number,
-        header: format::Header {
-            rays: 0,
-            gates: 0,
-            nyquist: 0,
-            splits: 0,
-            skip_between_rays: 0,
-            skip_along_ray: 0,
-            centred: 0,
-            wrap: 0,
-        },
-    }
-}
-
 // The reader's call.
-pub fn read(file: &[u8], velocity: &mut [u32], valid: &mut [u8]) -> Reading
-    ensures { read_by result.number result.header velocity.new valid.new
+#[tactic(auto, using(crate::proofs::CallLaws::of_read))]
+pub fn read(file: &[u8], velocity: &mut [u32], valid: &mut [u8]) -> Result<Header, Refusal>
+    ensures { read_by (answer_of (missed_by result)) (result_unwrap_or result no_header) velocity.new valid.new
         ≡ read file.now velocity.old valid.old }
 {
-    let fault = header_fault(file);
-    if fault != 0 {
-        return refused(fault);
-    }
-    let later = body_fault(file);
-    if later != 0 {
-        return refused(later);
-    }
+    header_fault(file)?;
+    let whole = whole_file(file)?;
     let h = read_header(file);
-    let missed = content_missed(file, h, velocity.len(), valid.len());
-    if missed != 0 {
-        return refused(missed);
-    }
-    read_gates(file, h.rays as usize, h.gates as usize, velocity, valid);
-    Reading {
-        number: 0,
-        header: h,
-    }
+    whole.content_missed(h, velocity.len(), valid.len())?;
+    whole.read_gates(velocity, valid);
+    Ok(h)
 }

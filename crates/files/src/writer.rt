@@ -1,16 +1,28 @@
 // The writer: from a sweep, its velocities as bits, to a file.
-ghost use Rattle.std.specs.Prelude.{◌≡◌, ◌&&◌, [], ◌∷◌, ◌++◌, map, eqb, ◌+◌, ◌*◌, ◌<◌, ◌≤◌, length};
+ghost use Rattle.std.specs.Prelude.{◌≡◌, [], ◌∷◌, ◌++◌, map, ◌+◌, ◌*◌, ◌<◌, ◌≤◌, length};
 ghost use Rattle.std.specs.Float.{binary32};
 ghost use Rattle.std.specs.Float.Ieee.{of_bits};
 ghost use Rattle.lists.specs.Inside.Seg.{put};
 ghost use Rattle.sweep.specs.Questions.{first_no, velocities_in_range};
 ghost use Rattle.sweep.specs.Entry.{answer_of};
+ghost use Rattle.sweep.specs.Refusal.{missed_by};
 ghost use Rattle.files.specs.Format.{stored, u32_bytes, file_length, option_bytes, field, ray_bytes, rays_bytes};
 ghost use Rattle.files.specs.Inside.Header.{size_bytes};
-ghost use Rattle.files.specs.Questions.{write_questions};
+ghost use Rattle.files.specs.Questions.{slices_fit, write_questions};
 ghost use Rattle.files.specs.Calls.{written_by, write};
 
+use crate::format::Header;
 use crate::{bits, format};
+use sweep::questions;
+use sweep::refusal::Refusal;
+
+// A sweep as a file holds it: the header's numbers, and for each gate its velocity's bits and its mask byte.
+#[derive(Clone, Copy)]
+pub struct Stored<'a> {
+    pub header: Header,
+    pub velocity: &'a [u32],
+    pub valid: &'a [u8],
+}
 
 // Stores a gate.
 fn put_gate(file: &mut [u8], at: usize, mask: u8, bits: u32)
@@ -22,70 +34,73 @@ fn put_gate(file: &mut [u8], at: usize, mask: u8, bits: u32)
 }
 
 // Stores the gates of a ray, the first being gate `first` of the sweep.
-fn put_gates(file: &mut [u8], at: usize, gates: usize, first: usize, velocity: &[u32], valid: &[u8])
-    requires { (at + 5 * gates ≤ length file.old) × (first + gates ≤ length velocity.now) × (first + gates ≤ length valid.now) }
-    ensures { file.new ≡ put file.old at (ray_bytes velocity.now valid.now gates first) }
+#[tactic(auto, using(crate::proofs::CodeLaws::gates_begin, crate::proofs::CodeLaws::gates_more))]
+fn put_gates(file: &mut [u8], at: usize, s: Stored, first: usize)
+    requires room { at + 5 * s.header.gates ≤ length file.old }
+    requires velocity_holds { first + s.header.gates ≤ length s.velocity.now }
+    requires valid_holds { first + s.header.gates ≤ length s.valid.now }
+    ensures { file.new ≡ put file.old at (ray_bytes s.entry.velocity.now s.entry.valid.now s.entry.header.gates first) }
 {
-    let mut g = 0;
-    while g < gates {
+    for g in 0..s.header.gates as usize {
         let i = first + g;
-        put_gate(file, at + 5 * g, valid[i], velocity[i]);
-        g += 1;
+        put_gate(file, at + 5 * g, s.valid[i], s.velocity[i]);
     }
 }
 
 // Stores the field of a ray.
-fn put_ray(file: &mut [u8], at: usize, gates: usize, first: usize, velocity: &[u32], valid: &[u8])
-    requires gates_in_bounds { (at + 3 + 5 * gates ≤ length file.old) × (gates < 13108) }
-    requires gates_in_bounds_2 { (first + gates ≤ length velocity.now) × (first + gates ≤ length valid.now) }
-    ensures { file.new ≡ put file.old at (field 2 (ray_bytes velocity.now valid.now gates first)) }
+#[tactic(auto, using(crate::proofs::CodeLaws::ray_stored))]
+fn put_ray(file: &mut [u8], at: usize, s: Stored, first: usize)
+    requires few { s.header.gates < 13108 }
+    requires room { at + 3 + 5 * s.header.gates ≤ length file.old }
+    requires velocity_holds { first + s.header.gates ≤ length s.velocity.now }
+    requires valid_holds { first + s.header.gates ≤ length s.valid.now }
+    ensures { file.new ≡ put file.old at (field 2 (ray_bytes s.entry.velocity.now s.entry.valid.now s.entry.header.gates first)) }
 {
     file[at] = 2;
-    format::put_u16(file, at + 1, (5 * gates) as u32);
-    put_gates(file, at + 3, gates, first, velocity, valid);
+    format::put_u16(file, at + 1, (5 * s.header.gates) as u16);
+    put_gates(file, at + 3, s, first);
 }
 
 // Stores the fields of all rays.
-fn put_rays(file: &mut [u8], rays: usize, gates: usize, velocity: &[u32], valid: &[u8])
-    requires file_len { (length file.old ≡ file_length rays gates) × (rays < 65536) × (gates < 13108) }
-    requires velocity_len { (length velocity.now ≡ rays * gates) × (length valid.now ≡ rays * gates) }
-    ensures { file.new ≡ put file.old 18 (rays_bytes velocity.now valid.now rays gates) }
+#[tactic(auto, using(crate::proofs::CodeLaws::rays_begin, crate::proofs::CodeLaws::rays_more, crate::proofs::CallLaws::ray_inside))]
+fn put_rays(file: &mut [u8], s: Stored)
+    requires file_long { length file.old ≡ file_length s.header.rays s.header.gates }
+    requires few { (s.header.rays < 65536) × (s.header.gates < 13108) }
+    requires velocity_long { length s.velocity.now ≡ s.header.rays * s.header.gates }
+    requires valid_long { length s.valid.now ≡ s.header.rays * s.header.gates }
+    ensures { file.new ≡ put file.old 18 (rays_bytes s.entry.velocity.now s.entry.valid.now s.entry.header.rays s.entry.header.gates) }
 {
-    let mut r = 0;
-    while r < rays {
-        put_ray(
-            file,
-            format::ray_at(gates, r),
-            gates,
-            r * gates,
-            velocity,
-            valid,
-        );
-        r += 1;
+    let gates = s.header.gates as usize;
+    for r in 0..s.header.rays as usize {
+        put_ray(file, format::ray_at(gates, r), s, r * gates);
     }
 }
 
 // Stores the header's field up to Nyquist.
-fn put_size(file: &mut [u8], h: format::Header)
-    requires { (18 ≤ length file.old) × (h.rays < 65536) × (h.gates < 65536) }
+#[tactic(auto, using(crate::proofs::CodeLaws::size_stored))]
+fn put_size(file: &mut [u8], h: Header)
+    requires room { 18 ≤ length file.old }
+    requires two_bytes { (h.rays < 65536) × (h.gates < 65536) }
     ensures { file.new ≡ put file.old 0 (size_bytes h) }
 {
     file[0] = 1;
     format::put_u16(file, 1, 15);
-    format::put_u16(file, 3, h.rays);
-    format::put_u16(file, 5, h.gates);
+    format::put_u16(file, 3, h.rays as u16);
+    format::put_u16(file, 5, h.gates as u16);
     format::put_u32(file, 7, h.nyquist);
 }
 
 // Stores the rest of it.
-fn put_options(file: &mut [u8], h: format::Header)
-    requires in_bounds { (18 ≤ length file.old) × (h.splits < 65536) × (h.skip_between_rays < 65536) × (h.skip_along_ray < 65536) }
-    requires centred_bound { (h.centred ≤ 1) × (h.wrap ≤ 1) }
+#[tactic(auto, using(crate::proofs::CodeLaws::options_stored))]
+fn put_options(file: &mut [u8], h: Header)
+    requires room { 18 ≤ length file.old }
+    requires two_bytes { (h.splits < 65536) × (h.skip_between_rays < 65536) × (h.skip_along_ray < 65536) }
+    requires bits { (h.centred ≤ 1) × (h.wrap ≤ 1) }
     ensures { file.new ≡ put file.old 11 (option_bytes h) }
 {
-    format::put_u16(file, 11, h.splits);
-    format::put_u16(file, 13, h.skip_between_rays);
-    format::put_u16(file, 15, h.skip_along_ray);
+    format::put_u16(file, 11, h.splits as u16);
+    format::put_u16(file, 13, h.skip_between_rays as u16);
+    format::put_u16(file, 15, h.skip_along_ray as u16);
     file[17] = (h.centred + 2 * h.wrap) as u8;
 }
 
@@ -94,69 +109,64 @@ fn velocities_in_range(velocity: &[u32], valid: &[u8]) -> bool
     requires { length valid.now ≡ length velocity.now }
     ensures { result ≡ velocities_in_range (map (of_bits binary32) velocity.now) valid.now }
 {
-    let mut i = 0;
-    while i < velocity.len() {
-        if valid[i] == 1 {
-            if !bits::velocity_in_range(velocity[i]) {
-                return false;
-            }
-        }
-        i += 1;
-    }
-    true
+    velocity
+        .iter()
+        .zip(valid)
+        .all(|(&v, &m)| m != 1 || bits::velocity_in_range(v))
 }
 
 // Question 2, of the lengths of velocities, mask and buffer.
-fn slices_fit(h: format::Header, velocity: usize, valid: usize, buffer: usize) -> bool
-    requires { (h.rays < 65536) × (h.gates < 65536) }
-    ensures { result ≡ (eqb velocity (h.rays * h.gates) && eqb valid (h.rays * h.gates) && eqb buffer (file_length h.rays h.gates)) }
+#[tactic(auto, unfolding(crate::specs::Questions::slices_fit, crate::specs::Format::file_length))]
+fn slices_fit(s: Stored, buffer: usize) -> bool
+    requires { (s.header.rays < 65536) × (s.header.gates < 65536) }
+    ensures { result ≡ slices_fit (stored s.entry.header s.entry.velocity.now s.entry.valid.now) buffer }
 {
-    let n = sweep::questions::gates_in(h.rays, h.gates);
-    let end = format::ray_at(h.gates as usize, h.rays as usize);
-    sweep::questions::two_long(velocity, n, valid, n) && buffer == end
+    let n = questions::gates_in(s.header.rays, s.header.gates);
+    let end = format::ray_at(s.header.gates as usize, s.header.rays as usize);
+    questions::two_long(s.velocity.len(), n, s.valid.len(), n) && buffer == end
 }
 
-// The questions of the writer: the number of the first that gets a no, or 0.
-fn missed(h: format::Header, velocity: &[u32], valid: &[u8], buffer: usize) -> u32
-    ensures { result ≡ answer_of (first_no (write_questions (stored h velocity.now valid.now) buffer)) }
+// The questions of the writer: the first that gets a no refuses.
+#[tactic(auto, using(sweep::proofs::PassedLaws::size_rays, sweep::proofs::PassedLaws::size_gates), unfolding(crate::specs::Inside::Asking::asking))]
+fn missed(s: Stored, buffer: usize) -> Result<(), Refusal>
+    ensures { missed_by result ≡ first_no (write_questions (stored s.entry.header s.entry.velocity.now s.entry.valid.now) buffer) }
 {
-    if !sweep::questions::size_in_range(h.rays, h.gates) {
-        return 1;
+    let h = s.header;
+    if !questions::size_in_range(h.rays, h.gates) {
+        return Err(Refusal::Size);
     }
-    if !slices_fit(h, velocity.len(), valid.len(), buffer) {
-        return 2;
+    if !slices_fit(s, buffer) {
+        return Err(Refusal::Lengths);
     }
-    if !sweep::questions::mask_is_bits(valid) {
-        return 3;
+    if !questions::mask_is_bits(s.valid) {
+        return Err(Refusal::Mask);
     }
     if !bits::nyquist_in_range(h.nyquist) {
-        return 5;
+        return Err(Refusal::Nyquist);
     }
-    if !sweep::questions::options_in_range(
+    if !questions::options_in_range(
         h.splits,
         h.skip_between_rays,
         h.skip_along_ray,
         h.centred,
         h.wrap,
     ) {
-        return 6;
+        return Err(Refusal::Options);
     }
-    if !velocities_in_range(velocity, valid) {
-        return 7;
+    if !velocities_in_range(s.velocity, s.valid) {
+        return Err(Refusal::Velocities);
     }
-    0
+    Ok(())
 }
 
 // The writer's call.
-pub fn write(h: format::Header, velocity: &[u32], valid: &[u8], file: &mut [u8]) -> u32
-    ensures { written_by result file.new ≡ write (stored h velocity.now valid.now) file.old }
+#[tactic(auto, using(crate::proofs::CallLaws::of_write))]
+pub fn write(s: Stored, file: &mut [u8]) -> Result<(), Refusal>
+    ensures { written_by (answer_of (missed_by result)) file.new ≡ write (stored s.entry.header s.entry.velocity.now s.entry.valid.now) file.old }
 {
-    let no = missed(h, velocity, valid, file.len());
-    if no != 0 {
-        return no;
-    }
-    put_size(file, h);
-    put_options(file, h);
-    put_rays(file, h.rays as usize, h.gates as usize, velocity, valid);
-    0
+    missed(s, file.len())?;
+    put_size(file, s.header);
+    put_options(file, s.header);
+    put_rays(file, s);
+    Ok(())
 }

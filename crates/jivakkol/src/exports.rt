@@ -1,5 +1,6 @@
-// The entries that a host calls, under the names and in the order of include/jivakkol.h. Each hands its parameters on whole. The static library
-// (crate jivakkol_c) exports them.
+// The entries that a host calls, under the names and in the order of include/jivakkol.h. Each hands its parameters on whole, and
+// answers by number: what C calls has no Result. The static library (crate jivakkol_c) exports them. Numbers, single slices and a function for each name stay:
+// the C interface.
 ghost use Rattle.std.specs.Prelude.{◌≡◌};
 ghost use Rattle.sweep.specs.Call.{call, memory_of, answer_by};
 ghost use Rattle.sweep.specs.Entry.{sweep_of};
@@ -11,6 +12,11 @@ ghost use Rattle.window.specs.Window.{window_of, window_answer_by, call_window};
 ghost use Rattle.files.specs.Format.{options_of};
 ghost use Rattle.test_sweep.specs.Call.{slices_of, call_test, test_answer_by};
 ghost use Rattle.files.specs.Calls.{call_read, read_answer_by, call_write, written_by, call_size, size_answer_by};
+
+use channels::input::Channels;
+use network::options::Options;
+use sweep::input::{Counted, Sweep};
+use sweep::refusal::answer;
 
 // A sweep's fold counts and the marks of its doubtful merges, with the numbers of regions and of merges.
 pub fn jivakkol_dealias_sweep(
@@ -34,17 +40,22 @@ pub fn jivakkol_dealias_sweep(
         let m = memory_of folds.old doubtful.old pair.old work.old work_f64.old in
         answer_by result folds.new doubtful.new pair.new work.new work_f64.new ≡ call s m }
 {
-    let o = network::options::Options {
-        rays: rays,
-        gates: gates,
-        nyquist: nyquist,
-        splits: interval_splits,
-        skip_between_rays: skip_between_rays,
-        skip_along_ray: skip_along_ray,
-        centred: centered,
-        wrap: rays_wrap_around,
+    let options = Options::new(
+        rays,
+        gates,
+        nyquist,
+        interval_splits,
+        skip_between_rays,
+        skip_along_ray,
+        centered,
+        rays_wrap_around,
+    );
+    let s = Sweep {
+        options,
+        velocity,
+        valid,
     };
-    sweep::entry::dealias_sweep(o, velocity, valid, folds, doubtful, pair, work, work_f64)
+    answer(sweep::entry::dealias_sweep(s, folds, doubtful, pair, work, work_f64))
 }
 
 // The same with a book of its merges, one entry a merge.
@@ -70,19 +81,22 @@ pub fn jivakkol_dealias_sweep_book(
         let m = memory_of folds.old doubtful.old pair.old work.old work_f64.old in
         book_answer_by (answer_by result folds.new doubtful.new pair.new work.new work_f64.new) book.new ≡ call_book s m book.old }
 {
-    let o = network::options::Options {
-        rays: rays,
-        gates: gates,
-        nyquist: nyquist,
-        splits: interval_splits,
-        skip_between_rays: skip_between_rays,
-        skip_along_ray: skip_along_ray,
-        centred: centered,
-        wrap: rays_wrap_around,
+    let options = Options::new(
+        rays,
+        gates,
+        nyquist,
+        interval_splits,
+        skip_between_rays,
+        skip_along_ray,
+        centered,
+        rays_wrap_around,
+    );
+    let s = Sweep {
+        options,
+        velocity,
+        valid,
     };
-    sweep_book::entry::dealias_sweep_book(
-        o, velocity, valid, folds, doubtful, pair, book, work, work_f64,
-    )
+    answer(sweep_book::entry::dealias_sweep_book(s, folds, doubtful, pair, book, work, work_f64))
 }
 
 // The fold counts of two polarisations of one antenna by limits that both share, with the marks, regions and merges of each.
@@ -115,20 +129,26 @@ pub fn jivakkol_dealias_two(
         two_answer_by result (channel_of h_folds.new h_doubtful.new h_pair.new)
         (channel_of v_folds.new v_doubtful.new v_pair.new) work.new work_f64.new ≡ call_two h v m }
 {
-    let o = network::options::Options {
-        rays: rays,
-        gates: gates,
-        nyquist: nyquist,
-        splits: interval_splits,
-        skip_between_rays: skip_between_rays,
-        skip_along_ray: skip_along_ray,
-        centred: centered,
-        wrap: rays_wrap_around,
+    let options = Options::new(
+        rays,
+        gates,
+        nyquist,
+        interval_splits,
+        skip_between_rays,
+        skip_along_ray,
+        centered,
+        rays_wrap_around,
+    );
+    let c = Channels {
+        options,
+        h_velocity,
+        h_valid,
+        v_velocity,
+        v_valid,
     };
-    channels::entry::dealias_two(
-        o, h_velocity, h_valid, v_velocity, v_valid, h_folds, h_doubtful, h_pair, v_folds,
-        v_doubtful, v_pair, work, work_f64,
-    )
+    answer(channels::entry::dealias_two(
+        c, h_folds, h_doubtful, h_pair, v_folds, v_doubtful, v_pair, work, work_f64,
+    ))
 }
 
 // A sweep's region map: the label of each gate, with the number of regions.
@@ -152,17 +172,22 @@ pub fn jivakkol_region_map(
         let m = map_memory_of labels.old regions.old work.old work_f64.old in
         map_answer_by result labels.new regions.new work.new work_f64.new ≡ call_map s m }
 {
-    let o = network::options::Options {
-        rays: rays,
-        gates: gates,
-        nyquist: nyquist,
-        splits: interval_splits,
-        skip_between_rays: skip_between_rays,
-        skip_along_ray: skip_along_ray,
-        centred: centered,
-        wrap: rays_wrap_around,
+    let options = Options::new(
+        rays,
+        gates,
+        nyquist,
+        interval_splits,
+        skip_between_rays,
+        skip_along_ray,
+        centered,
+        rays_wrap_around,
+    );
+    let s = Sweep {
+        options,
+        velocity,
+        valid,
     };
-    map::map::region_map(o, velocity, valid, labels, regions, work, work_f64)
+    answer(map::map::region_map(s, labels, regions, work, work_f64))
 }
 
 // Unfolded velocities from fold counts and labels.
@@ -179,9 +204,16 @@ pub fn jivakkol_unfold_velocity(
     ensures { let u = counted rays gates nyquist velocity.now valid.now folds.now labels.now in
         velocity_answer_by result unfolded.new ≡ call_velocity u unfolded.old }
 {
-    sweep::velocity::unfold_velocity(
-        rays, gates, nyquist, velocity, valid, folds, labels, unfolded,
-    )
+    let u = Counted {
+        rays,
+        gates,
+        nyquist,
+        velocity,
+        valid,
+        folds,
+        labels,
+    };
+    answer(sweep::velocity::unfold_velocity(u, unfolded))
 }
 
 // A sweep's winds taken into the window of the last eight, and the picture of their medians drawn anew.
@@ -203,9 +235,16 @@ pub fn jivakkol_window_add(
         let w = window_of window.old winds.old shown.old picture.old marks.old in
         window_answer_by result window.new winds.new shown.new picture.new marks.new ≡ call_window u w }
 {
-    window::entry::window_add(
-        rays, gates, nyquist, velocity, valid, folds, labels, window, winds, shown, picture, marks,
-    )
+    let u = Counted {
+        rays,
+        gates,
+        nyquist,
+        velocity,
+        valid,
+        folds,
+        labels,
+    };
+    answer(window::entry::window_add(u, window, winds, shown, picture, marks))
 }
 
 // Reads a sweep file: the velocities' bits and the mask of its gates, and the header's eight numbers.
@@ -218,7 +257,7 @@ pub fn jivakkol_read_sweep(
     ensures { read_answer_by result velocity_bits.new valid.new header.new
         ≡ call_read file.now velocity_bits.old valid.old header.old }
 {
-    files::entry::read_sweep(file, velocity_bits, valid, header)
+    answer(files::entry::read_sweep(file, velocity_bits, valid, header))
 }
 
 // Writes a sweep file.
@@ -238,24 +277,24 @@ pub fn jivakkol_write_sweep(
     ensures { let o = options_of rays gates nyquist interval_splits skip_between_rays skip_along_ray centered rays_wrap_around in
         written_by result file.new ≡ call_write o velocity_bits.now valid.now file.old }
 {
-    let o = network::options::Options {
-        rays: rays,
-        gates: gates,
-        nyquist: nyquist,
-        splits: interval_splits,
-        skip_between_rays: skip_between_rays,
-        skip_along_ray: skip_along_ray,
-        centred: centered,
-        wrap: rays_wrap_around,
-    };
-    files::entry::write_sweep(o, velocity_bits, valid, file)
+    let options = Options::new(
+        rays,
+        gates,
+        nyquist,
+        interval_splits,
+        skip_between_rays,
+        skip_along_ray,
+        centered,
+        rays_wrap_around,
+    );
+    answer(files::entry::write_sweep(options, velocity_bits, valid, file))
 }
 
 // The rays and gates that a sweep file's header announces.
 pub fn jivakkol_sweep_size(file: &[u8], size: &mut [u32]) -> u32
     ensures { size_answer_by result size.new ≡ call_size file.now size.old }
 {
-    files::entry::sweep_size(file, size)
+    answer(files::entry::sweep_size(file, size))
 }
 
 // A test sweep from a seed number; the one word of state is replaced.
@@ -269,5 +308,5 @@ pub fn jivakkol_test_sweep(
     ensures { test_answer_by result state.new (slices_of velocity.new valid.new)
         ≡ call_test rays gates state.old (slices_of velocity.old valid.old) }
 {
-    test_sweep::entry::test_sweep(rays, gates, state, velocity, valid)
+    answer(test_sweep::entry::test_sweep(rays, gates, state, velocity, valid))
 }

@@ -1,5 +1,5 @@
 // The static library that a host links: the entries under the names and in the order of include/jivakkol.h. Each is the library's entry of its name
-// (crate jivakkol), with its clauses.
+// (crate jivakkol), with its clauses: a twin of each stays, because only a crate of the kind `staticlib` exports to C, and no crate here can call that kind.
 #![tactic(auto)]
 
 ghost use Rattle.std.specs.Prelude.{◌≡◌};

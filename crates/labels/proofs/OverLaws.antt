@@ -40,12 +40,6 @@ pub record Putting (u v : List ℕ) (n from g : ℕ) : Type 0 where
   pub done : (i : ℕ) → i < g → get_or v i 0 ≡ over from (get_or u i 0) (get_or u (n + i) 0)
   pub rest : (i : ℕ) → g ≤ i → get_or v i 0 ≡ get_or u i 0
 
-pub put_begin : (u : List ℕ) (n from : ℕ) → Putting u u n from 0
-put_begin u n from = record { long = refl; done = λ i q. absurd (no i q); rest = λ i q. refl }
-  where
-    no : (i : ℕ) → i < 0 → ⊥
-    no i q = omega arith
-
 pub put_step : (u v : List ℕ) (n from g : ℕ) → Putting u v n from g → g < length u → (x : ℕ) → x ≡ over from (get_or v g 0) (get_or v (n + g) 0) → Putting u (set v g x) n from (g + 1)
 put_step u v n from g P h x e =
     record {

@@ -7,7 +7,7 @@ use Rattle.lists.proofs.SegLaws.{lt_or_le}
 use Rattle.labels.specs.Label.{own}
 use Rattle.labels.specs.Regions.{within, Interval}
 use Rattle.labels.proofs.ForestLaws.{in_length}
-use Rattle.labels.proofs.FloatOrder.{and_both}
+use Rattle.std.proofs.lemmas.Bool.{and_parts}
 
 -- ---- own
 pub length_own : (inside : List Bool) → length (own inside) ≡ length inside
@@ -53,12 +53,12 @@ within_is i x m e f = rw (eq-eqb m 1 e, f) refl
 -- and back: where a velocity lies, and that it is valid
 pub within_valid : (i : Interval) (x : Float) (m : ℕ) → within i x m ≡ true → m ≡ 1
 unfolding within
-within_valid i x m h = eqb-true m 1 (and_both (eqb m 1) (le i.lower x && lt x i.upper) h).0
+within_valid i x m h = eqb-true m 1 (and_parts (eqb m 1) (le i.lower x && lt x i.upper) h).0
 
 pub within_from : (i : Interval) (x : Float) (m : ℕ) → within i x m ≡ true → le i.lower x ≡ true
 unfolding within
-within_from i x m h = (and_both (le i.lower x) (lt x i.upper) (and_both (eqb m 1) (le i.lower x && lt x i.upper) h).1).0
+within_from i x m h = (and_parts (le i.lower x) (lt x i.upper) (and_parts (eqb m 1) (le i.lower x && lt x i.upper) h).1).0
 
 pub within_to : (i : Interval) (x : Float) (m : ℕ) → within i x m ≡ true → lt x i.upper ≡ true
 unfolding within
-within_to i x m h = (and_both (le i.lower x) (lt x i.upper) (and_both (eqb m 1) (le i.lower x && lt x i.upper) h).1).1
+within_to i x m h = (and_parts (le i.lower x) (lt x i.upper) (and_parts (eqb m 1) (le i.lower x && lt x i.upper) h).1).1

@@ -1,38 +1,29 @@
 -- One block of intervals in the slice: labels in the first n words, the block's own work after them. Assumes nothing.
-use Rattle.std.proofs.Common.{◌≡◌, ℕ, suc, ◌+◌, ◌-◌, ◌^◌, ◌<◌, ◌≤◌, min, List, ◌++◌, length, get_or, take, drop, replicate, sym, ap, ◌∙◌, arith, length-drop, length-take, take_all, take-take, ext_get_or}
+use Rattle.std.proofs.Common.{◌≡◌, ℕ, suc, ◌+◌, ◌-◌, ◌^◌, ◌<◌, ◌≤◌, min, List, ◌++◌, length, get_or, take, drop, replicate, sym, ap, ◌∙◌, arith, length-drop, length-take, take_all, ext_get_or}
+use Rattle.std.proofs.lemmas.List.{take-append-le}
 use lib.Ieee.{Float}
 use lib.ListN.{length-replicate}
 use borrow.Rule.Slice.PartMut.{mid_of, put_mid, mid_len}
-use Rattle.arithmetic.specs.Inside.Asked.{Rising}
 use Rattle.lists.specs.Inside.Seg.{seg, put}
 use Rattle.lists.proofs.SegLaws.{length-seg, get_or-seg, lent_seg, lent_else, put_mid_lem, length-put, seg-put_below, seg-put_same, seg_all, seg_add}
 use Rattle.labels.specs.Label.{Found}
 use Rattle.labels.specs.Regions.{over, added, nothing, regions}
-use Rattle.labels.specs.Inside.Sheet.{Same, Fitting, Block, Ample}
+use Rattle.labels.specs.Inside.Sheet.{IsSound}
 use Rattle.labels.proofs.OverLaws.{added_at, added_long, added_number}
 use Rattle.labels.proofs.RegionFacts.{regions_are}
 use Rattle.labels.proofs.BlockLaws.{begin, next, rising_part}
 
 -- ---- one block: u at first, ys the part that was lent, x with the labels put over
-module _ (gates : ℕ) (vel : List Float) (mask : List ℕ) (limits : List Float) (u : List ℕ) (n : ℕ) (S : Same n vel mask) (A : Block gates limits u n) where
-  pub part_asks : Fitting gates limits (mid_of n (n + n + n + (length limits - 1) - n) u) n
-  part_asks =
-      record {
-        some_gates = A.some_gates;
-        rising = A.rising;
-        few_limits = A.few_limits;
-        long = mid_len n (n + n + n + (length limits - 1)) u A.long ∙ omega arith;
-      }
-
+module _ (gates : ℕ) (vel : List Float) (mask : List ℕ) (limits : List Float) (u : List ℕ) (n : ℕ) (S : IsSound n gates vel mask limits) (fits : n + n + n + (length limits - 1) ≤ length u) where
   module _ (ys : List ℕ) (r : ℕ) (kept : length ys ≡ length (mid_of n (n + n + n + (length limits - 1) - n) u)) (E : record { labels = seg ys 0 n; number = r } ≡ regions gates vel mask limits) where
     v : List ℕ
     v = put_mid n (n + n + n + (length limits - 1) - n) u ys
 
     ys_long : length ys ≡ n + n + n + (length limits - 1) - n
-    ys_long = kept ∙ mid_len n (n + n + n + (length limits - 1)) u A.long
+    ys_long = kept ∙ mid_len n (n + n + n + (length limits - 1)) u fits
 
     inside_u : n + (n + n + n + (length limits - 1) - n) ≤ length u
-    inside_u = omega (arith, A.long)
+    inside_u = omega (arith, fits)
 
     pub v_long : length (put_mid n (n + n + n + (length limits - 1) - n) u ys) ≡ length u
     v_long = ap length (put_mid_lem u n (n + n + n + (length limits - 1) - n) ys ys_long inside_u) ∙ length-put u n ys
@@ -52,13 +43,9 @@ module _ (gates : ℕ) (vel : List Float) (mask : List ℕ) (limits : List Float
     number_is : r ≡ (regions gates vel mask limits).number
     number_is = ap (λ (f : Found). f.number) E
 
-    pub over_asks : (from : ℕ) → from + (regions gates vel mask limits).number < 2 ^ 32
-        → (n + n ≤ length (put_mid n (n + n + n + (length limits - 1) - n) u ys)) × ((i : ℕ) → i < n → get_or (put_mid n (n + n + n + (length limits - 1) - n) u ys) (n + i) 0 + from < 2 ^ 32)
+    pub over_asks : (from : ℕ) → from + (regions gates vel mask limits).number < 2 ^ 32 → (i : ℕ) → i < n → get_or (put_mid n (n + n + n + (length limits - 1) - n) u ys) (n + i) 0 + from < 2 ^ 32
     unfolding v
-    over_asks from h = (omega (arith, v_long, A.long), λ i q. omega (arith, new_at i q, (regions_are gates vel mask limits A.rising).low i))
-
-    pub last_fits : (from : ℕ) → from + (regions gates vel mask limits).number < 2 ^ 32 → from + r < 2 ^ 32
-    last_fits from h = omega (arith, number_is)
+    over_asks from h i q = omega (arith, new_at i q, (regions_are gates vel mask limits S.rising).low i)
 
     pub block_found : (from : ℕ) (x : List ℕ) → length x ≡ length (put_mid n (n + n + n + (length limits - 1) - n) u ys)
         → ((i : ℕ) → i < n → get_or x i 0 ≡ over from (get_or (put_mid n (n + n + n + (length limits - 1) - n) u ys) i 0) (get_or (put_mid n (n + n + n + (length limits - 1) - n) u ys) (n + i) 0))
@@ -67,8 +54,8 @@ module _ (gates : ℕ) (vel : List Float) (mask : List ℕ) (limits : List Float
     block_found from x e P =
         let f : Found = record { labels = seg u 0 n; number = from } in
         let a : Found = regions gates vel mask limits in
-        let lx : length (seg x 0 n) ≡ n = length-seg x 0 n (omega (arith, v_long, A.long)) in
-        let lu : length (seg u 0 n) ≡ n = length-seg u 0 n (omega (arith, A.long)) in
+        let lx : length (seg x 0 n) ≡ n = length-seg x 0 n (omega (arith, v_long, fits)) in
+        let lu : length (seg u 0 n) ≡ n = length-seg u 0 n (omega (arith, fits)) in
         let at_u : (i : ℕ) → i < n → get_or (seg u 0 n) i 0 ≡ get_or u i 0 = λ i q. get_or-seg u 0 n i 0 q ∙ ap (λ (y : ℕ). get_or u y 0) (omega arith) in
         let l : seg x 0 n ≡ (added f a).labels =
         ext_get_or 0 (seg x 0 n) (added f a).labels (lx ∙ sym (added_long f a ∙ lu))
@@ -87,7 +74,7 @@ module _ (gates : ℕ) (vel : List Float) (mask : List ℕ) (limits : List Float
 pub record Growing (gates : ℕ) (vel : List Float) (mask : List ℕ) (limits : List Float) (n : ℕ) (u : List ℕ) (k i : ℕ) : Type 0 where
   pub found : record { labels = seg u 0 n; number = k } ≡ regions gates vel mask (take (suc i) limits)
 
-module _ (gates : ℕ) (vel : List Float) (mask : List ℕ) (limits : List Float) (n : ℕ) (S : Same n vel mask) (R : Rising limits) where
+module _ (gates : ℕ) (vel : List Float) (mask : List ℕ) (limits : List Float) (n : ℕ) (S : IsSound n gates vel mask limits) where
   -- no labels yet
   pub grow_begin : (u v : List ℕ) → n ≤ length u → v ≡ put u 0 (replicate n 0) → Growing gates vel mask limits n v 0 0
   unfolding nothing
@@ -109,17 +96,25 @@ module _ (gates : ℕ) (vel : List Float) (mask : List ℕ) (limits : List Float
         ∙ ap (λ (y : ℕ). added (regions gates vel mask (take (suc i) limits)) (regions gates vel mask (take y (drop i limits)))) size
         ∙ sym (next gates vel mask limits i j (omega arith) high)
 
-    pub block_asks : j ≤ i + 64 → (0 < n → 0 < gates) → length limits < 2 ^ 32 → length u ≡ n + n + n + 64
-        → Block gates (take (j + 1 - i) (drop i limits)) u n × (k + (regions gates vel mask (take (j + 1 - i) (drop i limits))).number < 2 ^ 32)
+    -- the part of the limits is sound too, and its labels fit
+    pub part_sound : IsSound n gates vel mask (take (j + 1 - i) (drop i limits))
+    part_sound =
+        let a : length (take (j + 1 - i) (drop i limits)) ≡ min (j + 1 - i) (length (drop i limits)) = length-take (j + 1 - i) (drop i limits) in
+        record {
+          velocities = S.velocities;
+          masks = S.masks;
+          small = S.small;
+          some_gates = S.some_gates;
+          rising = rising_part limits S.rising i (j + 1 - i);
+          few_limits = omega (arith, length-drop i limits, S.few_limits);
+        }
+
+    pub part_number : k + (regions gates vel mask (take (j + 1 - i) (drop i limits))).number < 2 ^ 32
     unfolding part
-    block_asks near some few long =
-        let a : length part ≡ min (j + 1 - i) (length (drop i limits)) = length-take (j + 1 - i) (drop i limits) in
-        let b : length (drop i limits) ≡ length limits - i = length-drop i limits in
+    part_number =
         let t : k + (regions gates vel mask part).number ≡ (regions gates vel mask (take (suc j) limits)).number = sym (added_number (record { labels = seg u 0 n; number = k }) (regions gates vel mask part)) ∙ ap (λ (f : Found). f.number) together in
-        let f : (regions gates vel mask (take (suc j) limits)).number ≤ length mask = (regions_are gates vel mask (take (suc j) limits) (rising_part limits R 0 (suc j))).few in (
-          record { some_gates = some; rising = rising_part limits R i (j + 1 - i); few_limits = omega arith; some_limits = omega arith; long = omega arith },
-          omega (arith, S.masks, S.small),
-        )
+        let f : (regions gates vel mask (take (suc j) limits)).number ≤ length mask = (regions_are gates vel mask (take (suc j) limits) (rising_part limits S.rising 0 (suc j))).few in
+        omega (arith, S.masks, S.small)
 
     pub grow_next : (x : List ℕ) (r : ℕ) → record { labels = seg x 0 n; number = r } ≡ added (record { labels = seg u 0 n; number = k }) (regions gates vel mask (take (j + 1 - i) (drop i limits))) → Growing gates vel mask limits n x r j
     grow_next x r e = record { found = e ∙ together }
@@ -127,20 +122,10 @@ module _ (gates : ℕ) (vel : List Float) (mask : List ℕ) (limits : List Float
   pub grow_end : (u : List ℕ) (k i : ℕ) → Growing gates vel mask limits n u k i → length limits ≤ i + 1 → record { labels = seg u 0 n; number = k } ≡ regions gates vel mask limits
   grow_end u k i G h = G.found ∙ ap (regions gates vel mask) (take_all (suc i) limits (omega arith))
 
--- ---- all intervals at once, in the first words of the slice
-first_part : (u ys : List ℕ) (n k : ℕ) → length ys ≡ k → k ≤ length u → n ≤ k → seg (put_mid 0 k u ys) 0 n ≡ seg ys 0 n
+-- ---- all intervals at once, in the first words ys of the slice
+pub front_found : (ys zs : List ℕ) (n r : ℕ) (f : Found) → n ≤ length ys → record { labels = seg ys 0 n; number = r } ≡ f → record { labels = seg (ys ++ zs) 0 n; number = r } ≡ f
 unfolding seg
-first_part u ys n k e h l = sym (take-take n k (put_mid 0 k u ys) l) ∙ ap (take n) (lent_seg u 0 k ys e (omega arith))
-
-module _ (gates : ℕ) (limits : List Float) (u : List ℕ) (n k : ℕ) (A : Ample gates limits u n) (e : k ≡ length limits - 1) (few : k ≤ n + 64) where
-  whole_long : length (mid_of 0 (n + n + k - 0) u) ≡ n + n + k
-  whole_long = mid_len 0 (n + n + k) u (omega (arith, A.long)) ∙ omega arith
-
-  pub whole_asks : Fitting gates limits (mid_of 0 (n + n + k - 0) u) n
-  whole_asks = record { some_gates = A.some_gates; rising = A.rising; few_limits = A.few_limits; long = whole_long ∙ ap (λ (y : ℕ). n + n + y) e }
-
-  pub whole_found : (ys : List ℕ) (r : ℕ) (f : Found) → length ys ≡ length (mid_of 0 (n + n + k - 0) u) → record { labels = seg ys 0 n; number = r } ≡ f → record { labels = seg (put_mid 0 (n + n + k - 0) u ys) 0 n; number = r } ≡ f
-  whole_found ys r f l E = ap (λ (t : List ℕ). record { labels = t; number = r }) (first_part u ys n (n + n + k - 0) (l ∙ whole_long ∙ omega arith) (omega (arith, A.long)) (omega arith)) ∙ E
+front_found ys zs n r f h E = ap (λ (t : List ℕ). record { labels = t; number = r }) (take-append-le n ys zs h) ∙ E
 
 -- ---- labels, and zeros after them
 pub zeros_after : (u v : List ℕ) (n m : ℕ) (f : Found) (r : ℕ) → length u ≡ n + m → record { labels = seg u 0 n; number = r } ≡ f → v ≡ put u n (replicate m 0) → (r ≡ f.number) × (v ≡ f.labels ++ replicate m 0)

@@ -10,7 +10,7 @@ use Rattle.lists.proofs.SegLaws.{length-seg, seg-set_out, seg-set_snoc, eq_or_ne
 use Rattle.labels.specs.Label.{own, firsts}
 use Rattle.labels.specs.Inside.Bands.{Band, Bands, marks, joint, later_in, part, band_before}
 use Rattle.labels.specs.Inside.Areas.{AreasOf, Next, Placed}
-use Rattle.labels.specs.Inside.Sheet.{Same, Fitting}
+use Rattle.labels.specs.Inside.Sheet.{IsSound}
 
 -- the gates before g are placed; `last` is a band found before, `before` and `word` are those of the gate before on the ray, and `along` gates of the ray are done
 pub record Scan (gates : ℕ) (limits vel : List Float) (mask u : List ℕ) (n last before word along g : ℕ) : Type 0 where
@@ -53,9 +53,9 @@ module _ (gates : ℕ) (limits vel : List Float) (mask : List ℕ) (n : ℕ) whe
       none i h = omega arith
 
   -- ---- one gate more
-  module _ (u : List ℕ) (last before word along g : ℕ) (S : Scan gates limits vel mask u n last before word along g) (same : Same n vel mask) (fits : Fitting gates limits u n) (here : g < n) where
+  module _ (u : List ℕ) (last before word along g : ℕ) (S : Scan gates limits vel mask u n last before word along g) (sound : IsSound n gates vel mask limits) (long : length u ≡ n + n + (length limits - 1)) (here : g < n) where
     rays : 0 < gates
-    rays = fits.some_gates (omega arith)
+    rays = sound.some_gates (omega arith)
 
     pub along_in : along < gates
     along_in = omega (arith, S.along_is, mod-lt g rays)
@@ -66,32 +66,32 @@ module _ (gates : ℕ) (limits vel : List Float) (mask : List ℕ) (n : ℕ) whe
         where
           go : (k : ℕ) → (0 < k → k < length limits) → b ≡ k → k ≤ length (drop (n + n) u)
           go zero h e = omega arith
-          go (suc k) h e = omega (arith, h (omega arith), length-drop (n + n) u, fits.long)
+          go (suc k) h e = omega (arith, h (omega arith), length-drop (n + n) u, long)
 
       pub next : Next gates u n g b
-      next = record { areas = S.areas; here = here; room = omega (arith, fits.long); small = same.small; some_gates = rays; band = few }
+      next = record { areas = S.areas; here = here; room = omega (arith, long); small = sound.small; some_gates = rays; band = few }
 
       module _ (v : List ℕ) (kept : length v ≡ length u) (x : ℕ) (P : Placed gates u v n g b x) where
         bands_are : seg (set (set v g b) (n + g) x) 0 (g + 1) ≡ seg u 0 g ++ b ∷ []
         bands_are =
             seg-set_out (set v g b) (n + g) x 0 (g + 1) (λ p q. omega arith)
             ∙ ap (λ (k : ℕ). seg (set v k b) 0 (g + 1)) (omega arith)
-            ∙ seg-set_snoc v 0 g b (omega (arith, kept, fits.long))
+            ∙ seg-set_snoc v 0 g b (omega (arith, kept, long))
             ∙ ap (λ (l : List ℕ). l ++ b ∷ []) P.bands
 
         words_are : seg (set (set v g b) (n + g) x) n (g + 1) ≡ seg v n g ++ x ∷ []
         words_are =
-            seg-set_snoc (set v g b) n g x (omega (arith, length-set v g b, kept, fits.long))
+            seg-set_snoc (set v g b) n g x (omega (arith, length-set v g b, kept, long))
             ∙ ap (λ (l : List ℕ). l ++ x ∷ []) (seg-set_out v g b n g (λ p q. omega arith))
 
         counts_are : drop (n + n) (set (set v g b) (n + g) x) ≡ drop (n + n) v
         counts_are = drop-set-lt (n + n) (set v g b) (n + g) x (omega arith) ∙ drop-set-lt (n + n) v g b (omega arith)
 
         iv_long : length (seg u 0 g) ≡ g
-        iv_long = length-seg u 0 g (omega (arith, fits.long))
+        iv_long = length-seg u 0 g (omega (arith, long))
 
         w_long : length (seg v n g) ≡ g
-        w_long = length-seg v n g (omega (arith, kept, fits.long))
+        w_long = length-seg v n g (omega (arith, kept, long))
 
         -- the last gate of g + 1
         end : g + 1 - 1 ≡ g
@@ -145,9 +145,9 @@ module _ (gates : ℕ) (limits vel : List Float) (mask : List ℕ) (n : ℕ) whe
               }
 
   -- ---- after the last
-  pub scan_end : (u : List ℕ) (last before word along g : ℕ) → Scan gates limits vel mask u n last before word along g → g ≡ n → Same n vel mask → Fitting gates limits u n
+  pub scan_end : (u : List ℕ) (last before word along g : ℕ) → Scan gates limits vel mask u n last before word along g → g ≡ n → IsSound n gates vel mask limits → length u ≡ n + n + (length limits - 1)
       → Bands limits vel mask (seg u 0 n) × AreasOf gates (seg u 0 n) (seg u n n) (drop (n + n) u)
-  scan_end u last before word along g S e same fits = (
-    record { long = length-seg u 0 n (omega (arith, fits.long)) ∙ sym same.masks; at = λ i h. rw (← e) (S.bands i (omega (arith, same.masks))) },
+  scan_end u last before word along g S e sound long = (
+    record { long = length-seg u 0 n (omega (arith, long)) ∙ sym sound.masks; at = λ i h. rw (← e) (S.bands i (omega (arith, sound.masks))) },
     subst (λ (k : ℕ). AreasOf gates (seg u 0 k) (seg u n k) (drop (n + n) u)) e S.areas,
   )

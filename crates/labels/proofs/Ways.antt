@@ -1,6 +1,6 @@
 -- Ways from gate to neighbouring gate within one interval, and the bands of any gates. Assumes nothing.
-use Rattle.std.proofs.Common.{◌≡◌, ℕ, zero, suc, ◌-◌, ◌%◌, ◌<◌, ◌≤◌, Bool, true, false, cond, not, ◌&&◌, eqb, leb, ◌⊎◌, List, [], ◌∷◌, ◌++◌, length, get_or, sym, refl, ap, ◌∙◌, subst, inl, inr, ⊎_elim, arith, eq-eqb, ne_eqb, eqb-true, leb-true}
-use lib.Ieee.{Float, nan}
+use Rattle.std.proofs.Common.{◌≡◌, ℕ, zero, suc, ◌+◌, ◌-◌, ◌%◌, ◌<◌, ◌≤◌, Bool, true, false, cond, not, ◌&&◌, T, eqb, leb, ◌⊎◌, List, [], ◌∷◌, ◌++◌, length, get_or, sym, refl, ap, ◌∙◌, subst, inl, inr, ⊎_elim, arith, eq-eqb, ne_eqb, eqb-true, leb-true}
+use lib.Ieee.{Float, nan, lt, le}
 use lib.ListN.{get_or-eq_default}
 use Rattle.arithmetic.specs.Inside.Asked.{Rising}
 use Rattle.lists.specs.Seq.{upto, tabulate, each}
@@ -9,9 +9,12 @@ use Rattle.lists.proofs.SegLaws.{eq_or_ne, lt_or_le}
 use Rattle.labels.specs.Label.{Neighbours}
 use Rattle.labels.specs.Regions.{within}
 use Rattle.labels.specs.Inside.Bands.{window, Band, Bands, above_in, before_in, links_in, later_in}
-use Rattle.labels.proofs.FloatOrder.{and_both, lt_not_le}
-use Rattle.labels.proofs.OwnLaws.{within_from, within_to}
-use Rattle.labels.proofs.BandLaws.{climbs, flag}
+use Rattle.std.proofs.lemmas.Bool.{and_parts, false_from_ne_true}
+use Rattle.std.proofs.lemmas.Float.{le_right, le_trans, lt_of_not-le, T_from_true, T_from_false}
+use Rattle.std.proofs.lemmas.List.{get_or_default}
+use Rattle.labels.proofs.FloatOrder.{lt_not_le, of_T}
+use Rattle.labels.proofs.OwnLaws.{within_from, within_to, within_is, within_low, within_high}
+use Rattle.labels.proofs.BandLaws.{climbs}
 use Rattle.labels.proofs.JointLaws.{above_one, before_one}
 use Rattle.labels.proofs.Connected.{In, here, there, Joined, stay, along, back, upto_in}
 
@@ -48,7 +51,7 @@ tried limits R x m last s l w =
       small = λ p. l;
       is = λ j h. ⊎_elim
           (λ e. ap (λ (y : ℕ). within (window limits y) x m) e ∙ held ∙ sym (eq-eqb last (suc j) (omega arith)))
-          (λ n. flag (within (window limits j) x m) (λ t. ⊎_elim (λ b. one_interval limits R x m j (last - 1) b (omega arith) t held) (λ b. one_interval limits R x m (last - 1) j (above j b n) h held t) (lt_or_le j (last - 1))) ∙ sym (ne_eqb last (suc j) (λ e. n (omega arith))))
+          (λ n. false_from_ne_true (within (window limits j) x m) (λ t. ⊎_elim (λ b. one_interval limits R x m j (last - 1) b (omega arith) t held) (λ b. one_interval limits R x m (last - 1) j (above j b n) h held t) (lt_or_le j (last - 1))) ∙ sym (ne_eqb last (suc j) (λ e. n (omega arith))))
           (eq_or_ne j (last - 1));
     }
   where
@@ -59,6 +62,47 @@ tried limits R x m last s l w =
 
     above : (j : ℕ) → last - 1 ≤ j → (j ≡ last - 1 → ⊥) → last - 1 < j
     above j b n = omega arith
+
+-- ---- the limits up to x, and those above it, with r of the first kind
+module _ (limits : List Float) (R : Rising limits) (x : Float) (m : ℕ) where
+  -- a limit up to x has all before it up to x
+  up_to : (i d : ℕ) → i + d < length limits → le (get_or limits (i + d) nan) x ≡ true → le (get_or limits i nan) x ≡ true
+  up_to i zero h p = ap (λ (y : ℕ). le (get_or limits y nan) x) (omega arith) ∙ p
+  up_to i (suc d) h p =
+      let q : le (get_or limits (suc (i + d)) nan) x ≡ true = ap (λ (y : ℕ). le (get_or limits y nan) x) (omega arith) ∙ p in
+      up_to i d (omega arith) (of_T (le (get_or limits (i + d) nan) x) (le_trans (get_or limits (i + d) nan) (get_or limits (suc (i + d)) nan) x (R (i + d) (omega arith)) (T_from_true (le (get_or limits (suc (i + d)) nan) x) q)))
+
+  pub parted : (i j : ℕ) (d : Float) → i ≤ j → j < length limits → le (get_or limits j d) x ≡ true → le (get_or limits i d) x ≡ true
+  parted i j d h k p =
+      ap (λ (y : Float). le y x) (get_or_default limits i d nan (omega arith))
+      ∙ up_to i (j - i) (omega arith) (ap (λ (y : ℕ). le (get_or limits y nan) x) (omega arith) ∙ ap (λ (y : Float). le y x) (get_or_default limits j nan d k) ∙ p)
+
+  module _ (r : ℕ) (low : (k : ℕ) (d : Float) → 0 ≤ k → k < r → le (get_or limits k d) x ≡ true) (high : (k : ℕ) (d : Float) → r ≤ k → k < length limits → le (get_or limits k d) x ≡ false) where
+    none : ((j : ℕ) → suc j < length limits → within (window limits j) x m ≡ false) → Band limits x m 0
+    none o = record { small = λ p. absurd (no p); is = λ j h. o j h ∙ sym (ne_eqb 0 (suc j) (λ e. omega arith)) }
+      where
+        no : 0 < 0 → ⊥
+        no q = omega arith
+
+    pub all_up_to : r ≡ length limits → Band limits x m 0
+    unfolding window
+    all_up_to e = none (λ j h. within_high (window limits j) x m (false_from_ne_true (lt x (get_or limits (suc j) nan)) (λ t. lt_not_le x (get_or limits (suc j) nan) t (low (suc j) nan (omega arith) (omega arith)))))
+
+    pub between : m ≡ 1 → r < length limits → Band limits x m r
+    unfolding window
+    between v h = ⊎_elim (λ s. tried limits R x m r s h (held s)) (λ s. ap_none (omega arith) (none (λ j k. within_low (window limits j) x m (high j nan (omega arith) (omega arith))))) (lt_or_le 0 r)
+      where
+        ap_none : r ≡ 0 → Band limits x m 0 → Band limits x m r
+        ap_none e = subst (Band limits x m) (sym e)
+
+        held : 0 < r → within (record { lower = get_or limits (r - 1) nan; upper = get_or limits r nan }) x m ≡ true
+        held s =
+            let a : le (get_or limits (r - 1) nan) x ≡ true = low (r - 1) nan (omega arith) (omega arith) in
+            let z : suc (r - 1) ≡ r = omega arith in
+            let b : T (le (get_or limits (r - 1) nan) (get_or limits r nan)) = subst (λ (y : ℕ). T (le (get_or limits (r - 1) nan) (get_or limits y nan))) z (R (r - 1) (omega arith)) in
+            within_is (record { lower = get_or limits (r - 1) nan; upper = get_or limits r nan }) x m v a
+            ∙ of_T (lt x (get_or limits r nan)) (lt_of_not-le (get_or limits r nan) x (le_right (get_or limits (r - 1) nan) (get_or limits r nan) b) (le_right (get_or limits (r - 1) nan) x (T_from_true (le (get_or limits (r - 1) nan) x) a))
+            (T_from_false (le (get_or limits r nan) x) (high r nan (omega arith) h)))
 
 module _ (limits : List Float) (R : Rising limits) (x : Float) (m : ℕ) where
   sought : (k : ℕ) → k ≤ length limits - 1 → (seek limits x m k ≤ k) × ((j : ℕ) → j < k → within (window limits j) x m ≡ eqb (seek limits x m k) (suc j))
@@ -78,7 +122,7 @@ module _ (limits : List Float) (R : Rising limits) (x : Float) (m : ℕ) where
         omega arith,
         λ j q. ⊎_elim
             (λ s. ap (λ (y : ℕ). within (window limits y) x m) s ∙ e ∙ sym (eq-eqb (suc k) (suc j) (ap suc (sym s))))
-            (λ s. flag (within (window limits j) x m) (λ t. one_interval limits R x m j k (less j q s) (omega arith) t e) ∙ sym (ne_eqb (suc k) (suc j) (λ t. s (omega arith))))
+            (λ s. false_from_ne_true (within (window limits j) x m) (λ t. one_interval limits R x m j k (less j q s) (omega arith) t e) ∙ sym (ne_eqb (suc k) (suc j) (λ t. s (omega arith))))
             (eq_or_ne j k),
       )
       go false e ih = (
@@ -168,16 +212,16 @@ module _ (gates : ℕ) (iv : List ℕ) where
   unfolding above_in
   of_above g l p =
       let q = in_one (not (eqb (get_or iv g 0) 0) && leb gates g && eqb (get_or iv (g - gates) 0) (get_or iv g 0)) l (record { a = g - gates; b = g }) p in
-      let t = and_both (not (eqb (get_or iv g 0) 0) && leb gates g) (eqb (get_or iv (g - gates) 0) (get_or iv g 0)) q.0 in
-      let s = and_both (not (eqb (get_or iv g 0) 0)) (leb gates g) t.0 in
+      let t = and_parts (not (eqb (get_or iv g 0) 0) && leb gates g) (eqb (get_or iv (g - gates) 0) (get_or iv g 0)) q.0 in
+      let s = and_parts (not (eqb (get_or iv g 0) 0)) (leb gates g) t.0 in
       subst (Touching gates iv) (sym q.1) (record { beside = inl (leb-true gates g s.1, refl); some = nonzero (get_or iv g 0) s.0; same = eqb-true (get_or iv (g - gates) 0) (get_or iv g 0) t.1 })
 
   of_before : (g : ℕ) (l : Neighbours) → In l (before_in gates iv g) → Touching gates iv l
   unfolding before_in
   of_before g l p =
       let q = in_one (not (eqb (get_or iv g 0) 0) && not (eqb (g % gates) 0) && eqb (get_or iv (g - 1) 0) (get_or iv g 0)) l (record { a = g - 1; b = g }) p in
-      let t = and_both (not (eqb (get_or iv g 0) 0) && not (eqb (g % gates) 0)) (eqb (get_or iv (g - 1) 0) (get_or iv g 0)) q.0 in
-      let s = and_both (not (eqb (get_or iv g 0) 0)) (not (eqb (g % gates) 0)) t.0 in
+      let t = and_parts (not (eqb (get_or iv g 0) 0) && not (eqb (g % gates) 0)) (eqb (get_or iv (g - 1) 0) (get_or iv g 0)) q.0 in
+      let s = and_parts (not (eqb (get_or iv g 0) 0)) (not (eqb (g % gates) 0)) t.0 in
       subst (Touching gates iv) (sym q.1) (record { beside = inr (nonzero (g % gates) s.1, refl); some = nonzero (get_or iv g 0) s.0; same = eqb-true (get_or iv (g - 1) 0) (get_or iv g 0) t.1 })
 
   pub touching : (l : Neighbours) → In l (later_in gates iv 0) → Touching gates iv l

@@ -5,14 +5,14 @@ use lib.ListN.{length-replicate}
 use Rattle.arithmetic.specs.Inside.Asked.{Rising}
 use Rattle.lists.specs.Inside.Seg.{seg, put}
 use Rattle.lists.specs.Seq.{tabulate, sum}
-use Rattle.lists.proofs.SegLaws.{length-put, sums_are}
+use Rattle.lists.proofs.SegLaws.{sums_are}
 use Rattle.lists.proofs.SeqLaws.{tab_at, tab_length}
 use Rattle.labels.specs.Regions.{regions}
 use Rattle.labels.specs.Inside.Forest.{Forest}
 use Rattle.labels.specs.Inside.Areas.{AreasOf}
 use Rattle.labels.specs.Inside.Bands.{Bands, marks, joint}
 use Rattle.labels.specs.Inside.Numbering.{sizes, NumbersGates, Numbering}
-use Rattle.labels.specs.Inside.Sheet.{Same, Fitting}
+use Rattle.labels.specs.Inside.Sheet.{IsSound}
 use Rattle.labels.proofs.RegionFacts.{regions_are}
 use Rattle.labels.proofs.JointLaws.{joint_own}
 use Rattle.labels.proofs.FoldLaws.{number_is, by_bands, sizes_suc, sizes_below, band_few}
@@ -39,21 +39,16 @@ module _ (gates : ℕ) (vel : List Float) (mask : List ℕ) (limits : List Float
   result c c₂ labels r e s n N =
       by_bands gates vel mask limits iv B c (λ j h. s j (omega arith)) (λ i l z. N.numbered i (omega arith) z) labels r (N.long ∙ B.long) (λ i l. N.done i (omega arith)) (n ∙ ap (sizes iv (joint gates iv)) e)
 
--- ---- the slice from call to call: as long as before, it fits still
-pub still_fits : (gates : ℕ) (limits : List Float) (u v : List ℕ) (n : ℕ) → length v ≡ length u → Fitting gates limits u n → Fitting gates limits v n
-still_fits gates limits u v n e A = record { some_gates = A.some_gates; rising = A.rising; few_limits = A.few_limits; long = e ∙ A.long }
-
 -- the counters of u become 0
-pub cleared : (gates : ℕ) (limits : List Float) (u v : List ℕ) (n : ℕ) → Fitting gates limits u n → v ≡ put u (n + n) (replicate (length u - (n + n)) 0) → drop (n + n) v ≡ replicate (length limits - 1) 0
-cleared gates limits u v n A e =
-    let k : length u - (n + n) ≡ length limits - 1 = omega (arith, A.long) in
-    ap (drop (n + n)) e ∙ put_counts u n (omega (arith, A.long)) (replicate (length u - (n + n)) 0) (length-replicate (length u - (n + n)) 0) ∙ ap (λ (y : ℕ). replicate y 0) k
+pub cleared : (limits : List Float) (u v : List ℕ) (n k : ℕ) → length u ≡ n + n + (length limits - 1) → k ≡ length limits - 1 → v ≡ put u (n + n) (replicate k 0) → drop (n + n) v ≡ replicate (length limits - 1) 0
+cleared limits u v n k long e z =
+    ap (drop (n + n)) z ∙ put_counts u n (omega arith) (replicate k 0) (length-replicate k 0 ∙ omega arith) ∙ ap (λ (y : ℕ). replicate y 0) e
 
 -- u with gates joined and counted, v with the counters' starts, x with the labels
-module _ (gates : ℕ) (vel : List Float) (mask : List ℕ) (limits : List Float) (u : List ℕ) (n : ℕ) (S : Same n vel mask) (A : Fitting gates limits u n)
+module _ (gates : ℕ) (vel : List Float) (mask : List ℕ) (limits : List Float) (u : List ℕ) (n : ℕ) (S : IsSound n gates vel mask limits) (long : length u ≡ n + n + (length limits - 1)) (k : ℕ) (counters_are : k ≡ length limits - 1)
     (B : Bands limits vel mask (seg u 0 n)) (P : AreasOf gates (seg u 0 n) (seg u n n) (drop (n + n) u)) where
   fits : n + n ≤ length u
-  fits = omega (arith, A.long)
+  fits = omega (arith, long)
 
   as_many : length mask ≡ length (seg u n n)
   as_many = S.masks ∙ sym (words_long u n fits)
@@ -61,61 +56,63 @@ module _ (gates : ℕ) (vel : List Float) (mask : List ℕ) (limits : List Float
   small : length (seg u n n) + 1 < 2 ^ 32
   small = omega (arith, words_long u n fits, S.small)
 
-  counters : length (drop (n + n) u) ≡ length u - (n + n)
-  counters = counts_long u n fits
+  counters : length (drop (n + n) u) ≡ k
+  counters = counts_long u n fits ∙ omega arith
 
   -- the sums of the counters
-  summed : (j : ℕ) → j ≤ length u - (n + n) → sum (seg u (n + n) j) ≡ sizes (seg u 0 n) (joint gates (seg u 0 n)) j
+  summed : (j : ℕ) → j ≤ k → sum (seg u (n + n) j) ≡ sizes (seg u 0 n) (joint gates (seg u 0 n)) j
   summed =
-      sums_are u (n + n) (length u - (n + n)) (sizes (seg u 0 n) (joint gates (seg u 0 n))) (omega (arith, fits)) (unfold sizes in refl)
+      sums_are u (n + n) k (sizes (seg u 0 n) (joint gates (seg u 0 n))) (omega (arith, fits)) (unfold sizes in refl)
       (λ j h. omega (arith, sizes_suc (seg u 0 n) (joint gates (seg u 0 n)) j, P.counts j (omega (arith, counters)), count_at_lem u n fits j))
 
   -- they fit: there are no more regions than gates
-  pub starts_asks : (n + n + (length u - (n + n)) ≤ length u) × (sum (seg u (n + n) (length u - (n + n))) < 2 ^ 32)
-  starts_asks =
-      let e : length u - (n + n) ≡ length limits - 1 = omega (arith, A.long) in
-      (omega (arith, fits), omega (arith, summed (length u - (n + n)) (omega arith), ap (sizes (seg u 0 n) (joint gates (seg u 0 n))) e, few gates vel mask limits (seg u 0 n) (seg u n n) as_many small A.rising B P.forest, small))
+  pub starts_bound : sum (seg u (n + n) k) < 2 ^ 32
+  starts_bound =
+      omega (arith, summed k (omega arith), ap (sizes (seg u 0 n) (joint gates (seg u 0 n))) counters_are, few gates vel mask limits (seg u 0 n) (seg u n n) as_many small S.rising B P.forest, small)
 
-  module _ (v : List ℕ) (r : ℕ) (R : r ≡ sum (seg u (n + n) (length u - (n + n)))) (E : v ≡ put u (n + n) (tabulate (length u - (n + n)) (λ j. sum (seg u (n + n) j)))) where
+  module _ (v : List ℕ) (r : ℕ) (R : r ≡ sum (seg u (n + n) k)) (E : v ≡ put u (n + n) (tabulate k (λ j. sum (seg u (n + n) j)))) where
     -- how many regions the bands before each have
     starts : List ℕ
-    starts = tabulate (length u - (n + n)) (λ j. sum (seg u (n + n) j))
+    starts = tabulate k (λ j. sum (seg u (n + n) j))
 
-    starts_long : length starts ≡ length u - (n + n)
+    starts_long : length starts ≡ k
     unfolding starts
-    starts_long = tab_length (λ j. sum (seg u (n + n) j)) (length u - (n + n))
+    starts_long = tab_length (λ j. sum (seg u (n + n) j)) k
+
+    all_starts : length starts ≡ length u - (n + n)
+    all_starts = omega (arith, starts_long)
 
     -- only the counters differ
     v_bands : seg v 0 n ≡ seg u 0 n
     unfolding starts
-    v_bands = ap (λ (l : List ℕ). seg l 0 n) E ∙ (put_others u n fits starts starts_long).0
+    v_bands = ap (λ (l : List ℕ). seg l 0 n) E ∙ (put_others u n fits starts all_starts).0
 
     v_words : seg v n n ≡ seg u n n
     unfolding starts
-    v_words = ap (λ (l : List ℕ). seg l n n) E ∙ (put_others u n fits starts starts_long).1
+    v_words = ap (λ (l : List ℕ). seg l n n) E ∙ (put_others u n fits starts all_starts).1
 
     v_counts : drop (n + n) v ≡ starts
     unfolding starts
-    v_counts = ap (drop (n + n)) E ∙ put_counts u n fits starts starts_long
+    v_counts = ap (drop (n + n)) E ∙ put_counts u n fits starts all_starts
 
     v_counters : length (drop (n + n) v) ≡ length limits - 1
-    v_counters = ap length v_counts ∙ starts_long ∙ omega (arith, A.long)
+    v_counters = ap length v_counts ∙ starts_long ∙ omega (arith, long)
 
     starts_are : (j : ℕ) → j < length (drop (n + n) v) → get_or (drop (n + n) v) j 0 ≡ sizes (seg u 0 n) (joint gates (seg u 0 n)) j
     unfolding starts
     starts_are j q =
-        let h : j < length u - (n + n) = omega (arith, v_counters, A.long) in
-        ap (λ (l : List ℕ). get_or l j 0) v_counts ∙ tab_at (λ j. sum (seg u (n + n) j)) (length u - (n + n)) j 0 h ∙ summed j (omega arith)
+        let h : j < k = omega (arith, v_counters, long) in
+        ap (λ (l : List ℕ). get_or l j 0) v_counts ∙ tab_at (λ j. sum (seg u (n + n) j)) k j 0 h ∙ summed j (omega arith)
 
     -- what the numbering asks
-    pub number_asks : (n + n ≤ length v) × NumbersGates (seg v n n) (seg v 0 n) (drop (n + n) v)
-    number_asks = (omega (arith, fits, ap length E, length-put u (n + n) (tabulate (length u - (n + n)) (λ j. sum (seg u (n + n) j)))), rw (v_words, v_bands) (number_room gates vel mask limits (seg u 0 n) (seg u n n) as_many small A.rising B P.forest (drop (n + n) v) v_counters starts_are))
+    pub number_asks : NumbersGates (seg v n n) (seg v 0 n) (drop (n + n) v)
+    number_asks = rw (v_words, v_bands) (number_room gates vel mask limits (seg u 0 n) (seg u n n) as_many small S.rising B P.forest (drop (n + n) v) v_counters starts_are)
 
     -- and what it gives are the regions
     pub whole : (x : List ℕ) → ((rs : List ℕ) → Forest (marks (seg v 0 n)) (seg v n n) rs → ((i r : ℕ) → get_or rs i 0 ≡ suc r → get_or (seg v 0 n) r 0 ≡ get_or (seg v 0 n) i 0) → Numbering (seg v 0 n) rs (drop (n + n) v) (seg x 0 n) (drop (n + n) x) n)
         → record { labels = seg x 0 n; number = r } ≡ regions gates vel mask limits
     whole x N =
         let N₂ : (rs : List ℕ) → Forest (marks (seg u 0 n)) (seg u n n) rs → ((i r : ℕ) → get_or rs i 0 ≡ suc r → get_or (seg u 0 n) r 0 ≡ get_or (seg u 0 n) i 0) → Numbering (seg u 0 n) rs (drop (n + n) v) (seg x 0 n) (drop (n + n) x) n = rw (v_words, v_bands) at N in
-        result gates vel mask limits (seg u 0 n) (seg u n n) as_many small A.rising B P.forest (drop (n + n) v) (drop (n + n) x) (seg x 0 n) r v_counters starts_are
-        (R ∙ summed (length u - (n + n)) (omega arith) ∙ ap (sizes (seg u 0 n) (joint gates (seg u 0 n))) (omega (arith, v_counters, A.long)))
+        result gates vel mask limits (seg u 0 n) (seg u n n) as_many small S.rising B P.forest (drop (n + n) v) (drop (n + n) x) (seg x 0 n) r v_counters starts_are
+        (R ∙ summed k (omega arith) ∙ ap (sizes (seg u 0 n) (joint gates (seg u 0 n))) (omega (arith, v_counters, long)))
         (subst (Numbering (seg u 0 n) (joint gates (seg u 0 n)) (drop (n + n) v) (seg x 0 n) (drop (n + n) x)) (sym (words_long u n fits)) (N₂ (joint gates (seg u 0 n)) P.forest (joint_own gates (seg u 0 n))))

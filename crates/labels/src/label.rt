@@ -1,5 +1,6 @@
 // label.rs: the areas of gates that touch, by union-find, and their numbers by first gate.
-// One slice holds it all: a band for each of n gates, then a word of the union-find for each, then a counter for each band.
+// One lent slice holds it all (fixed memory), so its parts are offsets by n: a band for each of n gates, then a word of the union-find for each, then
+// a counter for each band.
 // A band is 0 for a gate in no interval; gates are joined within their band. Gates are placed in scan order: the words of those before gate g
 // hold their areas, and nothing is known of the rest.
 ghost use Rattle.std.specs.Prelude.{◌≡◌, ℕ, suc, ◌+◌, ◌-◌, ◌^◌, ◌<◌, ◌≤◌, Bool, true, not, List, length, if◌then◌else◌, ◌==◌, ◌≢◌, slice_index, slice_set};
@@ -11,7 +12,7 @@ ghost use Rattle.labels.specs.Inside.Bands.{band_before};
 ghost use Rattle.labels.specs.Inside.Numbering.{Ahead, NumbersGates};
 ghost use Rattle.labels.specs.Inside.Sheet.{bands_of, words_of, counts_of};
 
-// The first gate of the area of gate `start`. Halves the path there.
+// The first gate of the area of gate `start`. Halves the path there: a while, since it goes from word to word and counts nothing.
 fn find(w: &mut [u32], start: u32) -> u32
     requires some { Some w.old }
     requires gate { Gate w.old start }
@@ -45,106 +46,115 @@ fn unite(w: &mut [u32], a: u32, b: u32) -> bool
     s < r
 }
 
-// Gate `g` begins an area of band `b`, which has one more. Its word: itself.
-fn begin(u: &mut [u32], n: usize, g: usize, b: u32) -> u32
-    requires b_nonzero { (0 < b) × (g + 1 < 2 ^ 32) × (n + n + (b - 1) < length u.old) }
-    requires b_bound { slice_index u.old (n + n + (b - 1)) + 1 < 2 ^ 32 }
-    ensures value { result ≡ suc g }
-    ensures u_after { u.new ≡ slice_set u.old (n + n + (b - 1)) (slice_index u.old (n + n + (b - 1)) + 1) }
-{
-    let at = n + n + (b - 1) as usize;
-    let k = u[at];
-    u[at] = k + 1;
-    g as u32 + 1
+// The next gate to be placed: gate `g` of n, of band `b`; there are `gates` gates to a ray.
+#[derive(Clone, Copy)]
+pub struct NextGate {
+    pub n: usize,
+    pub gates: usize,
+    pub g: usize,
+    pub b: u32,
 }
 
-// Band `b` has one area less, if two were made one.
-fn one_less(u: &mut [u32], n: usize, b: u32, two: bool)
-    requires b_nonzero { (0 < b) × (n + n + (b - 1) < length u.old) }
-    requires nonzero { two ≡ true → 0 < slice_index u.old (n + n + (b - 1)) }
-    ensures { u.new ≡ (if two then slice_set u.old (n + n + (b - 1)) (slice_index u.old (n + n + (b - 1)) - 1) else u.old) }
+// The gate begins an area of its band, which has one more. Its word: itself.
+fn begin(u: &mut [u32], x: NextGate) -> u32
+    requires some { 0 < x.b }
+    requires word_bound { x.g + 1 < 2 ^ 32 }
+    requires counter_in_bounds { x.n + x.n + (x.b - 1) < length u.old }
+    requires counter_bound { slice_index u.old (x.n + x.n + (x.b - 1)) + 1 < 2 ^ 32 }
+    ensures value { result ≡ suc x.g }
+    ensures u_after { u.new ≡ slice_set u.old (x.n + x.n + (x.b - 1)) (slice_index u.old (x.n + x.n + (x.b - 1)) + 1) }
 {
-    if !two {
-        return;
+    u[x.n + x.n + (x.b - 1) as usize] += 1;
+    x.g as u32 + 1
+}
+
+// Its band has one area less, if two were made one.
+fn one_less(u: &mut [u32], x: NextGate, two: bool)
+    requires some { 0 < x.b }
+    requires counter_in_bounds { x.n + x.n + (x.b - 1) < length u.old }
+    requires nonzero { two ≡ true → 0 < slice_index u.old (x.n + x.n + (x.b - 1)) }
+    ensures { u.new ≡ (if two then slice_set u.old (x.n + x.n + (x.b - 1)) (slice_index u.old (x.n + x.n + (x.b - 1)) - 1) else u.old) }
+{
+    if two {
+        u[x.n + x.n + (x.b - 1) as usize] -= 1;
     }
-    let at = n + n + (b - 1) as usize;
-    let k = u[at];
-    u[at] = k - 1;
 }
 
-// The areas of the gates before and above gate `g` made one, which it joins. Its word: that of the gate before.
-fn meet(u: &mut [u32], n: usize, gates: usize, g: usize, b: u32) -> u32
-    requires next { Next gates u.old n g b }
-    requires corner { Corner gates (bands_of u.old g) g b }
-    ensures { Placed gates u.old u.new n g b result }
+// The areas of the gates before and above the gate made one, which it joins. Its word: that of the gate before.
+fn meet(u: &mut [u32], x: NextGate) -> u32
+    requires next { Next x.gates u.old x.n x.g x.b }
+    requires corner { Corner x.gates (bands_of u.old x.g) x.g x.b }
+    ensures { Placed x.gates u.old u.new x.n x.g x.b result }
 {
-    let h = g - gates;
-    let e = n + g;
-    let two = unite(&mut u[n..e], h as u32, (g - 1) as u32);
-    one_less(u, n, b, two);
-    u[n + (g - 1)]
+    let h = x.g - x.gates;
+    let e = x.n + x.g;
+    let two = unite(&mut u[x.n..e], h as u32, (x.g - 1) as u32);
+    one_less(u, x, two);
+    u[x.n + (x.g - 1)]
 }
 
-// Gate `g` joins the area of the gate before, whose word it gets. Where the gate above is of its band too, their areas are made one, unless the
+// The gate joins the area of the gate before, whose word it gets. Where the gate above is of its band too, their areas are made one, unless the
 // gate before that one is of the band: then they are one already.
-fn beside(u: &mut [u32], n: usize, gates: usize, g: usize, b: u32, word: u32) -> u32
-    requires next { Next gates u.old n g b }
-    requires b_nonzero { (0 < b) × (band_before gates (bands_of u.old g) g ≡ b) }
-    requires word_value { word ≡ slice_index (seg u.old n g) (g - 1) }
-    ensures { Placed gates u.old u.new n g b result }
+fn beside(u: &mut [u32], x: NextGate, word: u32) -> u32
+    requires next { Next x.gates u.old x.n x.g x.b }
+    requires some { 0 < x.b }
+    requires goes_on { band_before x.gates (bands_of u.old x.g) x.g ≡ x.b }
+    requires word_value { word ≡ slice_index (seg u.old x.n x.g) (x.g - 1) }
+    ensures { Placed x.gates u.old u.new x.n x.g x.b result }
 {
-    if g < gates {
+    if x.g < x.gates {
         return word;
     }
-    let h = g - gates;
-    if u[h] != b {
+    let h = x.g - x.gates;
+    if u[h] != x.b {
         return word;
     }
-    if u[h - 1] == b {
+    if u[h - 1] == x.b {
         return word;
     }
-    meet(u, n, gates, g, b)
+    meet(u, x)
 }
 
-// Gate `g`, which does not go with the gate before, joins the area of the gate above or begins one.
-fn below(u: &mut [u32], n: usize, gates: usize, g: usize, b: u32) -> u32
-    requires next { Next gates u.old n g b }
-    requires b_nonzero { (0 < b) × (band_before gates (bands_of u.old g) g ≢ b) }
-    ensures { Placed gates u.old u.new n g b result }
+// The gate, which does not go with the gate before, joins the area of the gate above or begins one.
+fn below(u: &mut [u32], x: NextGate) -> u32
+    requires next { Next x.gates u.old x.n x.g x.b }
+    requires some { 0 < x.b }
+    requires stops { band_before x.gates (bands_of u.old x.g) x.g ≢ x.b }
+    ensures { Placed x.gates u.old u.new x.n x.g x.b result }
 {
-    if g < gates {
-        return begin(u, n, g, b);
+    if x.g < x.gates {
+        return begin(u, x);
     }
-    let h = g - gates;
-    if u[h] == b {
-        return u[n + h];
+    let h = x.g - x.gates;
+    if u[h] == x.b {
+        return u[x.n + h];
     }
-    begin(u, n, g, b)
+    begin(u, x)
 }
 
-// Gate `g`, of band `b`, joined with the gates before and above that are of its band: `before` is the band of the gate before on its ray,
-// `word` that gate's word. Gives its own word.
-pub fn place(u: &mut [u32], n: usize, gates: usize, g: usize, b: u32, before: u32, word: u32) -> u32
-    requires next { Next gates u.old n g b }
-    requires before_value { before ≡ band_before gates (bands_of u.old g) g }
-    requires word_value { 0 < g → word ≡ slice_index (seg u.old n g) (g - 1) }
-    ensures { Placed gates u.old u.new n g b result }
+// The gate joined with the gates before and above that are of its band: `before` is the band of the gate before on its ray, `word` that gate's
+// word. Gives its own word.
+pub fn place(u: &mut [u32], x: NextGate, before: u32, word: u32) -> u32
+    requires next { Next x.gates u.old x.n x.g x.b }
+    requires before_value { before ≡ band_before x.gates (bands_of u.old x.g) x.g }
+    requires word_value { 0 < x.g → word ≡ slice_index (seg u.old x.n x.g) (x.g - 1) }
+    ensures { Placed x.gates u.old u.new x.n x.g x.b result }
 {
-    if b == 0 {
+    if x.b == 0 {
         return 0;
     }
-    if b == before {
-        return beside(u, n, gates, g, b, word);
+    if x.b == before {
+        return beside(u, x, word);
     }
-    below(u, n, gates, g, b)
+    below(u, x)
 }
 
 // The label of gate `g` over its band, where all gates before have theirs.
 fn label_gate(u: &mut [u32], n: usize, g: usize)
-    requires n_in_bounds { n + n ≤ length u.old }
+    requires in_bounds { n + n ≤ length u.old }
     requires ahead { Ahead (words_of u.old n) (bands_of u.old n) (counts_of u.old n) g }
     ensures labels_gate { LabelsGate u.old u.new n g }
-    ensures n_unchanged { words_of u.new n ≡ words_of u.old n }
+    ensures words_unchanged { words_of u.new n ≡ words_of u.old n }
 {
     let v = u[n + g];
     if v == 0 {
@@ -164,13 +174,11 @@ fn label_gate(u: &mut [u32], n: usize, g: usize)
 
 // All labels over the bands, from the counters' starts.
 pub fn number(u: &mut [u32], n: usize)
-    requires n_in_bounds { n + n ≤ length u.old }
+    requires in_bounds { n + n ≤ length u.old }
     requires numbers_gates { NumbersGates (words_of u.old n) (bands_of u.old n) (counts_of u.old n) }
     ensures { LabelsGates u.old u.new n }
 {
-    let mut g = 0;
-    while g < n {
+    for g in 0..n {
         label_gate(u, n, g);
-        g += 1;
     }
 }

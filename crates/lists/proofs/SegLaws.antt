@@ -145,12 +145,6 @@ module _ {A : Type 0} where
           (lt_or_le j b)
 
   -- ---- fills
-  pub fill_more : (w : List A) (b n : ℕ) (v : A) → set (put w b (replicate n v)) (b + n) v ≡ put w b (replicate (n + 1) v)
-  fill_more w b n v =
-      ap (λ (k : ℕ). set (put w b (replicate n v)) (b + k) v) (sym (length-replicate n v))
-      ∙ put_snoc w b (replicate n v) v
-      ∙ ap (put w b) (replicate-append-replicate n 1 v)
-
   pub put_nil : (w : List A) (b : ℕ) → put w b [] ≡ w
   unfolding put
   put_nil w b = refl

@@ -13,7 +13,8 @@ use Rattle.lists.proofs.SeqLaws.{eqb_renamed, keep_and, keep_none, keep_same, ke
 use Rattle.locality.proofs.Spot.{trues, shift, flag, shift_rises, shift_inj, shifts_kept}
 use Rattle.locality.proofs.RootsEcho.{at}
 use Rattle.lists.proofs.AllLaws.{all_each, all_keep}
-use Rattle.edges.specs.Edges.{next, look, sees, Pair, begun, plus, gathered, first_is, second_is, records_of, records, greater_first, used}
+use Rattle.edges.specs.Edges.{next, look, sees, begun, plus, gathered, first_is, second_is, records_of, records, greater_first, used}
+use Rattle.edges.specs.declared.edges.Pair.{Pair}
 use Rattle.edges.specs.declared.edges.Shape.{Shape}
 use Rattle.edges.specs.declared.edges.Direction.{Direction}
 use Rattle.edges.specs.declared.edges.EdgeRecord.{EdgeRecord}

@@ -16,7 +16,8 @@ use Rattle.locality.proofs.Spot.{shift, flag, shift_inj}
 use Rattle.locality.proofs.RootsEcho.{at}
 use Rattle.locality.proofs.LabelEcho.{Parts}
 use Rattle.lists.proofs.AllLaws.{all_each}
-use Rattle.edges.specs.Edges.{next, skip, look, sees, bridges, Pair, pair_to, pairs_at, pairs}
+use Rattle.edges.specs.Edges.{next, skip, look, sees, bridges, pair_to, pairs_at, pairs}
+use Rattle.edges.specs.declared.edges.Pair.{Pair}
 use Rattle.edges.proofs.Bridged.{look_on}
 use Rattle.edges.specs.declared.edges.Shape.{Shape}
 use Rattle.edges.specs.declared.edges.Direction.{Direction}

@@ -6,6 +6,5 @@ pub mod PassSteps
 pub mod PassedLaws
 pub mod TwoPasses
 pub mod TreeLaws
-pub mod CopyTurn
 pub mod NumberTurn
 pub mod StartsTurn

@@ -1,5 +1,5 @@
 -- The winner tree, over plain values. Assumes nothing.
-use mathlib.Core.Path.{◌≡◌, refl, sym, ap, ◌∙◌, subst}
+use mathlib.Core.Path.{◌≡◌, refl, sym, ap, ◌∙◌}
 use mathlib.Core.Logic.{◌⊎◌, inl, inr, ⊎_elim}
 use mathlib.Core.Bool.{Bool, true, false, cond}
 use mathlib.Core.List.{List}
@@ -13,7 +13,7 @@ use Rattle.lists.specs.Inside.Seg.{seg, put}
 use Rattle.lists.specs.Seq.{upto}
 use Rattle.lists.proofs.SegLaws.{lt_or_le, eq_or_ne, length-put, get_or-put_in, seg-put_below, drop-put_above}
 use Rattle.lists.proofs.SeqLaws.{upto-length, upto_at}
-use Rattle.memory.specs.Inside.Tree.{pick, up, On, Beats, Won, Played, Dirty, Tree, Built, Weighed, Best}
+use Rattle.memory.specs.Inside.Tree.{pick, winner, Game, up, On, Beats, Won, Played, Dirty, Tree, Built, Weighed, Best}
 
 -- ---- which is better
 beats_refl : (w : List ℕ) (x : ℕ) → Beats w x x
@@ -74,10 +74,13 @@ off_zero : (j : ℕ) → 1 ≤ j → On 0 j → ⊥
 off_zero j h o = omega (arith, up_zero o.0, o.1)
 
 -- ---- one game
-module _ (m : ℕ) (w : List ℕ) (lo dirty k v : ℕ) (h : Played m w lo dirty) (k-lo : lo ≤ 2 * k) (k-pos : 1 ≤ k) (k_lt : k < m)
-    (e : v ≡ pick (get_or w (get_or w (m + 2 * k) 0) 0) (get_or w (get_or w (m + 2 * k + 1) 0) 0) (get_or w (m + 2 * k) 0) (get_or w (m + 2 * k + 1) 0)) where
+module _ (m : ℕ) (w : List ℕ) (lo dirty k : ℕ) (h : Played m w lo dirty) (k-lo : lo ≤ 2 * k) (k-pos : 1 ≤ k) (k_lt : k < m) where
+  abbrev v : ℕ
+  v = winner m w k
+
   game : Picked w (get_or w (m + 2 * k) 0) (get_or w (m + 2 * k + 1) 0) v
-  game = rw e (picked w (get_or w (m + 2 * k) 0) (get_or w (m + 2 * k + 1) 0))
+  unfolding winner
+  game = picked w (get_or w (m + 2 * k) 0) (get_or w (m + 2 * k + 1) 0)
 
   kept : (j : ℕ) → (j ≡ m + k → ⊥) → get_or (set w (m + k) v) j 0 ≡ get_or w j 0
   kept j n = get_or-set_other w (m + k) j v 0 n
@@ -130,33 +133,29 @@ module _ (m : ℕ) (w : List ℕ) (lo dirty k v : ℕ) (h : Played m w lo dirty)
   leaf_kept x p = kept (m + (m + x)) (λ r. omega arith) ∙ h.leaf x p
 
 -- a game on the way up
-play_step : (m : ℕ) (w : List ℕ) (k v : ℕ) → Dirty m w k → 1 ≤ k → k < m
-    → v ≡ pick (get_or w (get_or w (m + 2 * k) 0) 0) (get_or w (get_or w (m + 2 * k + 1) 0) 0) (get_or w (m + 2 * k) 0) (get_or w (m + 2 * k + 1) 0)
-    → Dirty m (set w (m + k) v) (k / 2)
+play_step : (m : ℕ) (w : List ℕ) (k : ℕ) → Dirty m w k → 1 ≤ k → k < m → Dirty m (set w (m + k) (winner m w k)) (k / 2)
 unfolding up
-play_step m w k v h p q e = record {
-  room = omega (arith, h.room, length-set w (m + k) v);
-  leaf = leaf_kept m w 1 k k v h (omega arith) p q e;
-  small = λ j a b c. ⊎_elim (λ t. rw (t, here m w 1 k k v h (omega arith) p q e) (v_small m w 1 k k v h (omega arith) p q e)) (λ t. omega (arith, kept m w 1 k k v h (omega arith) p q e (m + j) (λ r. t (omega arith)), h.small j a b c)) (eq_or_ne j k);
-  below = λ j a b c. ⊎_elim (λ t. rw (t, here m w 1 k k v h (omega arith) p q e) (v_below m w 1 k k v h (omega arith) p q e)) (λ t. rw (kept m w 1 k k v h (omega arith) p q e (m + j) (λ r. t (omega arith))) (h.below j a b c)) (eq_or_ne j k);
+play_step m w k h p q = record {
+  room = omega (arith, h.room, length-set w (m + k) (winner m w k));
+  leaf = leaf_kept m w 1 k k h (omega arith) p q;
+  small = λ j a b c. ⊎_elim (λ t. rw (t, here m w 1 k k h (omega arith) p q) (v_small m w 1 k k h (omega arith) p q)) (λ t. omega (arith, kept m w 1 k k h (omega arith) p q (m + j) (λ r. t (omega arith)), h.small j a b c)) (eq_or_ne j k);
+  below = λ j a b c. ⊎_elim (λ t. rw (t, here m w 1 k k h (omega arith) p q) (v_below m w 1 k k h (omega arith) p q)) (λ t. rw (kept m w 1 k k h (omega arith) p q (m + j) (λ r. t (omega arith))) (h.below j a b c)) (eq_or_ne j k);
   won = λ j a b c o. ⊎_elim
-      (λ t. rw t (won_here m w 1 k k v h (omega arith) p q e))
-      (λ t. won_else m w 1 k k v h (omega arith) p q e j a b c t (λ s. o (0, s)) (h.won j a b c (λ s. ⊎_elim (λ y. t (sym y)) o (on_split k j s))))
+      (λ t. rw t (won_here m w 1 k k h (omega arith) p q))
+      (λ t. won_else m w 1 k k h (omega arith) p q j a b c t (λ s. o (0, s)) (h.won j a b c (λ s. ⊎_elim (λ y. t (sym y)) o (on_split k j s))))
       (eq_or_ne j k);
 }
 
 -- a game while the tree is built
-build_step : (m : ℕ) (w : List ℕ) (k v : ℕ) → Played m w (k + 1) 0 → 1 ≤ k → k < m
-    → v ≡ pick (get_or w (get_or w (m + 2 * k) 0) 0) (get_or w (get_or w (m + 2 * k + 1) 0) 0) (get_or w (m + 2 * k) 0) (get_or w (m + 2 * k + 1) 0)
-    → Played m (set w (m + k) v) k 0
-build_step m w k v h p q e = record {
-  room = omega (arith, h.room, length-set w (m + k) v);
-  leaf = leaf_kept m w (k + 1) 0 k v h (omega arith) p q e;
-  small = λ j a b c. ⊎_elim (λ t. rw (t, here m w (k + 1) 0 k v h (omega arith) p q e) (v_small m w (k + 1) 0 k v h (omega arith) p q e)) (λ t. omega (arith, kept m w (k + 1) 0 k v h (omega arith) p q e (m + j) (λ r. t (omega arith)), h.small j (omega arith) b c)) (eq_or_ne j k);
-  below = λ j a b c. ⊎_elim (λ t. rw (t, here m w (k + 1) 0 k v h (omega arith) p q e) (v_below m w (k + 1) 0 k v h (omega arith) p q e)) (λ t. rw (kept m w (k + 1) 0 k v h (omega arith) p q e (m + j) (λ r. t (omega arith))) (h.below j (omega arith) b c)) (eq_or_ne j k);
+build_step : (m : ℕ) (w : List ℕ) (k : ℕ) → Played m w (k + 1) 0 → 1 ≤ k → k < m → Played m (set w (m + k) (winner m w k)) k 0
+build_step m w k h p q = record {
+  room = omega (arith, h.room, length-set w (m + k) (winner m w k));
+  leaf = leaf_kept m w (k + 1) 0 k h (omega arith) p q;
+  small = λ j a b c. ⊎_elim (λ t. rw (t, here m w (k + 1) 0 k h (omega arith) p q) (v_small m w (k + 1) 0 k h (omega arith) p q)) (λ t. omega (arith, kept m w (k + 1) 0 k h (omega arith) p q (m + j) (λ r. t (omega arith)), h.small j (omega arith) b c)) (eq_or_ne j k);
+  below = λ j a b c. ⊎_elim (λ t. rw (t, here m w (k + 1) 0 k h (omega arith) p q) (v_below m w (k + 1) 0 k h (omega arith) p q)) (λ t. rw (kept m w (k + 1) 0 k h (omega arith) p q (m + j) (λ r. t (omega arith))) (h.below j (omega arith) b c)) (eq_or_ne j k);
   won = λ j a b c o. ⊎_elim
-      (λ t. rw t (won_here m w (k + 1) 0 k v h (omega arith) p q e))
-      (λ t. won_else m w (k + 1) 0 k v h (omega arith) p q e j (omega arith) b c t (λ s. omega arith) (h.won j (omega arith) b c o))
+      (λ t. rw t (won_here m w (k + 1) 0 k h (omega arith) p q))
+      (λ t. won_else m w (k + 1) 0 k h (omega arith) p q j (omega arith) b c t (λ s. omega arith) (h.won j (omega arith) b c o))
       (eq_or_ne j k);
 }
 
@@ -211,12 +210,6 @@ best_of m w h p = record {
 }
 
 -- ---- turns of the loops
-pub record Game (m : ℕ) (w : List ℕ) (k : ℕ) : Type 0 where
-  pub left_in : m + 2 * k + 1 < length w
-  pub i_lt : get_or w (m + 2 * k) 0 < length w
-  pub j_lt : get_or w (m + 2 * k + 1) 0 < length w
-  pub k_in : m + k < length w
-
 pub game_in : (m : ℕ) (w : List ℕ) (lo dirty k : ℕ) → Played m w lo dirty → lo ≤ 2 * k → 1 ≤ k → k < m → Game m w k
 game_in m w lo dirty k h a b c =
     let z : m + (2 * k + 1) ≡ m + 2 * k + 1 = omega arith in
@@ -242,15 +235,14 @@ outside m w₀ w lo dirty k v lo' dirty' p lt h = record {
   played = h;
 }
 
-pub play_turn : (m : ℕ) (w₀ w : List ℕ) (k v : ℕ) → Playing m w₀ w 1 k → 0 < k → k < m
-    → v ≡ pick (get_or w (get_or w (m + 2 * k) 0) 0) (get_or w (get_or w (m + 2 * k + 1) 0) 0) (get_or w (m + 2 * k) 0) (get_or w (m + 2 * k + 1) 0)
-    → Playing m w₀ (set w (m + k) v) 1 (k / 2)
-play_turn m w₀ w k v p a b e = outside m w₀ w 1 k k v 1 (k / 2) p b (play_step m w k v p.played a b e)
+pub play_turn : (m : ℕ) (w₀ w : List ℕ) (k : ℕ) → Playing m w₀ w 1 k → 0 < k → k < m → Playing m w₀ (set w (m + k) (winner m w k)) 1 (k / 2)
+play_turn m w₀ w k p a b = outside m w₀ w 1 k k (winner m w k) 1 (k / 2) p b (play_step m w k p.played a b)
 
-build_turn : (m : ℕ) (w₀ w : List ℕ) (k v : ℕ) → Playing m w₀ w (k + 1) 0 → 0 < k → k < m
-    → v ≡ pick (get_or w (get_or w (m + 2 * k) 0) 0) (get_or w (get_or w (m + 2 * k + 1) 0) 0) (get_or w (m + 2 * k) 0) (get_or w (m + 2 * k + 1) 0)
-    → Playing m w₀ (set w (m + k) v) k 0
-build_turn m w₀ w k v p a b e = outside m w₀ w (k + 1) 0 k v k 0 p b (build_step m w k v p.played a b e)
+-- the countdown has k: the game is at k - 1
+pub build_turn : (m : ℕ) (w₀ w : List ℕ) (k : ℕ) → Playing m w₀ w k 0 → 1 < k → k ≤ m → Playing m w₀ (set w (m + (k - 1)) (winner m w (k - 1))) (k - 1) 0
+build_turn m w₀ w k p a b =
+    let z : k ≡ k - 1 + 1 = omega arith in
+    outside m w₀ w k 0 (k - 1) (winner m w (k - 1)) (k - 1) 0 p (omega arith) (build_step m w (k - 1) (rw z at p.played) (omega arith) (omega arith))
 
 pub play_end : (m : ℕ) (w₀ w : List ℕ) (k : ℕ) → Playing m w₀ w 1 k → k ≤ 0 → Weighed m w₀ w
 play_end m w₀ w k p h = let z : k ≡ 0 = omega arith in record { weights = p.weights; rest = p.rest; long = p.long; tree = rw z at p.played }
@@ -294,12 +286,6 @@ build_start m w₀ w b = record { weights = refl; rest = refl; long = refl; play
 pub build_all : (m : ℕ) (w₀ w₁ w : List ℕ) (k : ℕ) → Built m m w₀ w₁ → Playing m w₁ w k 0 → k ≤ 1 → Weighed m w₀ w
 build_all m w₀ w₁ w k b p h = let e : Weighed m w₁ w = build_end m w₁ w k p h in
     record { weights = e.weights ∙ b.weights; rest = e.rest ∙ b.rest; long = e.long ∙ b.long; tree = e.tree }
-
-pub build_less : (m : ℕ) (w₀ w : List ℕ) (k v : ℕ) → Playing m w₀ w k 0 → 1 < k → k ≤ m
-    → v ≡ pick (get_or w (get_or w (m + 2 * (k - 1)) 0) 0) (get_or w (get_or w (m + 2 * (k - 1) + 1) 0) 0) (get_or w (m + 2 * (k - 1)) 0) (get_or w (m + 2 * (k - 1) + 1) 0)
-    → Playing m w₀ (set w (m + (k - 1)) v) (k - 1) 0
-build_less m w₀ w k v p a b e = let z : k ≡ k - 1 + 1 = omega arith in
-    build_turn m w₀ w (k - 1) v (subst (λ (x : ℕ). Playing m w₀ w x 0) z p) (omega arith) (omega arith) e
 
 -- a tree read alike is a tree
 pub played_like : (m : ℕ) (u w : List ℕ) (lo dirty : ℕ) → length u ≡ length w → ((i : ℕ) → i < 3 * m → get_or u i 0 ≡ get_or w i 0) → Played m w lo dirty → Played m u lo dirty

@@ -48,10 +48,7 @@ pub const NODE_TABLES: usize = 8;
 // The log of merges lies behind these tables: so many words an entry, and one entry an edge, since a merge consumes one.
 pub const ENTRY: usize = 6;
 
-// Counts, and the numbers that nodes are moved by, are kept as words with 1,000 added: the word of 0, of 1,000, and of a number that
-// question 9 refuses.
+// Counts, and the numbers that nodes are moved by, are kept as words with 1,000 added: the word of 0, and of 1,000.
 pub const ZERO: u32 = 1000;
 
 pub const MOST: u32 = 2000;
-
-pub const BEYOND: u32 = 2001;

@@ -1,9 +1,10 @@
 // A winner tree over the first m words of a lent slice, the weights: the word at m + k is the winner below place k, for k from 1
 // to 2m - 1. Places m and up are the leaves, place k has the children 2k and 2k + 1, and 1 is the root.
-ghost use Rattle.std.specs.Prelude.{◌≡◌, ◌+◌, ◌*◌, ◌/◌, ◌≤◌, ◌<◌, ◌^◌, length, set};
-ghost use Rattle.memory.specs.Inside.Tree.{pick, Dirty, Tree, Weighed, Best};
+ghost use Rattle.std.specs.Prelude.{◌≡◌, ◌+◌, ◌*◌, ◌/◌, ◌≤◌, ◌<◌, ◌^◌, length, set, slice_set};
+ghost use Rattle.memory.specs.Inside.Tree.{pick, winner, Game, Dirty, Tree, Weighed, Best};
 
 // The heavier of i and j, of weights a and b; the lower at equal weights.
+#[tactic(auto, unfolding(crate::specs::Inside::Tree::pick))]
 fn pick(a: u32, b: u32, i: u32, j: u32) -> u32
     ensures { result ≡ pick a b i j }
 {
@@ -19,21 +20,26 @@ fn pick(a: u32, b: u32, i: u32, j: u32) -> u32
     j
 }
 
-// Plays again on the way from place k to the root.
-fn play(w: &mut [u32], m: usize, k0: usize)
-    requires dirty { Dirty m w.old k0 }
-    requires k0_lt_m { k0 < m }
+// The winner of the two children of place k goes to place k.
+#[tactic(auto, unfolding(crate::specs::Inside::Tree::winner))]
+fn game(w: &mut [u32], m: usize, k: usize)
+    requires { Game m w.old k }
+    ensures { w.new ≡ slice_set w.old (m + k) (winner m w.old k) }
+{
+    let i = w[m + 2 * k];
+    let j = w[m + 2 * k + 1];
+    w[m + k] = pick(w[i as usize], w[j as usize], i, j);
+}
+
+// Plays again on the way from place k to the root. A while: the place is halved, not counted.
+fn play(w: &mut [u32], m: usize, mut k: usize)
+    requires dirty { Dirty m w.old k }
+    requires k_lt_m { k < m }
     ensures { Weighed m w.old w.new }
 {
-    let mut k = k0;
     while k > 0 {
-        let i = w[m + 2 * k];
-        let j = w[m + 2 * k + 1];
-        let a = w[i as usize];
-        let b = w[j as usize];
-        let t = pick(a, b, i, j);
-        w[m + k] = t;
-        k = k / 2;
+        game(w, m, k);
+        k /= 2;
     }
 }
 
@@ -53,15 +59,8 @@ pub fn build(w: &mut [u32], m: usize)
     ensures { Weighed m w.old w.new }
 {
     crate::words::number(w, m + m, m);
-    let mut k = m;
-    while k > 1 {
-        k -= 1;
-        let i = w[m + 2 * k];
-        let j = w[m + 2 * k + 1];
-        let a = w[i as usize];
-        let b = w[j as usize];
-        let t = pick(a, b, i, j);
-        w[m + k] = t;
+    for k in (1..m).rev() {
+        game(w, m, k);
     }
 }
 

@@ -50,13 +50,13 @@ module _ (w g : ℕ) (wf : w < 2 ^ 32) (h : g ≤ 2000) where
   unfolding unbias
   less = ap (λ (z : ℤ). z -ℤ pos 1000) (to_z_pos w64 g (omega arith))
 
-  pub less_fits : SFits w64 (to_z w64 g -ℤ pos 1000)
+  less_fits : SFits w64 (to_z w64 g -ℤ pos 1000)
   less_fits = subst (SFits w64) (sym less) (mag_bound g h)
 
   times : to_z w64 w *ℤ to_z w64 (of_z w64 (to_z w64 g -ℤ pos 1000)) ≡ pos w *ℤ unbias g
   times = ap (λ (z : ℤ). z *ℤ to_z w64 (of_z w64 (to_z w64 g -ℤ pos 1000))) (to_z_pos w64 w (omega arith)) ∙ ap (λ (z : ℤ). pos w *ℤ z) (to_z-of_z w64 (to_z w64 g -ℤ pos 1000) less_fits ∙ less)
 
-  pub times_fits : SFits w64 (to_z w64 w *ℤ to_z w64 (of_z w64 (to_z w64 g -ℤ pos 1000)))
+  times_fits : SFits w64 (to_z w64 w *ℤ to_z w64 (of_z w64 (to_z w64 g -ℤ pos 1000)))
   times_fits = subst (SFits w64) (sym times) (prod_bound w g wf h)
 
   pub times_back : to_z w64 (of_z w64 (to_z w64 w *ℤ to_z w64 (of_z w64 (to_z w64 g -ℤ pos 1000)))) ≡ pos w *ℤ unbias g

@@ -1,5 +1,5 @@
 -- The tables that a step leaves alone. Assumes nothing.
-use Rattle.std.proofs.Common.{◌≡◌, ℕ, zero, suc, ◌+◌, ◌-◌, ◌*◌, ◌/◌, Bool, true, false, cond, ◌||◌, eqb, ltb, get_or, refl}
+use Rattle.std.proofs.Common.{◌≡◌, ℕ, zero, suc, ◌+◌, ◌-◌, ◌*◌, ◌/◌, Bool, true, false, cond, Option, Some, None, ◌||◌, eqb, ltb, get_or, refl}
 use lib.Ieee.{nan, Float, neg}
 use Rattle.merge.specs.Inside.Table.{Table, weight, first, second, bridged, enext, elen, is}
 use Rattle.merge.specs.Inside.Tables.{Tables, store}
@@ -45,11 +45,11 @@ frame_attach b s f c x = frame_then _ _ _ (alike_diff of_edges _ f x) (frame_the
 
 frame_join : (m b : ℕ) (s : Tables) (f c : ℕ) (x : Float) → Frame (join_edge m b s f c x) s
 unfolding join_edge
-frame_join m b s f c x = go (ltb (mate m b s c) m)
+frame_join m b s f c x = go (mate m b s c)
   where
-    go : (t : Bool) → Frame (cond t (absorb_at (face_at s (mate m b s c)) (mate m b s c) f x) (attach_at b s f c x)) s
-    go true = frame_then _ _ _ (frame_absorb (face_at s (mate m b s c)) (mate m b s c) f x) (frame_face s (mate m b s c))
-    go false = frame_attach b s f c x
+    go : (o : Option ℕ) → Frame (elim o [ Some q ↦ absorb_at (face_at s q) q f x | None ↦ attach_at b s f c x ]) s
+    go (Some q) = frame_then _ _ _ (frame_absorb (face_at s q) q f x) (frame_face s q)
+    go None = frame_attach b s f c x
 
 frame_moved : (m b v g : ℕ) (s : Tables) (f : ℕ) → Frame (moved_edge m b v g s f) s
 unfolding moved_edge

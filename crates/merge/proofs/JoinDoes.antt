@@ -1,5 +1,5 @@
 -- `absorb`, `join_edge`, `moved_edge` and `take_edge` over plain values. Assumes nothing.
-use Rattle.std.proofs.Common.{◌≡◌, ℕ, ◌+◌, ◌*◌, ◌<◌, ◌≤◌, true, false, T, eqb, List, length, get_or, set, sym, refl, ap, ◌∙◌, subst, length-set, le-ltb, lt-ltb, eq-eqb, ne_eqb}
+use Rattle.std.proofs.Common.{◌≡◌, ℕ, ◌+◌, ◌*◌, ◌<◌, ◌≤◌, true, false, T, Some, None, eqb, List, get_or, set, sym, refl, ap, ◌∙◌, subst, le-ltb, lt-ltb, eq-eqb, ne_eqb}
 use lib.Ieee.{nan, binary32, fits, Float, neg, add}
 use Rattle.merge.specs.Inside.Tables.{Tables, view, HoldsTables, Sound}
 use Rattle.merge.specs.Inside.Table.{weight, first, second, bridged}
@@ -8,41 +8,31 @@ use Rattle.merge.specs.Inside.Leaves.{LeavesTables, OtherEdge, Joins, Gains}
 use Rattle.merge.proofs.View.{weight_at_lem, read, diff_put}
 use Rattle.merge.proofs.SoundSet.{sound_diff}
 use Rattle.merge.proofs.SoundSteps.{add_ok, sound_hand, sound_face, joins_first, joins_second}
-use Rattle.merge.proofs.Leaf.{room_of}
+use Rattle.merge.proofs.Mates.{mate_is}
 
--- the tables before the bridged pairs are handed over, and after it
-pub hand_ready : (m n : ℕ) (w : List ℕ) (d : List Float) (q : ℕ) (x z : Float) → HoldsTables m n w d → Sound m n (view m n w d) → z ≡ add binary32 (get_or d q nan) x
-    → HoldsTables m n w (set d q z) × Sound m n (view m n w (set d q z))
-hand_ready m n w d q x z r h e = (
-  room_of m n w w d (set d q z) r refl (length-set d q z) r.tree,
-  subst (Sound m n) (sym (diff_put m n w d q z)) (sound_diff m n (view m n w d) h q z (subst (λ (y : Float). T (fits binary32 y)) (sym e) (add_ok (get_or d q nan) x))),
-)
+-- the tables stay sound before the bridged pairs are handed over, and after it
+pub ready_sound : (m n : ℕ) (w : List ℕ) (d : List Float) (q : ℕ) (x z : Float) → Sound m n (view m n w d) → z ≡ add binary32 (get_or d q nan) x → Sound m n (view m n w (set d q z))
+ready_sound m n w d q x z h e = subst (Sound m n) (sym (diff_put m n w d q z)) (sound_diff m n (view m n w d) h q z (subst (λ (y : Float). T (fits binary32 y)) (sym e) (add_ok (get_or d q nan) x)))
 
-pub hand_room : (m n : ℕ) (w : List ℕ) (d : List Float) (q f : ℕ) (w₁ : List ℕ) (d₁ : List Float) → HoldsTables m n w d × Sound m n (view m n w d) → OtherEdge m q f → length w₁ ≡ length w → length d₁ ≡ length d
-    → LeavesTables m n w₁ d₁ (hand_over bridged (view m n w d) q f) → HoldsTables m n w₁ d₁ × Sound m n (view m n w₁ d₁)
-hand_room m n w d q f w₁ d₁ r o lw ld D₁ =
-    (room_of m n w w₁ d d₁ r.0 lw ld D₁.tree, subst (Sound m n) (sym D₁.tables) (sound_hand bridged m n (view m n w d) q f r.1 (λ x. tt) o.q_in o.f_in o.apart))
+pub handed_sound : (m n : ℕ) (w : List ℕ) (d : List Float) (q f : ℕ) (w₁ : List ℕ) (d₁ : List Float) → Sound m n (view m n w d) → OtherEdge m q f → LeavesTables m n w₁ d₁ (hand_over bridged (view m n w d) q f) → Sound m n (view m n w₁ d₁)
+handed_sound m n w d q f w₁ d₁ h o D₁ = subst (Sound m n) (sym D₁.tables) (sound_hand bridged m n (view m n w d) q f h (λ x. tt) o.q_in o.f_in o.apart)
 
-pub join_apart : (m n b : ℕ) (s : Tables) (f c q : ℕ) → Joins m n b s f c → q ≡ mate m b s c → q < m → OtherEdge m q f
-join_apart m n b s f c q j e lt = record { q_in = lt; f_in = j.f_in; apart = λ r. j.other (sym e ∙ r) }
+pub join_apart : (m n b : ℕ) (s : Tables) (f c q : ℕ) → Joins m n b s f c → mate m b s c ≡ Some q → OtherEdge m q f
+join_apart m n b s f c q j e = record { q_in = (mate_is m b c s q e).q_in; f_in = j.f_in; apart = λ r. j.other (e ∙ ap Some r) }
 
-join_absorbs : (m n b : ℕ) (s : Tables) (f c q : ℕ) (x : Float) (w : List ℕ) (d : List Float) → q ≡ mate m b s c → q < m → LeavesTables m n w d (absorb_at (face_at s q) q f x) → LeavesTables m n w d (join_edge m b s f c x)
+pub join_attaches : (m n b : ℕ) (s : Tables) (f c : ℕ) (x : Float) (w : List ℕ) (d : List Float) → mate m b s c ≡ None → LeavesTables m n w d (attach_at b s f c x) → LeavesTables m n w d (join_edge m b s f c x)
 unfolding join_edge
-join_absorbs m n b s f c q x w d e lt h = rw (← e, lt-ltb q m lt) h
-
-pub join_attaches : (m n b : ℕ) (s : Tables) (f c q : ℕ) (x : Float) (w : List ℕ) (d : List Float) → q ≡ mate m b s c → m ≤ q → LeavesTables m n w d (attach_at b s f c x) → LeavesTables m n w d (join_edge m b s f c x)
-unfolding join_edge
-join_attaches m n b s f c q x w d e le h = rw (← e, le-ltb q m le) h
+join_attaches m n b s f c x w d e h = rw (e, join_edge) h
 
 -- the tables once edge f is faced
-pub face_room : (m n : ℕ) (w : List ℕ) (d : List Float) (f : ℕ) (w₁ : List ℕ) (d₁ : List Float) → HoldsTables m n w d → Sound m n (view m n w d) → f < m → length w₁ ≡ length w → length d₁ ≡ length d
-    → LeavesTables m n w₁ d₁ (face_at (view m n w d) f) → HoldsTables m n w₁ d₁ × Sound m n (view m n w₁ d₁)
-face_room m n w d f w₁ d₁ r h lt lw ld D₁ = (room_of m n w w₁ d d₁ r lw ld D₁.tree, subst (Sound m n) (sym D₁.tables) (sound_face m n (view m n w d) f h lt))
+pub faced_sound : (m n : ℕ) (w : List ℕ) (d : List Float) (f : ℕ) (w₁ : List ℕ) (d₁ : List Float) → Sound m n (view m n w d) → f < m → LeavesTables m n w₁ d₁ (face_at (view m n w d) f) → Sound m n (view m n w₁ d₁)
+faced_sound m n w d f w₁ d₁ h lt D₁ = subst (Sound m n) (sym D₁.tables) (sound_face m n (view m n w d) f h lt)
 
 -- the mate is faced before it takes up edge f
-pub join_faced : (m n b : ℕ) (w : List ℕ) (d : List Float) (f c q : ℕ) (x : Float) (w₁ : List ℕ) (d₁ : List Float) (w₂ : List ℕ) (d₂ : List Float) → q ≡ mate m b (view m n w d) c → q < m
+pub join_faced : (m n b : ℕ) (w : List ℕ) (d : List Float) (f c q : ℕ) (x : Float) (w₁ : List ℕ) (d₁ : List Float) (w₂ : List ℕ) (d₂ : List Float) → mate m b (view m n w d) c ≡ Some q
     → LeavesTables m n w₁ d₁ (face_at (view m n w d) q) → LeavesTables m n w₂ d₂ (absorb_at (view m n w₁ d₁) q f x) → LeavesTables m n w₂ d₂ (join_edge m b (view m n w d) f c x)
-join_faced m n b w d f c q x w₁ d₁ w₂ d₂ e lt D₁ D₂ = join_absorbs m n b (view m n w d) f c q x w₂ d₂ e lt (record { tables = D₂.tables ∙ ap (λ (u : Tables). absorb_at u q f x) D₁.tables; tree = D₂.tree })
+unfolding join_edge
+join_faced m n b w d f c q x w₁ d₁ w₂ d₂ e D₁ D₂ = rw (e, join_edge) (record { tables = D₂.tables ∙ ap (λ (u : Tables). absorb_at u q f x) D₁.tables; tree = D₂.tree })
 
 module _ (m n : ℕ) (w : List ℕ) (d : List Float) (r : HoldsTables m n w d) (b v g f : ℕ) where
   pub take_out : m ≤ f → LeavesTables m n w d (take_edge m b v g (view m n w d) f)

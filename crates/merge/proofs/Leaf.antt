@@ -3,41 +3,17 @@ use Rattle.std.proofs.Common.{◌≡◌, ℕ, ◌+◌, ◌*◌, ◌<◌, ◌≤�
 use lib.Seq.{set-get_or}
 use lib.Ieee.{nan, Float, neg, binary32, add}
 use Rattle.memory.specs.Inside.Tree.{Tree, Weighed}
-use Rattle.memory.proofs.TreeLaws.{tree_set}
 use Rattle.memory.specs.Inside.Layout.{table_words}
 use Rattle.lists.specs.Seq.{sum}
 use Rattle.lists.proofs.SeqLaws.{sum_set, sum_one}
 use Rattle.merge.specs.Inside.Tables.{Tables, view, HoldsTables, Sound, store, diff_set}
 use Rattle.merge.specs.Inside.Table.{weight, first, second, bridged, stamp}
-use Rattle.merge.specs.Inside.Steps.{turn_at, turned, face_at, joins_at, hand_over, absorb_at, attach_at}
+use Rattle.merge.specs.Inside.Steps.{turn_at, turned, face_at, joins_at, hand_over, absorb_at}
 use Rattle.merge.specs.Inside.Leaves.{LeavesTables}
-use Rattle.merge.proofs.View.{weight_at_lem, read, weight_put, write, diff_put, view_weighed}
+use Rattle.merge.proofs.View.{weight_at_lem, read, weight_put, diff_put, view_weighed}
+use Rattle.merge.proofs.Stores.{holding, leaves, stored, stored_diff, added}
 
 module _ (m n : ℕ) (w : List ℕ) (d : List Float) (r : HoldsTables m n w d) where
-  -- the stores of edge f: its ends and its difference
-  module _ (f x y : ℕ) (z : Float) (lt : f < m) where
-    stored_does : LeavesTables m n (set (set w (3 * m + f) x) (4 * m + f) y) (set d f z) (diff_set (store second (store first (view m n w d) f x) f y) f z)
-    unfolding diff_set store
-    stored_does =
-        let d' : List Float = set d f z in
-        let w₁ : List ℕ = set w (3 * m + f) x in
-        let l₀ : table_words m n ≤ length w = r.words in
-        let l₁ : length w₁ ≡ length w = length-set w (3 * m + f) x in
-        record {
-          tables =
-              write second m n w₁ d' f y lt (omega arith)
-              ∙ ap (λ (s : Tables). store second s f y) (write first m n w d' f x lt l₀
-              ∙ ap (λ (s : Tables). store first s f x) (diff_put m n w d f z));
-          tree = tree_set m w₁ (4 * m + f) y (omega arith) (tree_set m w (3 * m + f) x (omega arith) r.tree);
-        }
-
-  pub attach_does : (b f c : ℕ) (x : Float) → f < m → LeavesTables m n (set (set w (3 * m + f) b) (4 * m + f) c) (set d f x) (attach_at b (view m n w d) f c x)
-  unfolding attach_at
-  attach_does b f c x h = stored_does f b c x h
-
-  pub stamp_does : (b k : ℕ) → b < n → LeavesTables m n (set w (8 * m + 2 * n + b) k) d (store stamp (view m n w d) b k)
-  stamp_does b k h = record { tables = write stamp m n w d b k h r.words; tree = tree_set m w (8 * m + 2 * n + b) k (omega arith) r.tree }
-
   -- face
   module _ (f : ℕ) (lt : f < m) (h : Sound m n (view m n w d)) where
     abbrev x : ℕ
@@ -63,7 +39,8 @@ module _ (m n : ℕ) (w : List ℕ) (d : List Float) (r : HoldsTables m n w d) w
         let p : get_or ((view m n w d).at first) f 0 ≡ x = read first m n w d f lt in
         let q : get_or ((view m n w d).at second) f 0 ≡ y = read second m n w d f lt in
         let u : get_or (view m n w d).diff f nan ≡ get_or d f nan = unfold view in refl in
-        rw (turned_words, lt-ltb (get_or w (8 * m + 2 * n + x) 0) (get_or w (8 * m + 2 * n + y) 0) e, p, q, u) (stored_does f y x (neg (get_or d f nan)) lt)
+        rw (turned_words, lt-ltb (get_or w (8 * m + 2 * n + x) 0) (get_or w (8 * m + 2 * n + y) 0) e, p, q, u)
+        (leaves (stored_diff (stored (stored (holding r) first refl f y y lt refl) second refl f x x lt refl) f (neg (get_or d f nan))))
 
   -- joins
   module _ (b c f : ℕ) where
@@ -103,15 +80,7 @@ room_of m n w u d e r a b t = record { words = omega (arith, r.words); diffs = o
 pub hand_does : (m n : ℕ) (w : List ℕ) (d : List Float) (q f : ℕ) → HoldsTables m n w d → q < m → f < m
     → LeavesTables m n (set (set w (5 * m + q) (get_or w (5 * m + q) 0 + get_or w (5 * m + f) 0)) (5 * m + f) 0) d (hand_over bridged (view m n w d) q f)
 unfolding hand_over
-hand_does m n w d q f r hq hf =
-    let b : ℕ = get_or w (5 * m + q) 0 + get_or w (5 * m + f) 0 in
-    let w₁ : List ℕ = set w (5 * m + q) b in
-    let l₁ : length w₁ ≡ length w = length-set w (5 * m + q) b in
-    record {
-      tables = rw (read bridged m n w d q hq, read bridged m n w d f hf)
-          (write bridged m n w₁ d f 0 hf (omega (arith, r.words)) ∙ ap (λ (s : Tables). store bridged s f 0) (write bridged m n w d q b hq r.words));
-      tree = tree_set m w₁ (5 * m + f) 0 (omega arith) (tree_set m w (5 * m + q) b (omega arith) r.tree);
-    }
+hand_does m n w d q f r hq hf = leaves (stored (added (holding r) bridged refl q f hq hf) bridged refl f 0 0 hf refl)
 
 -- an edge without bridged pairs hands nothing over
 unmoved : (l : List ℕ) (i j : ℕ) → get_or l j 0 ≡ 0 → set (set l i (get_or l i 0 + get_or l j 0)) j 0 ≡ l
@@ -124,19 +93,19 @@ pub hand_none : (m n : ℕ) (w : List ℕ) (d : List Float) (q f : ℕ) → Hold
 hand_none m n w d q f r hq hf e =
     subst (λ (v : List ℕ). LeavesTables m n v d (hand_over bridged (view m n w d) q f)) (unmoved w (5 * m + q) (5 * m + f) e) (hand_does m n w d q f r hq hf)
 
-weigh_does : (m n : ℕ) (w w₁ w₂ : List ℕ) (d : List Float) (q f : ℕ) → HoldsTables m n w d → q < m → f < m
+weigh_does : (m n : ℕ) (w w₁ w₂ : List ℕ) (d : List Float) (q f : ℕ) → table_words m n ≤ length w → q < m → f < m
     → Weighed m (set w q (get_or w q 0 + get_or w f 0)) w₁ → Weighed m (set w₁ f 0) w₂ → view m n w₂ d ≡ hand_over weight (view m n w d) q f
 unfolding hand_over
 weigh_does m n w w₁ w₂ d q f r hq hf a b =
     let l : length w₁ ≡ length w = a.long ∙ length-set w q (get_or w q 0 + get_or w f 0) in
     rw (weight_at_lem m n w d q hq, weight_at_lem m n w d f hf)
     (view_weighed m n (set w₁ f 0) w₂ d b
-    ∙ weight_put m n w₁ d f 0 hf (omega (arith, r.words))
+    ∙ weight_put m n w₁ d f 0 hf (omega (arith, r))
     ∙ ap (λ (s : Tables). store weight s f 0) (view_weighed m n (set w q (get_or w q 0 + get_or w f 0)) w₁ d a
-    ∙ weight_put m n w d q (get_or w q 0 + get_or w f 0) hq r.words))
+    ∙ weight_put m n w d q (get_or w q 0 + get_or w f 0) hq r))
 
 -- the bridged pairs were handed over, which gave w₁ and d₁
-pub absorb_does : (m n : ℕ) (w w₁ w₂ w₃ : List ℕ) (d d₁ : List Float) (q f : ℕ) (x z : Float) → HoldsTables m n w₁ d₁ → q < m → f < m
+pub absorb_does : (m n : ℕ) (w w₁ w₂ w₃ : List ℕ) (d d₁ : List Float) (q f : ℕ) (x z : Float) → table_words m n ≤ length w₁ → q < m → f < m
     → z ≡ add binary32 (get_or d q nan) x → LeavesTables m n w₁ d₁ (hand_over bridged (view m n w (set d q z)) q f)
     → Weighed m (set w₁ q (get_or w₁ q 0 + get_or w₁ f 0)) w₂ → Weighed m (set w₂ f 0) w₃
     → LeavesTables m n w₃ d₁ (absorb_at (view m n w d) q f x)

@@ -1,10 +1,10 @@
 pub mod TableLaws
 pub mod View
+pub mod Stores
 pub mod Bias
 pub mod Leaf
 pub mod EndsIn
 pub mod SoundSet
-pub mod SpliceDoes
 pub mod Mates
 pub mod SoundSteps
 pub mod Walks

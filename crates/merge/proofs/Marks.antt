@@ -1,15 +1,14 @@
 -- Marking: one turn of the walk, over plain values, and what else stays. Assumes nothing.
 use Rattle.std.proofs.Common.{◌≡◌, ℕ, zero, suc, ◌+◌, ◌-◌, ◌*◌, ◌<◌, ◌≤◌, Bool, true, false, cond, List, length, get_or, set, sym, refl, ap, ◌∙◌, ⊎_elim, arith, length-set, get_or-set_other, get_or-set_same}
 use lib.Ieee.{Float}
-use Rattle.memory.proofs.TreeLaws.{tree_set}
 use Rattle.merge.specs.Inside.Chain.{cur}
 use Rattle.merge.specs.Inside.Table.{rnext, rlen, mark}
 use Rattle.merge.specs.Inside.Tables.{Tables, view, HoldsTables, Sound, store, with_table}
 use Rattle.merge.specs.Inside.Steps.{walk_mark, marked_all, mark_if}
 use Rattle.merge.specs.Inside.Leaves.{LeavesTables, Fit}
 use Rattle.merge.proofs.WithTable.{with_own, store_with, sound_with}
-use Rattle.merge.proofs.View.{read, write}
-use Rattle.merge.proofs.Leaf.{room_of}
+use Rattle.merge.proofs.View.{read}
+use Rattle.merge.proofs.Stores.{Holding, holding, word, stored}
 use Rattle.merge.proofs.SoundSet.{eq_or_ne}
 
 -- ---- the walk
@@ -51,7 +50,6 @@ pub record MarkWalk (m n : ℕ) (w₀ w : List ℕ) (d : List Float) (l x i : �
   pub marks : List ℕ
   pub tables : view m n w d ≡ with_table mark marks (view m n w₀ d)
   pub left : walk_mark (l - i) ((view m n w₀ d).at rnext) marks x ≡ goal
-  pub same_w : length w ≡ length w₀
 
 module _ (m n : ℕ) where
   pub mark_start : (w : List ℕ) (d : List Float) (v : ℕ) → HoldsTables m n w d → v < n → MarkWalk m n w w d (get_or w (8 * m + 5 * n + v) 0) v 0 (marked_all v (view m n w d))
@@ -62,27 +60,23 @@ module _ (m n : ℕ) where
     marks = (view m n w d).at mark;
     tables = sym (with_own mark (view m n w d));
     left = rw (read rlen m n w d v lt) (ap (λ (y : ℕ). walk_mark y ((view m n w d).at rnext) ((view m n w d).at mark) v) (omega arith));
-    same_w = refl;
   }
 
   module _ (w₀ w : List ℕ) (d : List Float) (h : Sound m n (view m n w₀ d)) (l x i : ℕ) (goal : List ℕ) (k : MarkWalk m n w₀ w d l x i goal) where
     pub mark_turn : i < l → MarkWalk m n w₀ (set w (8 * m + 7 * n + x) 1) d l (get_or (set w (8 * m + 7 * n + x) 1) (8 * m + n + x) 0) (i + 1) goal
-    unfolding walk_mark
+    unfolding walk_mark store
     mark_turn lt =
-        let w' : List ℕ = set w (8 * m + 7 * n + x) 1 in
-        let lw : length w' ≡ length w = length-set w (8 * m + 7 * n + x) 1 in
         let z : l - i ≡ suc (l - (i + 1)) = omega arith in
-        let next : get_or w' (8 * m + n + x) 0 ≡ get_or ((view m n w₀ d).at rnext) x 0 =
-        get_or-set_other w (8 * m + 7 * n + x) (8 * m + n + x) 1 0 (λ r. omega (arith, k.x_in))
-        ∙ sym (read rnext m n w d x k.x_in) ∙ ap (λ (u : Tables). get_or (u.at rnext) x 0) k.tables in
+        let u : Holding m n (set w (8 * m + 7 * n + x) 1) d (store mark (view m n w d) x 1) = stored (holding k.room) mark refl x 1 1 k.x_in refl in
+        let next : get_or (set w (8 * m + 7 * n + x) 1) (8 * m + n + x) 0 ≡ get_or ((view m n w₀ d).at rnext) x 0 =
+        word u rnext x k.x_in ∙ ap (λ (y : Tables). get_or (y.at rnext) x 0) k.tables in
         record {
-          room = room_of m n w w' d d k.room lw refl (tree_set m w (8 * m + 7 * n + x) 1 (omega arith) k.room.tree);
+          room = u.room;
           x_in = omega (arith, next, h.within rnext x k.x_in);
           marks = set k.marks x 1;
-          tables = write mark m n w d x 1 k.x_in k.room.words ∙ ap (λ (u : Tables). store mark u x 1) k.tables ∙ store_with mark k.marks (view m n w₀ d) x 1;
+          tables = u.tables ∙ ap (λ (y : Tables). store mark y x 1) k.tables ∙ store_with mark k.marks (view m n w₀ d) x 1;
           left = ap (walk_mark (l - (i + 1)) ((view m n w₀ d).at rnext) (set k.marks x 1)) next
               ∙ sym (ap (λ (y : ℕ). walk_mark y ((view m n w₀ d).at rnext) k.marks x) z) ∙ k.left;
-          same_w = lw ∙ k.same_w;
         }
 
     pub mark_end : l ≤ i → LeavesTables m n w d (with_table mark goal (view m n w₀ d))

@@ -1,13 +1,14 @@
 -- `hand` and `merge` over plain values. Assumes nothing.
-use Rattle.std.proofs.Common.{◌≡◌, ℕ, zero, suc, ◌+◌, ◌-◌, ◌^◌, ◌<◌, ◌≤◌, Bool, true, false, cond, List, length, get_or, set, sym, refl, ap, ◌∙◌, subst, true≢false, arith, length-set}
+use Rattle.std.proofs.Common.{◌≡◌, ℕ, zero, suc, ◌+◌, ◌-◌, ◌^◌, ◌<◌, ◌≤◌, Bool, true, false, cond, Ok, Err, List, get_or, set, sym, refl, ap, ◌∙◌, subst, arith}
 use mathlib.Core.Option.{Option, none, some, none-ne-some, some-injective}
-use Rattle.memory.specs.Inside.Tree.{Weighed}
+use Rattle.memory.specs.Inside.Tree.{Tree, Weighed}
 use Rattle.merge.specs.Inside.Tables.{Tables, view, HoldsTables, Sound, store}
 use Rattle.merge.specs.Inside.Table.{is, weight, rnext, stamp, size, elen, rlen, count}
 use Rattle.merge.specs.Inside.Steps.{count_in_range, pruned, moved_all, walk_raise, splice, grow, handed, then, merged}
 use Rattle.merge.specs.Inside.Leaves.{LeavesTables, Raised, Gains, Fit}
+use Rattle.merge.specs.declared.merge.MergeRefused.{MergeRefused}
 use Rattle.merge.proofs.View.{weight_put, view_weighed}
-use Rattle.merge.proofs.Leaf.{room_of, sum_less}
+use Rattle.merge.proofs.Leaf.{sum_less}
 use Rattle.merge.proofs.SoundSet.{sound_weight, sound_store}
 use Rattle.merge.proofs.Frames.{Frame, frame_moved_all, of_slots, same_pruned}
 use Rattle.merge.proofs.TableLaws.{Alike, alike_store}
@@ -26,32 +27,26 @@ fit_frame n b v s t a c d f = record {
 }
 
 -- ---- hand
-module _ (m n b v g : ℕ) (w : List ℕ) (d : List Float) (r : HoldsTables m n w d) (h : Sound m n (view m n w d)) (ok : Gains n b v g) (fit : Fit n b v (view m n w d))
-    (w₁ : List ℕ) (d₁ : List Float) (lw₁ : length w₁ ≡ length w) (ld₁ : length d₁ ≡ length d) (D₁ : LeavesTables m n w₁ d₁ (pruned m v (view m n w d))) where
-  pub hand_walk : HoldsTables m n w₁ d₁ × (Sound m n (view m n w₁ d₁) × Gains n b v g)
-  hand_walk = (room_of m n w w₁ d d₁ r lw₁ ld₁ D₁.tree, (subst (Sound m n) (sym D₁.tables) (sound_pruned m n v ok.v_in (view m n w d) h), ok))
+module _ (m n b v g : ℕ) (w : List ℕ) (d : List Float) (ok : Gains n b v g) (w₁ : List ℕ) (d₁ : List Float) (D₁ : LeavesTables m n w₁ d₁ (pruned m v (view m n w d))) where
+  pub hand_walk : Sound m n (view m n w d) → Sound m n (view m n w₁ d₁)
+  hand_walk h = subst (Sound m n) (sym D₁.tables) (sound_pruned m n v ok.v_in (view m n w d) h)
 
-  module _ (w₂ : List ℕ) (d₂ : List Float) (lw₂ : length w₂ ≡ length w₁) (ld₂ : length d₂ ≡ length d₁) (D₂ : LeavesTables m n w₂ d₂ (moved_all m b v g (view m n w₁ d₁))) where
+  module _ (w₂ : List ℕ) (d₂ : List Float) (D₂ : LeavesTables m n w₂ d₂ (moved_all m b v g (view m n w₁ d₁))) where
     went₂ : view m n w₂ d₂ ≡ moved_all m b v g (pruned m v (view m n w d))
     went₂ = D₂.tables ∙ ap (moved_all m b v g) D₁.tables
 
-    pub hand_splice : HoldsTables m n w₂ d₂ × ((b < n) × (v < n))
-    hand_splice = (room_of m n w w₂ d d₂ r (lw₂ ∙ lw₁) (ld₂ ∙ ld₁) D₂.tree, (ok.b_in, ok.v_in))
-
-    module _ (w₃ : List ℕ) (d₃ : List Float) (lw₃ : length w₃ ≡ length w₂) (ld₃ : length d₃ ≡ length d₂) (D₃ : LeavesTables m n w₃ d₃ (splice m b v (view m n w₂ d₂))) where
-      pub hand_grow : HoldsTables m n w₃ d₃ × Fit n b v (view m n w₃ d₃)
+    module _ (w₃ : List ℕ) (d₃ : List Float) (D₃ : LeavesTables m n w₃ d₃ (splice m b v (view m n w₂ d₂))) where
+      pub hand_grow : Fit n b v (view m n w d) → Fit n b v (view m n w₃ d₃)
       unfolding splice store
-      hand_grow =
+      hand_grow fit =
           let s : Tables = view m n w d in
           let f : Frame (moved_all m b v g (pruned m v s)) (pruned m v s) = frame_moved_all m b v g (pruned m v s) in
           let k : Alike of_slots (pruned m v s) s = (same_pruned m v s).beside in
-          let el : (view m n w₃ d₃).at elen ≡ (pruned m v s).at elen = ap (λ (u : Tables). u.at elen) D₃.tables ∙ ap (λ (u : Tables). u.at elen) went₂ ∙ f.at elen in (
-            room_of m n w w₃ d d₃ r (lw₃ ∙ lw₂ ∙ lw₁) (ld₃ ∙ ld₂ ∙ ld₁) D₃.tree,
-            fit_frame n b v (view m n w₃ d₃) s
-                (ap (λ (u : Tables). u.at size) D₃.tables ∙ ap (λ (u : Tables). u.at size) went₂ ∙ f.at size ∙ k.at size)
-                (λ y. subst (λ (l : List ℕ). get_or l y 0 ≤ get_or (s.at elen) y 0) (sym el) (less_pruned m n v ok.v_in s y))
-                (ap (λ (u : Tables). u.at rlen) D₃.tables ∙ ap (λ (u : Tables). u.at rlen) went₂ ∙ f.at rlen ∙ k.at rlen) fit,
-          )
+          let el : (view m n w₃ d₃).at elen ≡ (pruned m v s).at elen = ap (λ (u : Tables). u.at elen) D₃.tables ∙ ap (λ (u : Tables). u.at elen) went₂ ∙ f.at elen in
+          fit_frame n b v (view m n w₃ d₃) s
+          (ap (λ (u : Tables). u.at size) D₃.tables ∙ ap (λ (u : Tables). u.at size) went₂ ∙ f.at size ∙ k.at size)
+          (λ y. subst (λ (l : List ℕ). get_or l y 0 ≤ get_or (s.at elen) y 0) (sym el) (less_pruned m n v ok.v_in s y))
+          (ap (λ (u : Tables). u.at rlen) D₃.tables ∙ ap (λ (u : Tables). u.at rlen) went₂ ∙ f.at rlen ∙ k.at rlen) fit
 
       pub hand_does : (w₄ : List ℕ) (d₄ : List Float) → LeavesTables m n w₄ d₄ (grow b v (view m n w₃ d₃)) → LeavesTables m n w₄ d₄ (handed m b v g (view m n w d))
       unfolding handed
@@ -75,93 +70,73 @@ raise_keeps m n g (suc k) s x t e lt h = go (count_in_range (get_or (s.at count)
         (w.0, counted_store t s x _ w.1)
     go false a q ih = absurd (none-ne-some t q)
 
-pub raised_true : (m n : ℕ) (w : List ℕ) (d : List Float) (o : Option Tables) (r : Bool) → Raised m n w d o r → r ≡ true → (t : Tables) × (o ≡ some t) × LeavesTables m n w d t
+pub raised_ok : (m n : ℕ) (w : List ℕ) (d : List Float) (o : Option Tables) → Raised m n w d o (Ok tt) → (t : Tables) × (o ≡ some t) × LeavesTables m n w d t
 unfolding Raised
-raised_true m n w d none r h e = absurd (true≢false (sym e ∙ h))
-raised_true m n w d (some t) r h e = (t, refl, h.1)
+raised_ok m n w d none h = cc
+raised_ok m n w d (some t) h = (t, refl, h.1)
 
-pub raised_false : (m n : ℕ) (w : List ℕ) (d : List Float) (o : Option Tables) (r : Bool) → Raised m n w d o r → r ≡ false → o ≡ none
+pub raised_err : (m n : ℕ) (w : List ℕ) (d : List Float) (o : Option Tables) (why : MergeRefused) → Raised m n w d o (Err why) → o ≡ none
 unfolding Raised
-raised_false m n w d none r h e = refl
-raised_false m n w d (some t) r h e = absurd (true≢false (sym h.0 ∙ e))
+raised_err m n w d none why h = refl
+raised_err m n w d (some t) why h = let f = h.0 in cc
 
-module _ (m n b v g k e : ℕ) (w : List ℕ) (d : List Float) (r : HoldsTables m n w d) (h : Sound m n (view m n w d)) (ok : Gains n b v g) (fit : Fit n b v (view m n w d)) (lt : e < m)
-    (w₁ : List ℕ) (D₁ : Weighed m (set w e 0) w₁) where
+module _ (m n b v g k e : ℕ) (w : List ℕ) (d : List Float) (r : HoldsTables m n w d) (h : Sound m n (view m n w d)) (ok : Gains n b v g) (lt : e < m)
+    (w₁ : List ℕ) (D₁ : Weighed m (set w e 0) w₁) (w₂ : List ℕ) (d₂ : List Float) (D₂ : LeavesTables m n w₂ d₂ (store stamp (view m n w₁ d) b k)) where
   abbrev s : Tables
   s = view m n w d
 
-  len₁ : length w₁ ≡ length w
-  len₁ = D₁.long ∙ length-set w e 0
-
-  tables₁ : view m n w₁ d ≡ store weight s e 0
-  tables₁ = view_weighed m n (set w e 0) w₁ d D₁ ∙ weight_put m n w d e 0 lt r.words
+  tables₂ : view m n w₂ d₂ ≡ store stamp (store weight s e 0) b k
+  tables₂ = D₂.tables ∙ ap (λ (u : Tables). store stamp u b k) (view_weighed m n (set w e 0) w₁ d D₁ ∙ weight_put m n w d e 0 lt r.words)
 
   sound₁ : Sound m n (store weight s e 0)
   sound₁ = sound_weight m n s h e 0 (omega (arith, sum_less (s.at weight) e (omega (arith, h.lengths weight)), h.light))
 
-  pub merge_stamp : HoldsTables m n w₁ d × (b < n)
-  merge_stamp = (room_of m n w w₁ d d r len₁ refl D₁.tree, ok.b_in)
+  pub merge_raise : Sound m n (view m n w₂ d₂)
+  merge_raise = subst (Sound m n) (sym tables₂) (sound_store stamp m n (store weight s e 0) sound₁ b k refl refl tt)
 
-  module _ (w₂ : List ℕ) (d₂ : List Float) (lw₂ : length w₂ ≡ length w₁) (ld₂ : length d₂ ≡ length d) (D₂ : LeavesTables m n w₂ d₂ (store stamp (view m n w₁ d) b k)) where
-    tables₂ : view m n w₂ d₂ ≡ store stamp (store weight s e 0) b k
-    tables₂ = D₂.tables ∙ ap (λ (u : Tables). store stamp u b k) tables₁
+  beside₂ : Alike (is stamp) (view m n w₂ d₂) (store weight s e 0)
+  unfolding store
+  beside₂ = subst (λ (u : Tables). Alike (is stamp) u (store weight s e 0)) (sym tables₂) (alike_store (is stamp) stamp (store weight s e 0) b k refl)
 
-    room₂ : HoldsTables m n w₂ d₂
-    room₂ = room_of m n w w₂ d d₂ r (lw₂ ∙ len₁) ld₂ D₂.tree
+  elen₂ : (view m n w₂ d₂).at elen ≡ s.at elen
+  unfolding store
+  elen₂ = ap (λ (u : Tables). u.at elen) tables₂
 
-    sound₂ : Sound m n (view m n w₂ d₂)
-    sound₂ = subst (Sound m n) (sym tables₂) (sound_store stamp m n (store weight s e 0) sound₁ b k refl refl tt)
+  rlen₂ : get_or ((view m n w₂ d₂).at rlen) v 0 ≡ get_or (s.at rlen) v 0
+  unfolding store
+  rlen₂ = ap (λ (l : List ℕ). get_or l v 0) (beside₂.at rlen)
 
-    pub merge_raise : HoldsTables m n w₂ d₂ × (Sound m n (view m n w₂ d₂) × ((v < n) × (g ≤ 2000)))
-    merge_raise = (room₂, (sound₂, (ok.v_in, ok.g_in)))
+  abbrev raised : Option Tables
+  raised = walk_raise (get_or ((view m n w₂ d₂).at rlen) v 0) g (view m n w₂ d₂) v
 
-    beside₂ : Alike (is stamp) (view m n w₂ d₂) (store weight s e 0)
-    unfolding store
-    beside₂ = subst (λ (u : Tables). Alike (is stamp) u (store weight s e 0)) (sym tables₂) (alike_store (is stamp) stamp (store weight s e 0) b k refl)
+  raise_is : raised ≡ walk_raise (get_or (s.at rlen) v 0) g (store stamp (store weight s e 0) b k) v
+  raise_is = ap (λ (k : ℕ). walk_raise k g (view m n w₂ d₂) v) rlen₂ ∙ ap (λ (u : Tables). walk_raise (get_or (s.at rlen) v 0) g u v) tables₂
 
-    elen₂ : (view m n w₂ d₂).at elen ≡ s.at elen
-    unfolding store
-    elen₂ = ap (λ (u : Tables). u.at elen) tables₂
+  module _ (w₃ : List ℕ) (d₃ : List Float) where
+    pub merge_refused : (why : MergeRefused) → Raised m n w₃ d₃ raised (Err why) → Raised m n w₃ d₃ (merged m k e b v g s) (Err why)
+    unfolding merged then Raised
+    merge_refused why D₃ = subst (λ (o : Option Tables). Raised m n w₃ d₃ (then o (handed m b v g)) (Err why)) (sym (raised_err m n w₃ d₃ _ why D₃) ∙ raise_is) refl
 
-    rlen₂ : get_or ((view m n w₂ d₂).at rlen) v 0 ≡ get_or (s.at rlen) v 0
-    unfolding store
-    rlen₂ = ap (λ (l : List ℕ). get_or l v 0) (beside₂.at rlen)
+    module _ (D₃ : Raised m n w₃ d₃ raised (Ok tt)) where
+      took : (t : Tables) × (raised ≡ some t) × LeavesTables m n w₃ d₃ t
+      took = raised_ok m n w₃ d₃ _ D₃
 
-    raise_is : walk_raise (get_or ((view m n w₂ d₂).at rlen) v 0) g (view m n w₂ d₂) v ≡ walk_raise (get_or (s.at rlen) v 0) g (store stamp (store weight s e 0) b k) v
-    raise_is = ap (λ (k : ℕ). walk_raise k g (view m n w₂ d₂) v) rlen₂ ∙ ap (λ (u : Tables). walk_raise (get_or (s.at rlen) v 0) g u v) tables₂
+      kept : Sound m n took.0 × CountsDiffer took.0 (view m n w₂ d₂)
+      kept = raise_keeps m n g (get_or ((view m n w₂ d₂).at rlen) v 0) (view m n w₂ d₂) v took.0 took.1 ok.v_in merge_raise
 
-    module _ (w₃ : List ℕ) (d₃ : List Float) (lw₃ : length w₃ ≡ length w₂) (ld₃ : length d₃ ≡ length d₂) (q : Bool) (D₃ : Raised m n w₃ d₃ (walk_raise (get_or ((view m n w₂ d₂).at rlen) v 0) g (view m n w₂ d₂) v) q) where
-      pub merge_refused : q ≡ false → (w' : List ℕ) (d' : List Float) → Raised m n w' d' (merged m k e b v g s) false
+      counted : CountsDiffer (view m n w₃ d₃) (view m n w₂ d₂)
+      counted = subst (λ (u : Tables). CountsDiffer u (view m n w₂ d₂)) (sym took.2.tables) kept.1
+
+      pub merge_hand : Tree m w₃ × Sound m n (view m n w₃ d₃)
+      merge_hand = (took.2.tree, subst (Sound m n) (sym took.2.tables) kept.0)
+
+      pub merge_fit : Fit n b v s → Fit n b v (view m n w₃ d₃)
+      unfolding store
+      merge_fit fit =
+          fit_frame n b v (view m n w₃ d₃) s (counted.tables.at size ∙ beside₂.at size) (λ y. subst (λ (l : List ℕ). get_or l y 0 ≤ get_or (s.at elen) y 0) (sym (counted.tables.at elen ∙ elen₂)) (omega arith))
+          (counted.tables.at rlen ∙ beside₂.at rlen) fit
+
+      pub merge_done : (w₄ : List ℕ) (d₄ : List Float) → LeavesTables m n w₄ d₄ (handed m b v g (view m n w₃ d₃)) → Raised m n w₄ d₄ (merged m k e b v g s) (Ok tt)
       unfolding merged then Raised
-      merge_refused f w' d' =
-          let no : walk_raise (get_or (s.at rlen) v 0) g (store stamp (store weight s e 0) b k) v ≡ none = sym raise_is ∙ raised_false m n w₃ d₃ _ q D₃ f in
-          subst (λ (o : Option Tables). Raised m n w' d' (then o (handed m b v g)) false) (sym no) refl
-
-      module _ (f : q ≡ true) where
-        took : (t : Tables) × (walk_raise (get_or ((view m n w₂ d₂).at rlen) v 0) g (view m n w₂ d₂) v ≡ some t) × LeavesTables m n w₃ d₃ t
-        took = raised_true m n w₃ d₃ _ q D₃ f
-
-        kept : Sound m n took.0 × CountsDiffer took.0 (view m n w₂ d₂)
-        kept = raise_keeps m n g (get_or ((view m n w₂ d₂).at rlen) v 0) (view m n w₂ d₂) v took.0 took.1 ok.v_in sound₂
-
-        counted : CountsDiffer (view m n w₃ d₃) (view m n w₂ d₂)
-        counted = subst (λ (u : Tables). CountsDiffer u (view m n w₂ d₂)) (sym took.2.tables) kept.1
-
-        pub merge_hand : HoldsTables m n w₃ d₃ × (Sound m n (view m n w₃ d₃) × (Gains n b v g × Fit n b v (view m n w₃ d₃)))
-        unfolding store
-        merge_hand = (
-          room_of m n w w₃ d d₃ r (lw₃ ∙ lw₂ ∙ len₁) (ld₃ ∙ ld₂) took.2.tree,
-          (
-            subst (Sound m n) (sym took.2.tables) kept.0,
-            (
-              ok,
-              fit_frame n b v (view m n w₃ d₃) s (counted.tables.at size ∙ beside₂.at size) (λ y. subst (λ (l : List ℕ). get_or l y 0 ≤ get_or (s.at elen) y 0) (sym (counted.tables.at elen ∙ elen₂)) (omega arith)) (counted.tables.at rlen ∙ beside₂.at rlen) fit,
-            ),
-          ),
-        )
-
-        pub merge_done : (w₄ : List ℕ) (d₄ : List Float) → LeavesTables m n w₄ d₄ (handed m b v g (view m n w₃ d₃)) → Raised m n w₄ d₄ (merged m k e b v g s) true
-        unfolding merged then Raised
-        merge_done w₄ d₄ D₄ =
-            let yes : walk_raise (get_or (s.at rlen) v 0) g (store stamp (store weight s e 0) b k) v ≡ some took.0 = sym raise_is ∙ took.1 in
-            subst (λ (o : Option Tables). Raised m n w₄ d₄ (then o (handed m b v g)) true) (sym yes) (refl, record { tables = D₄.tables ∙ ap (handed m b v g) took.2.tables; tree = D₄.tree })
+      merge_done w₄ d₄ D₄ =
+          subst (λ (o : Option Tables). Raised m n w₄ d₄ (then o (handed m b v g)) (Ok tt)) (sym took.1 ∙ raise_is) (refl, record { tables = D₄.tables ∙ ap (handed m b v g) took.2.tables; tree = D₄.tree })

@@ -1,14 +1,12 @@
 -- A chain walked with its spent slots dropped: the functions over plain values. Assumes nothing.
-use Rattle.std.proofs.Common.{◌≡◌, ℕ, zero, suc, ◌+◌, ◌-◌, ◌*◌, ◌/◌, ◌<◌, ◌≤◌, Bool, true, false, cond, eqb, List, length, get_or, set, sym, refl, ap, ◌∙◌, subst, ⊎_elim, arith, length-set, get_or-set_other, get_or-set_same, le-ltb, lt-ltb}
+use Rattle.std.proofs.Common.{◌≡◌, ℕ, zero, suc, ◌+◌, ◌-◌, ◌*◌, ◌/◌, ◌<◌, ◌≤◌, Bool, true, false, cond, eqb, List, length, get_or, set, sym, refl, ap, ◌∙◌, subst, ⊎_elim, arith, get_or-set_other, get_or-set_same, le-ltb, lt-ltb}
 use lib.Seq.{set_out}
 use lib.Ieee.{Float}
-use Rattle.memory.proofs.TreeLaws.{tree_set}
-use Rattle.memory.specs.Inside.Layout.{table_words}
 use Rattle.merge.specs.Inside.Tables.{Tables, view, HoldsTables, Sound, store}
 use Rattle.merge.specs.Inside.Table.{enext, elen}
 use Rattle.merge.specs.Inside.Steps.{spent, drop_at, passed, kept, along, pruned}
 use Rattle.merge.specs.Inside.Leaves.{LeavesTables, Passes, Slots}
-use Rattle.merge.proofs.View.{weight_at_lem, read, write}
+use Rattle.merge.proofs.View.{weight_at_lem, read}
 use Rattle.merge.proofs.Bias.{lt_or_le}
 use Rattle.merge.proofs.Leaf.{room_of}
 use Rattle.merge.proofs.SoundSet.{eq_or_ne, sound_store}
@@ -25,25 +23,6 @@ module _ (m n : ℕ) (w : List ℕ) (d : List Float) (x : ℕ) where
 
 -- ---- drop_slot
 module _ (m n b p x : ℕ) where
-  pub drop_does : (w : List ℕ) (d : List Float) → HoldsTables m n w d → Slots m n b p x (view m n w d)
-      → LeavesTables m n (set (set (set w (6 * m + p) (get_or w (6 * m + x) 0)) (6 * m + x) x) (8 * m + 4 * n + b) (get_or w (8 * m + 4 * n + b) 0 - 1)) d (drop_at b (view m n w d) p x)
-  unfolding drop_at
-  drop_does w d r k =
-      let t : ℕ = get_or w (6 * m + x) 0 in
-      let l : ℕ = get_or w (8 * m + 4 * n + b) 0 in
-      let w₁ : List ℕ = set w (6 * m + p) t in
-      let w₂ : List ℕ = set w₁ (6 * m + x) x in
-      let l₀ : table_words m n ≤ length w = r.words in
-      let l₁ : length w₁ ≡ length w = length-set w (6 * m + p) t in
-      let l₂ : length w₂ ≡ length w₁ = length-set w₁ (6 * m + x) x in
-      record {
-        tables = rw (read enext m n w d x k.x_in, read elen m n w d b k.b_in)
-            (write elen m n w₂ d b (l - 1) k.b_in (omega arith)
-            ∙ ap (λ (s : Tables). store elen s b (l - 1)) (write enext m n w₁ d x x k.x_in (omega arith)
-            ∙ ap (λ (s : Tables). store enext s x x) (write enext m n w d p t k.p_in l₀)));
-        tree = tree_set m w₂ (8 * m + 4 * n + b) (l - 1) (omega arith) (tree_set m w₁ (6 * m + x) x (omega arith) (tree_set m w (6 * m + p) t (omega arith) r.tree));
-      }
-
   pub sound_drop : (s : Tables) → Sound m n s → p < 2 * m + n → x < 2 * m + n → Sound m n (drop_at b s p x)
   unfolding drop_at
   sound_drop s h hp hx =
@@ -72,31 +51,25 @@ less_set l b y = ⊎_elim
     (eq_or_ne y b)
 
 -- ---- along a chain
-pub record Pass (m n b : ℕ) (w₀ : List ℕ) (d₀ : List Float) (w : List ℕ) (d : List Float) (l p x i : ℕ) (goal : Tables) : Type 0 where
+pub record Pass (m n b : ℕ) (w : List ℕ) (d : List Float) (l p x i : ℕ) (goal : Tables) : Type 0 where
   pub room : HoldsTables m n w d
   pub sound : Sound m n (view m n w d)
   pub p_in : p < 2 * m + n
   pub x_in : x < 2 * m + n
-  pub some_i : 1 ≤ i
   pub long : l < i + get_or ((view m n w d).at elen) b 0
   pub left : along (l - i) m b (view m n w d) p x ≡ goal
-  pub same_w : length w ≡ length w₀
-  pub same_d : length d ≡ length d₀
 
 module _ (m n b : ℕ) (hb : b < n) where
   pub prune_start : (w : List ℕ) (d : List Float) → HoldsTables m n w d → Sound m n (view m n w d)
-      → Pass m n b w d w d (get_or w (8 * m + 4 * n + b) 0) (2 * m + b) (get_or w (6 * m + (2 * m + b)) 0) 1 (pruned m b (view m n w d))
+      → Pass m n b w d (get_or w (8 * m + 4 * n + b) 0) (2 * m + b) (get_or w (6 * m + (2 * m + b)) 0) 1 (pruned m b (view m n w d))
   unfolding pruned
   prune_start w d r h = record {
     room = r;
     sound = h;
     p_in = omega arith;
     x_in = omega (arith, read enext m n w d (2 * m + b) (omega arith), h.within enext (2 * m + b) (omega arith));
-    some_i = omega arith;
     long = omega (arith, read elen m n w d b hb);
     left = rw (read elen m n w d b hb, read enext m n w d (2 * m + b) (omega arith)) refl;
-    same_w = refl;
-    same_d = refl;
   }
 
   sound_passed : (s : Tables) (p x : ℕ) → Sound m n s → p < 2 * m + n → x < 2 * m + n → Sound m n (passed m b s p x)
@@ -151,12 +124,12 @@ module _ (m n b : ℕ) (hb : b < n) where
   unfolding pruned
   less_pruned s y = less_along (get_or (s.at elen) b 0 - 1) s (2 * m + b) (get_or (s.at enext) (2 * m + b) 0) y
 
-  module _ (w₀ : List ℕ) (d₀ : List Float) (w : List ℕ) (d : List Float) (l p x i : ℕ) (goal : Tables) (k : Pass m n b w₀ d₀ w d l p x i goal) where
+  module _ (w : List ℕ) (d : List Float) (l p x i : ℕ) (goal : Tables) (k : Pass m n b w d l p x i goal) where
     pub prune_slots : i < l → Slots m n b p x (view m n w d)
     prune_slots lt = record { b_in = hb; p_in = k.p_in; x_in = k.x_in; some = omega (arith, k.long) }
 
     pub prune_turned : i < l → (w' : List ℕ) (d' : List Float) (q : ℕ) → Passes m n w' d' (passed m b (view m n w d) p x) (kept m (view m n w d) p x) q → length w' ≡ length w → length d' ≡ length d
-        → Pass m n b w₀ d₀ w' d' l q (get_or w (6 * m + x) 0) (i + 1) goal
+        → Pass m n b w' d' l q (get_or w (6 * m + x) 0) (i + 1) goal
     unfolding along
     prune_turned lt w' d' q e lw ld =
         let s : Tables = view m n w d in
@@ -169,12 +142,9 @@ module _ (m n b : ℕ) (hb : b < n) where
           sound = subst (Sound m n) (sym e.does.tables) (sound_passed s p x k.sound k.p_in k.x_in);
           p_in = omega (arith, e.prev, kept_in s p x k.p_in k.x_in);
           x_in = omega (arith, k.sound.within enext x k.x_in);
-          some_i = omega arith;
           long = omega (arith, k.long, passed_len s p x k.sound);
           left = ap (λ (u : Tables). along (l - (i + 1)) m b u q (get_or w (6 * m + x) 0)) e.does.tables ∙ ap (λ (u : ℕ). along (l - (i + 1)) m b s' u (get_or w (6 * m + x) 0)) e.prev
               ∙ ap (along (l - (i + 1)) m b s' (kept m s p x)) (sym nx) ∙ ap (λ (y : ℕ). along y m b s p x) (sym z) ∙ k.left;
-          same_w = lw ∙ k.same_w;
-          same_d = ld ∙ k.same_d;
         }
 
     pub prune_end : l ≤ i → LeavesTables m n w d goal

@@ -1,5 +1,5 @@
 -- Each step keeps the tables sound. Assumes nothing.
-use Rattle.std.proofs.Common.{◌≡◌, ℕ, ◌+◌, ◌<◌, Bool, true, false, cond, T, eqb, ltb, length, get_or, set, sym, refl, ap, ◌∙◌, subst, ⊎_elim, arith, ltb-true, eqb-true}
+use Rattle.std.proofs.Common.{◌≡◌, ℕ, ◌+◌, ◌<◌, Bool, true, false, cond, T, Option, Some, None, eqb, ltb, length, get_or, set, sym, refl, ap, ◌∙◌, ⊎_elim, arith, ltb-true, eqb-true}
 use lib.Ieee.{nan, binary32, fits, Float, neg, add}
 use lib.Ieee.Fits as Fits
 use borrow.Author.Tests.{eqb-false}
@@ -85,11 +85,11 @@ sound_attach m n b s f c x h lt hb hc fx =
 
 sound_join : (m n b : ℕ) (s : Tables) (f c : ℕ) (x : Float) → Sound m n s → Joins m n b s f c → T (fits binary32 x) → Sound m n (join_edge m b s f c x)
 unfolding join_edge
-sound_join m n b s f c x h j fx = go (ltb (mate m b s c) m) refl
+sound_join m n b s f c x h j fx = go (mate m b s c) refl
   where
-    go : (t : Bool) → ltb (mate m b s c) m ≡ t → Sound m n (cond t (absorb_at (face_at s (mate m b s c)) (mate m b s c) f x) (attach_at b s f c x))
-    go true e = let q : mate m b s c < m = ltb-true (mate m b s c) m e in sound_absorb m n (face_at s (mate m b s c)) (mate m b s c) f x (sound_face m n s (mate m b s c) h q) q j.f_in j.other
-    go false e = sound_attach m n b s f c x h j.f_in j.b_in j.c_in fx
+    go : (o : Option ℕ) → mate m b s c ≡ o → Sound m n (elim o [ Some q ↦ absorb_at (face_at s q) q f x | None ↦ attach_at b s f c x ])
+    go (Some q) e = let q_in : q < m = (mate_is m b c s q e).q_in in sound_absorb m n (face_at s q) q f x (sound_face m n s q h q_in) q_in j.f_in (λ r. j.other (e ∙ ap Some r))
+    go None e = sound_attach m n b s f c x h j.f_in j.b_in j.c_in fx
 
 -- the moved node's edge is no mate
 pub joins_first : (m n b v g : ℕ) (s : Tables) (f : ℕ) → Sound m n s → Gains n b v g → f < m → get_or (s.at first) f 0 ≡ v → Joins m n b s f (get_or (s.at second) f 0)
@@ -97,7 +97,7 @@ joins_first m n b v g s f h k lt e = record {
   f_in = lt;
   b_in = k.b_in;
   c_in = h.within second f lt;
-  other = λ q. let t : Mate m b s (get_or (s.at second) f 0) f = subst (Mate m b s (get_or (s.at second) f 0)) q (mate_is m b (get_or (s.at second) f 0) s (omega arith)) in
+  other = λ q. let t : Mate m b s (get_or (s.at second) f 0) f = mate_is m b (get_or (s.at second) f 0) s f q in
       k.apart (⊎_elim (λ w. sym w.0 ∙ e) (λ w. sym w.1 ∙ sym w.0 ∙ e) t.ends);
 }
 
@@ -106,7 +106,7 @@ joins_second m n b v g s f h k lt ne e = record {
   f_in = lt;
   b_in = k.b_in;
   c_in = h.within first f lt;
-  other = λ q. let t : Mate m b s (get_or (s.at first) f 0) f = subst (Mate m b s (get_or (s.at first) f 0)) q (mate_is m b (get_or (s.at first) f 0) s (omega arith)) in
+  other = λ q. let t : Mate m b s (get_or (s.at first) f 0) f = mate_is m b (get_or (s.at first) f 0) s f q in
       ⊎_elim (λ w. ne (sym w.1 ∙ e)) (λ w. k.apart (sym w.1 ∙ e)) t.ends;
 }
 

@@ -4,3 +4,4 @@
 pub mod log;
 pub mod mark;
 pub mod merge;
+pub mod places;

@@ -4,33 +4,26 @@ ghost use Rattle.merge.specs.Inside.Tables.{view, HoldsTables};
 ghost use Rattle.merge.specs.Inside.Steps.{logged};
 ghost use Rattle.merge.specs.Inside.Leaves.{LeavesTables};
 
-use memory::layout;
+use crate::merge::Step;
+use crate::places::Places;
 
-// The merge of edge e is entered after k others, before it is done: base b, moved node v, the edge's weight and bridged pairs, what v's counts
-// gain, with 1,000 added, and v's gates.
-pub fn log_merge(
-    w: &mut [u32],
-    d: &[f64],
-    m: usize,
-    n: usize,
-    e: usize,
-    b: u32,
-    v: u32,
-    g: u32,
-    k: usize,
-)
-    requires holds_tables { HoldsTables m n w.old d.now }
-    requires e_lt_m { (e < m) × (v < n) × (k < m) }
-    ensures { LeavesTables m n w.new d.now (logged k e b v g (view m n w.old d.now)) }
+// The merge of edge e is entered after k others, before it is done: base, moved node, the edge's weight and bridged pairs, what the
+// moved node's counts gain, with 1,000 added, and its gates.
+pub fn log_merge(w: &mut [u32], d: &[f64], at: Places, e: usize, step: Step, k: usize)
+    requires holds_tables { HoldsTables at.edges at.nodes w.old d.now }
+    requires edge_in { e < at.edges }
+    requires node_in { step.moved < at.nodes }
+    requires entry_in { k < at.edges }
+    ensures { LeavesTables at.edges at.nodes w.new d.now (logged k e step.base step.moved step.gain (view at.edges at.nodes w.old d.now)) }
 {
-    let at = layout::NODES * m + layout::NODE_TABLES * n + layout::ENTRY * k;
+    let entry = at.entry(k);
     let weight = w[e];
-    let bridged = w[layout::BRIDGED * m + e];
-    let gates = w[layout::NODES * m + layout::SIZES * n + v as usize];
-    w[at] = b;
-    w[at + 1] = v;
-    w[at + 2] = weight;
-    w[at + 3] = bridged;
-    w[at + 4] = g;
-    w[at + 5] = gates;
+    let bridged = w[at.bridged(e)];
+    let gates = w[at.size(step.moved)];
+    w[entry] = step.base;
+    w[entry + 1] = step.moved;
+    w[entry + 2] = weight;
+    w[entry + 3] = bridged;
+    w[entry + 4] = step.gain;
+    w[entry + 5] = gates;
 }

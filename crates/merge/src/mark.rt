@@ -5,58 +5,54 @@ ghost use Rattle.merge.specs.Inside.Table.{mark as markTable};
 ghost use Rattle.merge.specs.Inside.Steps.{marked_all, mark_if, merged};
 ghost use Rattle.merge.specs.Inside.Leaves.{LeavesTables, Raised, Gains, Fit};
 
-use memory::layout;
+use crate::merge::{MergeRefused, Step};
+use crate::places::Places;
 
 // The regions of node v are marked.
-fn walk_mark(w: &mut [u32], d: &mut [f64], m: usize, n: usize, v: u32)
-    requires holds_tables { HoldsTables m n w.old d.old }
-    requires sound { Sound m n (view m n w.old d.old) }
-    requires v_lt_n { v < n }
-    ensures { let s = view m n w.old d.old in
-        LeavesTables m n w.new d.new (with_table markTable (marked_all v s) s) }
+fn walk_mark(w: &mut [u32], d: &mut [f64], at: Places, v: u32)
+    requires holds_tables { HoldsTables at.edges at.nodes w.old d.old }
+    requires sound { Sound at.edges at.nodes (view at.edges at.nodes w.old d.old) }
+    requires node_in { v < at.nodes }
+    ensures { let s = view at.edges at.nodes w.old d.old in
+        LeavesTables at.edges at.nodes w.new d.new (with_table markTable (marked_all v s) s) }
 {
-    let l = w[layout::NODES * m + layout::REGION_LENGTHS * n + v as usize];
+    let l = w[at.region_length(v)];
     let mut x = v;
-    let mut i = 0;
-    while i < l {
-        w[layout::NODES * m + layout::MARKS * n + x as usize] = 1;
-        x = w[layout::NODES * m + n + x as usize];
-        i += 1;
+    for _ in 0..l {
+        w[at.mark(x)] = 1;
+        x = w[at.next_region(x)];
     }
 }
 
 // The regions of v, the moved node, are marked if its merge is doubtful.
-fn mark(w: &mut [u32], d: &mut [f64], m: usize, n: usize, v: u32, doubtful: bool)
-    requires holds_tables { HoldsTables m n w.old d.old }
-    requires sound { Sound m n (view m n w.old d.old) }
-    requires v_lt_n { v < n }
-    ensures { LeavesTables m n w.new d.new (mark_if doubtful v (view m n w.old d.old)) }
+fn mark(w: &mut [u32], d: &mut [f64], at: Places, v: u32, doubtful: bool)
+    requires holds_tables { HoldsTables at.edges at.nodes w.old d.old }
+    requires sound { Sound at.edges at.nodes (view at.edges at.nodes w.old d.old) }
+    requires node_in { v < at.nodes }
+    ensures { LeavesTables at.edges at.nodes w.new d.new (mark_if doubtful v (view at.edges at.nodes w.old d.old)) }
 {
     if doubtful {
-        walk_mark(w, d, m, n, v);
+        walk_mark(w, d, at, v);
     }
 }
 
-// Merge number k, of edge e, with the moved node's regions marked if it is doubtful; false where question 9 says no.
+// Merge number k, of edge e, with the moved node's regions marked if it is doubtful.
 pub fn merge_and_mark(
     w: &mut [u32],
     d: &mut [f64],
-    m: usize,
-    n: usize,
+    at: Places,
     e: usize,
-    b: u32,
-    v: u32,
-    g: u32,
+    step: Step,
     k: u32,
     doubtful: bool,
-) -> bool
-    requires holds_tables { HoldsTables m n w.old d.old }
-    requires sound { Sound m n (view m n w.old d.old) }
-    requires gains { Gains n b v g }
-    requires fit { Fit n b v (view m n w.old d.old) }
-    requires e_lt_m { e < m }
-    ensures { Raised m n w.new d.new (merged m k e b v g (mark_if doubtful v (view m n w.old d.old))) result }
+) -> Result<(), MergeRefused>
+    requires holds_tables { HoldsTables at.edges at.nodes w.old d.old }
+    requires sound { Sound at.edges at.nodes (view at.edges at.nodes w.old d.old) }
+    requires gains { Gains at.nodes step.base step.moved step.gain }
+    requires fit { Fit at.nodes step.base step.moved (view at.edges at.nodes w.old d.old) }
+    requires edge_in { e < at.edges }
+    ensures { Raised at.edges at.nodes w.new d.new (merged at.edges k e step.base step.moved step.gain (mark_if doubtful step.moved (view at.edges at.nodes w.old d.old))) result }
 {
-    mark(w, d, m, n, v, doubtful);
-    crate::merge::merge(w, d, m, n, e, b, v, g, k)
+    mark(w, d, at, step.moved, doubtful);
+    crate::merge::merge(w, d, at, e, step, k)
 }

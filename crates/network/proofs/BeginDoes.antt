@@ -5,33 +5,32 @@ use mathlib.Core.Bool.{Bool, true, false, cond}
 use mathlib.Core.List.{List}
 use Prim.Native.Nat.{ℕ, suc, ◌+◌, ◌*◌, ◌-◌, ◌≤◌, ◌<◌, ◌^◌}
 use native.Mathlib.Omega.{arith}
-use lib.ListN.{length, get_or, set, length-set}
+use lib.ListN.{length, get_or, set}
 use lib.Seq.{get_or-set_same, get_or-set_other}
 use Rattle.lists.specs.Seq.{upto}
 use Rattle.lists.specs.Inside.Seg.{seg, put}
 use Rattle.lists.proofs.SeqLaws.{upto-length}
 use Rattle.lists.proofs.SegLaws.{length-put, get_or-put_below, seg-put_same, seg-put_out}
-use Rattle.memory.proofs.TreeLaws.{played_like, tree_set}
-use Rattle.memory.specs.Inside.Layout.{table_words}
+use Rattle.memory.proofs.TreeLaws.{played_like}
 use Rattle.merge.specs.Inside.Tables.{Tables, view, HoldsTables, store}
 use Rattle.merge.specs.Inside.Table.{Table, from, long, is, first, second, enext, rnext, stamp, elen, rlen, count, mark}
 use Rattle.merge.specs.Inside.Leaves.{LeavesTables}
 use Rattle.network.specs.Inside.Begin.{slots, regions_from, link_at, link_edge, link_from, Linkable}
 use Rattle.merge.proofs.TableLaws.{same_table, apart}
-use Rattle.merge.proofs.View.{read, write}
+use Rattle.merge.proofs.View.{read}
+use Rattle.merge.proofs.Stores.{holding, stored}
 use Rattle.merge.proofs.Leaf.{room_of}
 use Rattle.merge.proofs.SoundSet.{eq_or_ne}
 use lib.Ieee.{Float}
 
 -- ---- loops that go on with a table function
-pub record Going (m n : ℕ) (rest : ℕ → Tables → ℕ → Tables) (w₀ : List ℕ) (w : List ℕ) (d : List Float) (l i : ℕ) (goal : Tables) : Type 0 where
+pub record Going (m n : ℕ) (rest : ℕ → Tables → ℕ → Tables) (w : List ℕ) (d : List Float) (l i : ℕ) (goal : Tables) : Type 0 where
   pub room : HoldsTables m n w d
   pub most : i ≤ l
   pub left : rest (l - i) (view m n w d) i ≡ goal
-  pub same_w : length w ≡ length w₀
 
-pub going_start : (m n : ℕ) (rest : ℕ → Tables → ℕ → Tables) (w : List ℕ) (d : List Float) (l : ℕ) → HoldsTables m n w d → Going m n rest w w d l 0 (rest l (view m n w d) 0)
-going_start m n rest w d l r = let z : l - 0 ≡ l = omega arith in record { room = r; most = omega arith; left = ap (λ (x : ℕ). rest x (view m n w d) 0) z; same_w = refl }
+pub going_start : (m n : ℕ) (rest : ℕ → Tables → ℕ → Tables) (w : List ℕ) (d : List Float) (l : ℕ) → HoldsTables m n w d → Going m n rest w d l 0 (rest l (view m n w d) 0)
+going_start m n rest w d l r = let z : l - 0 ≡ l = omega arith in record { room = r; most = omega arith; left = ap (λ (x : ℕ). rest x (view m n w d) 0) z }
 
 -- the slots numbered
 pub slots_does : (m n : ℕ) (w v : List ℕ) (d : List Float) → HoldsTables m n w d → v ≡ put w (6 * m) (upto (2 * m + n) 0) → LeavesTables m n v d (slots m n (view m n w d))
@@ -50,67 +49,24 @@ slots_does m n w v d r e =
         ∙ ap (seg (put w (6 * m) (upto (2 * m + n) 0)) (6 * m)) (sym l) ∙ seg-put_same w (6 * m) (upto (2 * m + n) 0) (omega (arith, r.words))
     go u false q l = seg-put_out w (6 * m) (upto (2 * m + n) 0) (from u m n) (long u m n) (λ j a b c f. apart m n enext u q j c (omega arith) a b)
 
-abbrev stored : ℕ → ℕ → List ℕ → ℕ → List ℕ
-stored m n w x = set (set (set (set (set (set w (8 * m + n + x) x) (8 * m + 5 * n + x) 1) (8 * m + 4 * n + x) 1) (8 * m + 6 * n + x) 1000) (8 * m + 2 * n + x) 0) (8 * m + 7 * n + x) 0
-
-pub regions_turn : (m n : ℕ) (w₀ w : List ℕ) (d : List Float) (x : ℕ) (goal : Tables) → Going m n regions_from w₀ w d n x goal → x < n → Going m n regions_from w₀ (stored m n w x) d n (x + 1) goal
+pub regions_turn : (m n : ℕ) (w : List ℕ) (d : List Float) (x : ℕ) (goal : Tables) → Going m n regions_from w d n x goal → x < n
+    → Going m n regions_from (set (set (set (set (set (set w (8 * m + n + x) x) (8 * m + 5 * n + x) 1) (8 * m + 4 * n + x) 1) (8 * m + 6 * n + x) 1000) (8 * m + 2 * n + x) 0) (8 * m + 7 * n + x) 0) d n (x + 1) goal
 unfolding regions_from
-regions_turn m n w₀ w d x goal k lt =
+regions_turn m n w d x goal k lt =
     let z : n - x ≡ suc (n - (x + 1)) = omega arith in
-    let w₁ : List ℕ = set w (8 * m + n + x) x in
-    let w₂ : List ℕ = set w₁ (8 * m + 5 * n + x) 1 in
-    let w₃ : List ℕ = set w₂ (8 * m + 4 * n + x) 1 in
-    let w₄ : List ℕ = set w₃ (8 * m + 6 * n + x) 1000 in
-    let w₅ : List ℕ = set w₄ (8 * m + 2 * n + x) 0 in
-    let w₆ : List ℕ = set w₅ (8 * m + 7 * n + x) 0 in
-    let l₀ : table_words m n ≤ length w = k.room.words in
-    let l₁ : length w₁ ≡ length w = length-set w (8 * m + n + x) x in
-    let l₂ : length w₂ ≡ length w₁ = length-set w₁ (8 * m + 5 * n + x) 1 in
-    let l₃ : length w₃ ≡ length w₂ = length-set w₂ (8 * m + 4 * n + x) 1 in
-    let l₄ : length w₄ ≡ length w₃ = length-set w₃ (8 * m + 6 * n + x) 1000 in
-    let l₅ : length w₅ ≡ length w₄ = length-set w₄ (8 * m + 2 * n + x) 0 in
-    let l₆ : length w₆ ≡ length w₅ = length-set w₅ (8 * m + 7 * n + x) 0 in
+    let h₃ = stored (stored (stored (holding k.room) rnext refl x x x lt refl) rlen refl x 1 1 lt refl) elen refl x 1 1 lt refl in
+    let h₆ = stored (stored (stored h₃ count refl x 1000 1000 lt refl) stamp refl x 0 0 lt refl) mark refl x 0 0 lt refl in
     record {
-      room = room_of m n w w₆ d d k.room (l₆ ∙ l₅ ∙ l₄ ∙ l₃ ∙ l₂ ∙ l₁) refl
-          (tree_set m w₅ (8 * m + 7 * n + x) 0 (omega arith)
-          (tree_set m w₄ (8 * m + 2 * n + x) 0 (omega arith) (tree_set m w₃ (8 * m + 6 * n + x) 1000 (omega arith) (tree_set m w₂ (8 * m + 4 * n + x) 1 (omega arith) (tree_set m w₁ (8 * m + 5 * n + x) 1 (omega arith) (tree_set m w (8 * m + n + x) x (omega arith) k.room.tree))))));
+      room = h₆.room;
       most = omega arith;
-      left = ap (λ (s : Tables). regions_from (n - (x + 1)) s (x + 1))
-          (write mark m n w₅ d x 0 lt (omega arith)
-          ∙ ap (λ (s : Tables). store mark s x 0) (write stamp m n w₄ d x 0 lt (omega arith)
-          ∙ ap (λ (s : Tables). store stamp s x 0) (write count m n w₃ d x 1000 lt (omega arith)
-          ∙ ap (λ (s : Tables). store count s x 1000) (write elen m n w₂ d x 1 lt (omega arith)
-          ∙ ap (λ (s : Tables). store elen s x 1) (write rlen m n w₁ d x 1 lt (omega arith)
-          ∙ ap (λ (s : Tables). store rlen s x 1) (write rnext m n w d x x lt l₀))))))
-          ∙ ap (λ (y : ℕ). regions_from y (view m n w d) x) (sym z) ∙ k.left;
-      same_w = l₆ ∙ l₅ ∙ l₄ ∙ l₃ ∙ l₂ ∙ l₁ ∙ k.same_w;
+      left = ap (λ (s : Tables). regions_from (n - (x + 1)) s (x + 1)) h₆.tables ∙ ap (λ (y : ℕ). regions_from y (view m n w d) x) (sym z) ∙ k.left;
     }
 
-pub regions_end : (m n : ℕ) (w₀ w : List ℕ) (d : List Float) (x : ℕ) (goal : Tables) → Going m n regions_from w₀ w d n x goal → n ≤ x → LeavesTables m n w d goal
+pub regions_end : (m n : ℕ) (w : List ℕ) (d : List Float) (x : ℕ) (goal : Tables) → Going m n regions_from w d n x goal → n ≤ x → LeavesTables m n w d goal
 unfolding regions_from
-regions_end m n w₀ w d x goal k h = let z : n - x ≡ 0 = omega arith in record { tables = ap (λ (y : ℕ). regions_from y (view m n w d) x) (sym z) ∙ k.left; tree = k.room.tree }
+regions_end m n w d x goal k h = let z : n - x ≡ 0 = omega arith in record { tables = ap (λ (y : ℕ). regions_from y (view m n w d) x) (sym z) ∙ k.left; tree = k.room.tree }
 
 -- ---- link
-pub link_does : (m n : ℕ) (w : List ℕ) (d : List Float) → HoldsTables m n w d → (a i : ℕ) → a < n → i < 2 * m
-    → LeavesTables m n (set (set (set w (6 * m + (2 * m + a)) (get_or w (6 * m + i) 0)) (6 * m + i) (get_or w (6 * m + (2 * m + a)) 0)) (8 * m + 4 * n + a) (get_or w (8 * m + 4 * n + a) 0 + 1)) d (link_at m a i (view m n w d))
-unfolding link_at
-link_does m n w d r a i ha hi =
-    let t : ℕ = get_or w (6 * m + i) 0 in
-    let h : ℕ = get_or w (6 * m + (2 * m + a)) 0 in
-    let l : ℕ = get_or w (8 * m + 4 * n + a) 0 in
-    let w₁ : List ℕ = set w (6 * m + (2 * m + a)) t in
-    let w₂ : List ℕ = set w₁ (6 * m + i) h in
-    let l₀ : table_words m n ≤ length w = r.words in
-    let l₁ : length w₁ ≡ length w = length-set w (6 * m + (2 * m + a)) t in
-    let l₂ : length w₂ ≡ length w₁ = length-set w₁ (6 * m + i) h in
-    record {
-      tables = rw (read enext m n w d i (omega arith), read enext m n w d (2 * m + a) (omega arith), read elen m n w d a ha)
-          (write elen m n w₂ d a (l + 1) ha (omega arith)
-          ∙ ap (λ (s : Tables). store elen s a (l + 1)) (write enext m n w₁ d i h (omega arith) (omega arith)
-          ∙ ap (λ (s : Tables). store enext s i h) (write enext m n w d (2 * m + a) t (omega arith) l₀)));
-      tree = tree_set m w₂ (8 * m + 4 * n + a) (l + 1) (omega arith) (tree_set m w₁ (6 * m + i) h (omega arith) (tree_set m w (6 * m + (2 * m + a)) t (omega arith) r.tree));
-    }
-
 link_len : (m a i : ℕ) (s : Tables) (x : ℕ) → get_or ((link_at m a i s).at elen) x 0 ≤ get_or (s.at elen) x 0 + 1
 unfolding link_at store
 link_len m a i s x = ⊎_elim
@@ -127,18 +83,16 @@ unfolding link_at store
 link_ends m a i s = (refl, refl)
 
 -- ---- link_all
-pub record Linking (m n : ℕ) (w₀ : List ℕ) (d₀ : List Float) (w : List ℕ) (d : List Float) (j : ℕ) (goal : Tables) : Type 0 where
+pub record Linking (m n : ℕ) (w : List ℕ) (d : List Float) (j : ℕ) (goal : Tables) : Type 0 where
   pub room : HoldsTables m n w d
   pub able : Linkable m n j (view m n w d)
   pub most : j ≤ m
   pub left : link_from (m - j) m (view m n w d) j ≡ goal
-  pub same_w : length w ≡ length w₀
-  pub same_d : length d ≡ length d₀
 
-pub linking_start : (m n : ℕ) (w : List ℕ) (d : List Float) → HoldsTables m n w d → Linkable m n 0 (view m n w d) → Linking m n w d w d 0 (link_from m m (view m n w d) 0)
-linking_start m n w d r a = let z : m - 0 ≡ m = omega arith in record { room = r; able = a; most = omega arith; left = ap (λ (x : ℕ). link_from x m (view m n w d) 0) z; same_w = refl; same_d = refl }
+pub linking_start : (m n : ℕ) (w : List ℕ) (d : List Float) → HoldsTables m n w d → Linkable m n 0 (view m n w d) → Linking m n w d 0 (link_from m m (view m n w d) 0)
+linking_start m n w d r a = let z : m - 0 ≡ m = omega arith in record { room = r; able = a; most = omega arith; left = ap (λ (x : ℕ). link_from x m (view m n w d) 0) z }
 
-module _ (m n : ℕ) (w₀ : List ℕ) (d₀ : List Float) (w : List ℕ) (d : List Float) (j : ℕ) (goal : Tables) (k : Linking m n w₀ d₀ w d j goal) (lt : j < m) where
+module _ (m n : ℕ) (w : List ℕ) (d : List Float) (j : ℕ) (goal : Tables) (k : Linking m n w d j goal) (lt : j < m) where
   abbrev s : Tables
   s = view m n w d
 
@@ -166,7 +120,7 @@ module _ (m n : ℕ) (w₀ : List ℕ) (d₀ : List Float) (w : List ℕ) (d : L
         let e : get_or ((view m n w₁ d₁).at elen) b 0 ≡ get_or ((link_at m a (2 * j) s).at elen) b 0 = ap (λ (u : Tables). get_or (u.at elen) b 0) D₁.tables in
         (room_of m n w w₁ d d₁ k.room lw₁ ld₁ D₁.tree, ((hb, omega arith), omega (arith, link_len m a (2 * j) s b, k.able.lengths b hb, k.room.small)))
 
-    pub link_turn : (w₂ : List ℕ) (d₂ : List Float) → length w₂ ≡ length w₁ → length d₂ ≡ length d₁ → LeavesTables m n w₂ d₂ (link_at m b (2 * j + 1) (view m n w₁ d₁)) → Linking m n w₀ d₀ w₂ d₂ (j + 1) goal
+    pub link_turn : (w₂ : List ℕ) (d₂ : List Float) → length w₂ ≡ length w₁ → length d₂ ≡ length d₁ → LeavesTables m n w₂ d₂ (link_at m b (2 * j + 1) (view m n w₁ d₁)) → Linking m n w₂ d₂ (j + 1) goal
     unfolding link_from link_edge
     link_turn w₂ d₂ lw₂ ld₂ D₂ =
         let s₁ : Tables = link_at m a (2 * j) s in
@@ -183,10 +137,8 @@ module _ (m n : ℕ) (w₀ : List ℕ) (d₀ : List Float) (w : List ℕ) (d : L
           most = omega arith;
           left = ap (λ (u : Tables). link_from (m - (j + 1)) m u (j + 1)) (e ∙ ap (λ (y : ℕ). link_at m y (2 * j + 1) s₁) (sym second_is_lem) ∙ ap (λ (y : ℕ). link_at m (get_or (s.at second) j 0) (2 * j + 1) (link_at m y (2 * j) s)) (sym first_is_lem))
               ∙ ap (λ (y : ℕ). link_from y m s j) (sym z) ∙ k.left;
-          same_w = lw₂ ∙ lw₁ ∙ k.same_w;
-          same_d = ld₂ ∙ ld₁ ∙ k.same_d;
         }
 
-pub linking_end : (m n : ℕ) (w₀ : List ℕ) (d₀ : List Float) (w : List ℕ) (d : List Float) (j : ℕ) (goal : Tables) → Linking m n w₀ d₀ w d j goal → m ≤ j → LeavesTables m n w d goal
+pub linking_end : (m n : ℕ) (w : List ℕ) (d : List Float) (j : ℕ) (goal : Tables) → Linking m n w d j goal → m ≤ j → LeavesTables m n w d goal
 unfolding link_from
-linking_end m n w₀ d₀ w d j goal k h = let z : m - j ≡ 0 = omega arith in record { tables = ap (λ (y : ℕ). link_from y m (view m n w d) j) (sym z) ∙ k.left; tree = k.room.tree }
+linking_end m n w d j goal k h = let z : m - j ≡ 0 = omega arith in record { tables = ap (λ (y : ℕ). link_from y m (view m n w d) j) (sym z) ∙ k.left; tree = k.room.tree }

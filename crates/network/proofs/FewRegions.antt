@@ -9,7 +9,8 @@ use lib.IntN.{pos}
 use lib.Ieee.{Float}
 use borrow.Author.Tests.{le-ltb, eqb-true}
 use Rattle.lists.specs.Seq.{upto, keep, each, all, All}
-use Rattle.edges.specs.Edges.{Pair, pairs, gathered, first_is, second_is, records_of, records, greater_first, used}
+use Rattle.edges.specs.Edges.{pairs, gathered, first_is, second_is, records_of, records, greater_first, used}
+use Rattle.edges.specs.declared.edges.Pair.{Pair}
 use Rattle.edges.specs.declared.edges.Shape.{Shape}
 use Rattle.edges.specs.declared.edges.EdgeRecord.{EdgeRecord}
 use Rattle.network.specs.Network.{start, numbered, alone, merges, run, replay, trace, count_of, marked, mark_of, size_in, network_by, merges_in_range}

@@ -27,9 +27,9 @@ use Rattle.network.specs.Inside.Reduce.{Reduces, Reduced, TablesLeft}
 use Rattle.network.proofs.Settles.{ran_yes}
 use Rattle.network.specs.Inside.Find.{shape_of, limits_by, regions_by, found_in, network_for, Labelled, Few, Merges, Finds, finding_of, Leaves}
 use Rattle.network.specs.declared.options.Options.{Options}
-use Rattle.network.specs.declared.network.Ran.{Ran}
-use Rattle.network.specs.declared.find.Finding.{Finding}
-use Rattle.network.specs.declared.find.Finding.TheVariants.{Regions}
+use Rattle.std.proofs.Common.{Result, Ok}
+use Rattle.network.specs.declared.find.Run.{Run}
+use Rattle.merge.specs.declared.merge.MergeRefused.{MergeRefused}
 use Rattle.network.proofs.FewRegions.{used_few, no_merges, no_refusal, no_counts, no_marks}
 
 -- the same value at each place of a part
@@ -118,11 +118,11 @@ module _ (o : Options) (vel : List Float) (v : List ℕ) (d : List Float) (k : �
       labels = low 0 n (omega arith) ∙ seg-put_below v n (tabulate (k + 1) (size_in (seg v 0 n))) 0 n (omega arith);
     }
 
-    pub few_left : Leaves (found_in v n k) (network_for o (found_in v n k) vel) n u (Regions (record { regions = k; merges = 0 }))
+    pub few_left : Leaves (found_in v n k) (network_for o (found_in v n k) vel) n u (Ok (record { regions = k; merges = 0 }))
     few_left =
         let t = network_by (two_nyquist o.nyquist) (shape_of o) k (seg v 0 n) vel in
         record {
-          answer = ap (λ (l : List ℕ). Regions (record { regions = k; merges = length l })) (sym (no_merges (two_nyquist o.nyquist) (shape_of o) k (seg v 0 n) vel no_edges))
+          answer = ap (λ (l : List ℕ). Ok (record { regions = k; merges = length l })) (sym (no_merges (two_nyquist o.nyquist) (shape_of o) k (seg v 0 n) vel no_edges))
               ∙ sym (ap (finding_of k) (ran_yes t (no_refusal (two_nyquist o.nyquist) (shape_of o) k (seg v 0 n) vel no_edges)));
           tables = tables;
         }
@@ -141,7 +141,7 @@ module _ (o : Options) (vel : List Float) (v : List ℕ) (d : List Float) (k : �
     floats = q.floats;
   })
 
-  pub reduced_left : (u : List ℕ) (x : Ran) (f : Shape) (x2 : Float) → f ≡ shape_of o → x2 ≡ two_nyquist o.nyquist → Reduced (network_by x2 f k (seg v 0 n) vel) n k v u x → (r : Finding) → r ≡ finding_of k x
+  pub reduced_left : (u : List ℕ) (x : Result ℕ MergeRefused) (f : Shape) (x2 : Float) → f ≡ shape_of o → x2 ≡ two_nyquist o.nyquist → Reduced (network_by x2 f k (seg v 0 n) vel) n k v u x → (r : Result Run MergeRefused) → r ≡ finding_of k x
       → Leaves (found_in v n k) (network_for o (found_in v n k) vel) n u r
   reduced_left u x f x2 ef ew R r e =
       let R' : Reduced (network_by (two_nyquist o.nyquist) (shape_of o) k (seg v 0 n) vel) n k v u x =
@@ -159,7 +159,7 @@ module _ (o : Options) (p : Plan) (vel : List Float) (mask w : List ℕ) (d : Li
   found : found_in v (length vel) k ≡ F
   found = λ i. record { labels = L.labels i; number = L.number i }
 
-  pub by_found : (u : List ℕ) (r : Finding) → Leaves (found_in v (length vel) k) (network_for o (found_in v (length vel) k) vel) (length vel) u r → Leaves F (network_for o F vel) (length vel) u r
+  pub by_found : (u : List ℕ) (r : Result Run MergeRefused) → Leaves (found_in v (length vel) k) (network_for o (found_in v (length vel) k) vel) (length vel) u r → Leaves F (network_for o F vel) (length vel) u r
   by_found u r = subst (λ (x : Found). Leaves x (network_for o x vel) (length vel) u r) found
 
   label_few : (j : ℕ) → j < length vel → get_or v j 0 ≤ k

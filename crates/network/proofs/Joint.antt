@@ -18,7 +18,8 @@ use Rattle.arithmetic.specs.Rounding.{narrowed}
 use Rattle.lists.proofs.SeqLaws.{tab_at, map-upto_same, map_at}
 use Rattle.lists.proofs.SegLaws.{lt_or_le, get_or-seg}
 use Rattle.edges.specs.declared.edges.EdgeRecord.{EdgeRecord}
-use Rattle.edges.specs.Edges.{Pair, difference, used}
+use Rattle.edges.specs.Edges.{difference, used}
+use Rattle.edges.specs.declared.edges.Pair.{Pair}
 use Rattle.network.proofs.SimpleLaws.{joined_back}
 use Rattle.network.specs.Network as Network
 use Rattle.network.specs.Network.{Edge, Region, numbered, size_in, gates_of}

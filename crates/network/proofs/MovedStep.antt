@@ -1,15 +1,17 @@
 -- A step of the walk along the moved node's edges: it leaves what the network's `combine` gives. Assumes nothing.
 use mathlib.Core.Path.{◌≡◌, refl, sym, ap, ◌∙◌, subst}
 use mathlib.Core.Logic.{◌⊎◌, inl, inr, ⊎_elim}
-use mathlib.Core.Bool.{Bool, true, false, not, ◌&&◌, cond, true≢false}
+use mathlib.Core.Bool.{Bool, true, false, not, ◌&&◌, true≢false}
 use mathlib.Core.List.{List, map}
 use mathlib.Core.Option.{Option, none, some}
-use Prim.Native.Nat.{ℕ, ◌+◌, ◌*◌, ◌-◌, ◌/◌, ◌≤◌, ◌<◌}
+use Rattle.std.specs.Prelude as Prelude
+use Rattle.std.specs.Prelude.{Some, None}
+use Prim.Native.Nat.{ℕ, ◌+◌, ◌*◌, ◌-◌, ◌/◌, ◌<◌}
 use native.Mathlib.Omega.{arith}
-use lib.Dec.{eqb, ltb}
+use lib.Dec.{eqb}
 use lib.Ieee.{Float, binary32, add}
 use lib.ListN.{get_or}
-use borrow.Author.Tests.{eqb-true, eqb-false, ne_eqb, lt-ltb, ltb-true, ltb-false}
+use borrow.Author.Tests.{eqb-true, eqb-false, ne_eqb, lt-ltb}
 use Rattle.lists.specs.Seq.{upto}
 use Rattle.network.specs.Network.{Edge, Link, find, absorb, absent, hand}
 use Rattle.merge.specs.Inside.Tables.{Tables, Sound}
@@ -184,7 +186,7 @@ module _ (m b v g : ℕ) (P Q : ℕ → Edge) (S : Setting m b v g P Q) (N L T :
       }
 
     -- the base has none
-    module _ (far : m ≤ mate m b s c₀) where
+    module _ (far : mate m b s c₀ ≡ None) where
       nobody : (j : ℕ) → j < m → Hit b c₀ (P j) → ⊥
       nobody j hj h =
           let mb : mid m b v P Q done j ≡ absorb (find (map (only P done) (upto m 0)) v (P j).second) (P j) = mid_base m b v g P Q S done j h.first in
@@ -193,8 +195,7 @@ module _ (m b v g : ℕ) (P Q : ℕ → Edge) (S : Setting m b v g P Q) (N L T :
           let fb : (mid m b v P Q done j).first ≡ b = ap (λ (x : Edge). x.first) mb ∙ absorb_first m b v g P Q S _ (P j) ∙ h.first in
           let sc : (mid m b v P Q done j).second ≡ c₀ = ap (λ (x : Edge). x.second) mb ∙ absorb_second m b v g P Q S _ (P j) ∙ h.second in
           let t : Mate m b s c₀ j = record { q_in = hj; live = w.some; ends = ⊎_elim (λ p. inl (p.0 ∙ fb, p.1 ∙ sc)) (λ p. inr (p.0 ∙ sc, p.1 ∙ fb)) w.ends } in
-          let found : mate m b s c₀ < m = mate_finds m b c₀ s j t (λ r. (S.turned f lt l).0 (sym r)) (reached j b hj h.live (inl h.first)) (reached j c₀ hj h.live (inr h.second)) in
-          omega arith
+          mate_finds m b c₀ s j t (λ r. (S.turned f lt l).0 (sym r)) (reached j b hj h.live (inl h.first)) (reached j c₀ hj h.live (inr h.second)) far
         where
           reached : (j x : ℕ) → j < m → (P j).live ≡ true → ((P j).first ≡ x) ⊎ ((P j).second ≡ x) → (i : ℕ) × (i < get_or (s.at elen) x 0 - 1) × (cur (s.at enext) (get_or (s.at enext) (2 * m + x) 0) i / 2 ≡ j)
           reached j x hj k d =
@@ -242,11 +243,11 @@ module _ (m b v g : ℕ) (P Q : ℕ → Edge) (S : Setting m b v g P Q) (N L T :
 
     moved_step : turned s f ≡ false → Middle m b v P Q N L T (also done f) (moved_edge m b v g s f)
     unfolding join_edge
-    moved_step straight = subst (Middle m b v P Q N L T (also done f)) (sym (moved_is m b v g P Q S s f lt (sym (now_straight s f straight) ∙ now n s sound done I f lt l e todo) l e)) (go (ltb (mate m b s (P f).second) m) refl)
+    moved_step straight = subst (Middle m b v P Q N L T (also done f)) (sym (moved_is m b v g P Q S s f lt (sym (now_straight s f straight) ∙ now n s sound done I f lt l e todo) l e)) (go (mate m b s (P f).second) refl)
       where
-        go : (x : Bool) → ltb (mate m b s (P f).second) m ≡ x → Middle m b v P Q N L T (also done f) (cond x (absorb_at (face_at s (mate m b s (P f).second)) (mate m b s (P f).second) f (P f).link.diff) (attach_at b s f (P f).second (P f).link.diff))
-        go true r = faced (mate m b s (P f).second) (mate_is m b (P f).second s (ltb-true (mate m b s (P f).second) m r))
-        go false r = attached n s sound done I f lt l e todo (ltb-false (mate m b s (P f).second) m r)
+        go : (o : Prelude.Option ℕ) → mate m b s (P f).second ≡ o → Middle m b v P Q N L T (also done f) (elim o [ Some q ↦ absorb_at (face_at s q) q f (P f).link.diff | None ↦ attach_at b s f (P f).second (P f).link.diff ])
+        go (Some q) r = faced q (mate_is m b (P f).second s q r)
+        go None r = attached n s sound done I f lt l e todo r
 
   -- ---- any slot of the chain
   pub record Next (n : ℕ) (s : Tables) (done : ℕ → Bool) (f : ℕ) : Type 0 where

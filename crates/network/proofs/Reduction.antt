@@ -14,7 +14,8 @@ use Rattle.lists.specs.Seq.{tabulate}
 use Rattle.lists.proofs.SeqLaws.{tab_length}
 use Rattle.lists.specs.Inside.Seg.{seg, put}
 use Rattle.lists.proofs.SegLaws.{eq_or_ne, length-put, length-seg, get_or-seg, get_or-put_in, get_or-put_below, get_or-put_above, seg-put_below, seg-put_above, seg-put_same, seg-set_out, seg_part, put_mid_lem, lent_seg}
-use Rattle.edges.specs.Edges.{Pair, pairs, used}
+use Rattle.edges.specs.Edges.{pairs, used}
+use Rattle.edges.specs.declared.edges.Pair.{Pair}
 use Rattle.network.specs.Book.{book}
 use Rattle.network.specs.Inside.Log.{log_in}
 use Rattle.network.proofs.LogIs.{entries_same}
@@ -29,7 +30,8 @@ use Rattle.network.specs.Inside.Begin.{Space, Raw, AllIs}
 use Rattle.memory.specs.Inside.Layout.{sizes_at, counts_at, marks_at, book_at}
 use Rattle.network.specs.Inside.Reduce.{Reduces, Reduced}
 use Rattle.edges.specs.declared.edges.Shape.{Shape}
-use Rattle.network.specs.declared.network.Ran.{Ran}
+use Rattle.std.proofs.Common.{Result}
+use Rattle.merge.specs.declared.merge.MergeRefused.{MergeRefused}
 use Rattle.network.proofs.Joint.{Filled, raw}
 use Rattle.network.proofs.Started.{network, Left, few_edges, answer, left, no_region_0}
 
@@ -110,7 +112,7 @@ module _ (f : Shape) (u : List ℕ) (d vel : List Float) (n k : ℕ) (two_nyquis
           pub raw_ask : Raw e (k + 1) (view e (k + 1) (seg v3 (13 * n) c) d1)
           raw_ask = raw two_nyquist k e (seg u 0 n) ps (view e (k + 1) (seg v3 (13 * n) c) d1) filled n E.light E.spans (omega (arith, q.small)) (length-seg u 0 n (omega (arith, q.words)))
 
-          module _ (y : List ℕ) (d2 : List Float) (r : Ran) (ly : length y ≡ length (seg v3 (13 * n) c)) (A : AllIs e (k + 1) (view e (k + 1) (seg v3 (13 * n) c) d1) y d2 r)
+          module _ (y : List ℕ) (d2 : List Float) (r : Result ℕ MergeRefused) (ly : length y ≡ length (seg v3 (13 * n) c)) (A : AllIs e (k + 1) (view e (k + 1) (seg v3 (13 * n) c) d1) y d2 r)
               (v4 : List ℕ) (e4 : v4 ≡ put_mid (13 * n) c v3 y) where
             lc : length y ≡ c
             lc = ly ∙ length-seg v3 (13 * n) c room

@@ -16,24 +16,25 @@ use Rattle.network.specs.Inside.Log.{Entries, log_in}
 use Rattle.network.proofs.LogIs.{entries_none, entries_more}
 use Rattle.network.specs.Inside.Net.{region_of}
 use Rattle.network.specs.Inside.Rep.{Rep}
-use Rattle.network.specs.Inside.Settle.{Done, onward, settle, ran_of, merged_by, turned_by}
+use Rattle.network.specs.Inside.Settle.{Done, onward, settle, refused, ran_of, merged_by, turned_by}
 use Rattle.network.specs.Inside.TurnIs.{Marking, MergeLeaves, TurnLeaves, TurnIs, gates_in, first_of, Unmarked, EndLeaves, RunLeaves, RanIs, RunIs}
 use Rattle.network.specs.declared.network.Turned.{Turned}
-use Rattle.network.specs.declared.network.Turned.TheVariants.{Merged, Ended, Refused}
-use Rattle.network.specs.declared.network.Ran.TheVariants.{Settled, Refused as RunRefused}
+use Rattle.network.specs.declared.network.Turned.TheVariants.{Merged, Ended}
+use Rattle.std.proofs.Common.{Result, Ok, Err}
+use Rattle.merge.specs.declared.merge.MergeRefused.{MergeRefused}
 use Rattle.lists.specs.Seq.{upto}
 
 -- a turn from the tables s by the cases of its answer
-unfoldable TurnCase : ℕ → ℕ → (ℕ → ℕ) → ℕ → Tables → State → List ℕ → List Float → Turned → Type 0
-TurnCase m n gates k s t w d Merged = (e : Edge) × (choose t.edges ≡ some e) × (in_range (event t e.num) ≡ true) × MergeLeaves m n gates k s t e.num w d
-TurnCase m n gates k s t w d Ended = (choose t.edges ≡ none) × (view m n w d ≡ s)
-TurnCase m n gates k s t w d Refused = (e : Edge) × (choose t.edges ≡ some e) × (in_range (event t e.num) ≡ false)
+unfoldable TurnCase : ℕ → ℕ → (ℕ → ℕ) → ℕ → Tables → State → List ℕ → List Float → Result Turned MergeRefused → Type 0
+TurnCase m n gates k s t w d (Ok Merged) = (e : Edge) × (choose t.edges ≡ some e) × (in_range (event t e.num) ≡ true) × MergeLeaves m n gates k s t e.num w d
+TurnCase m n gates k s t w d (Ok Ended) = (choose t.edges ≡ none) × (view m n w d ≡ s)
+TurnCase m n gates k s t w d (Err r) = (e : Edge) × (choose t.edges ≡ some e) × (in_range (event t e.num) ≡ false)
 
-turn_case : (m n : ℕ) (gates : ℕ → ℕ) (k : ℕ) (s : Tables) (t : State) (w : List ℕ) (d : List Float) (r : Turned) → TurnIs m n gates k s t w d r → TurnCase m n gates k s t w d r
+turn_case : (m n : ℕ) (gates : ℕ → ℕ) (k : ℕ) (s : Tables) (t : State) (w : List ℕ) (d : List Float) (r : Result Turned MergeRefused) → TurnIs m n gates k s t w d r → TurnCase m n gates k s t w d r
 unfolding TurnCase TurnLeaves turned_by merged_by
 turn_case m n gates k s t w d r h = go (choose t.edges) refl h.answer h.leaves
   where
-    test : (e : Edge) (b : Bool) → choose t.edges ≡ some e → in_range (event t e.num) ≡ b → r ≡ cond b Merged Refused → (b ≡ true → MergeLeaves m n gates k s t e.num w d) → TurnCase m n gates k s t w d r
+    test : (e : Edge) (b : Bool) → choose t.edges ≡ some e → in_range (event t e.num) ≡ b → r ≡ cond b (Ok Merged) refused → (b ≡ true → MergeLeaves m n gates k s t e.num w d) → TurnCase m n gates k s t w d r
     test e true c i a l = subst (TurnCase m n gates k s t w d) (sym a) (e, c, i, l refl)
     test e false c i a l = subst (TurnCase m n gates k s t w d) (sym a) (e, c, i)
 
@@ -117,9 +118,9 @@ module _ (m n : ℕ) (w₀ : List ℕ) (d₀ : List Float) (w : List ℕ) (d : L
   abbrev t₀ : State
   t₀ = first_of m n (view m n w₀ d₀)
 
-  finished : settle m t₀ 0 ≡ some (record { last = I.net; merges = k }) → ((m - k ≡ 0) ⊎ (choose I.net.edges ≡ none)) → (w' : List ℕ) (d' : List Float) → view m n w' d' ≡ view m n w d → RunIs m n gates t₀ w' d' (Settled k)
+  finished : settle m t₀ 0 ≡ some (record { last = I.net; merges = k }) → ((m - k ≡ 0) ⊎ (choose I.net.edges ≡ none)) → (w' : List ℕ) (d' : List Float) → view m n w' d' ≡ view m n w d → RunIs m n gates t₀ w' d' (Ok k)
   unfolding RunLeaves ran_of
-  finished e o w' d' q = subst (λ (o : Option Done). RanIs m n gates (later m t₀) (entries_later m t₀) o w' d' (Settled k)) (sym e) (record { answer = refl; leaves = left })
+  finished e o w' d' q = subst (λ (o : Option Done). RanIs m n gates (later m t₀) (entries_later m t₀) o w' d' (Ok k)) (sym e) (record { answer = refl; leaves = left })
     where
       left : EndLeaves m n gates (later m t₀) (entries_later m t₀) (record { last = I.net; merges = k }) w' d'
       left = record {
@@ -130,7 +131,7 @@ module _ (m n : ℕ) (w₀ : List ℕ) (d₀ : List Float) (w : List ℕ) (d : L
         entries = subst (λ (u : Tables). Entries (log_in u) k (entries_later m t₀)) (sym q) (subst (Entries (log_in (view m n w d)) k) (sym (entries_last (m - k) I.done I.net o) ∙ I.book) I.entries);
       }
 
-  pub run_out : m ≤ k → RunIs m n gates t₀ w d (Settled k)
+  pub run_out : m ≤ k → RunIs m n gates t₀ w d (Ok k)
   unfolding settle
   run_out h = let z : m - k ≡ 0 = omega arith in finished (sym I.left ∙ ap (λ (x : ℕ). settle x I.net k) z) (inl z) w d refl
 
@@ -145,7 +146,7 @@ module _ (m n : ℕ) (w₀ : List ℕ) (d₀ : List Float) (w : List ℕ) (d : L
     unfolding settle
     step_is = sym I.left ∙ ap (λ (x : ℕ). settle x I.net k) more
 
-    pub run_merged : (r : Turned) → r ≡ Merged → TurnIs m n gates k s I.net w' d' r → Running m n w₀ d₀ w' d' (k + 1)
+    pub run_merged : (r : Result Turned MergeRefused) → r ≡ Ok Merged → TurnIs m n gates k s I.net w' d' r → Running m n w₀ d₀ w' d' (k + 1)
     unfolding TurnCase onward
     run_merged r e h =
         let u : (f : Edge) × (choose I.net.edges ≡ some f) × (in_range (event I.net f.num) ≡ true) × MergeLeaves m n gates k s I.net f.num w' d' = subst (TurnCase m n gates k s I.net w' d') e (turn_case m n gates k s I.net w' d' r h) in
@@ -165,14 +166,14 @@ module _ (m n : ℕ) (w₀ : List ℕ) (d₀ : List Float) (w : List ℕ) (d : L
           same_d = ld ∙ I.same_d;
         }
 
-    pub run_refused : (r : Turned) → r ≡ Refused → TurnIs m n gates k s I.net w' d' r → RunIs m n gates t₀ w' d' RunRefused
+    pub run_refused : (r : Result Turned MergeRefused) → r ≡ refused → TurnIs m n gates k s I.net w' d' r → RunIs m n gates t₀ w' d' refused
     unfolding TurnCase onward RunLeaves ran_of
     run_refused r e h =
         let u : (f : Edge) × (choose I.net.edges ≡ some f) × (in_range (event I.net f.num) ≡ false) = subst (TurnCase m n gates k s I.net w' d') e (turn_case m n gates k s I.net w' d' r h) in
         let no : settle m t₀ 0 ≡ none = step_is ∙ ap (λ (o : Option Edge). onward o I.net k (settle (m - (k + 1)))) u.1 ∙ ap (λ (x : Bool). cond x (settle (m - (k + 1)) (step I.net u.0.num) (suc k)) none) u.2 in
-        subst (λ (o : Option Done). RanIs m n gates (later m t₀) (entries_later m t₀) o w' d' RunRefused) (sym no) (record { answer = refl; leaves = tt })
+        subst (λ (o : Option Done). RanIs m n gates (later m t₀) (entries_later m t₀) o w' d' refused) (sym no) (record { answer = refl; leaves = tt })
 
-    pub run_ended : (r : Turned) → r ≡ Ended → TurnIs m n gates k s I.net w' d' r → RunIs m n gates t₀ w' d' (Settled k)
+    pub run_ended : (r : Result Turned MergeRefused) → r ≡ Ok Ended → TurnIs m n gates k s I.net w' d' r → RunIs m n gates t₀ w' d' (Ok k)
     unfolding TurnCase onward
     run_ended r e h =
         let u : (choose I.net.edges ≡ none) × (view m n w' d' ≡ s) = subst (TurnCase m n gates k s I.net w' d') e (turn_case m n gates k s I.net w' d' r h) in

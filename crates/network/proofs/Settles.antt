@@ -7,9 +7,9 @@ use Prim.Native.Nat.{ℕ, zero, suc, ◌+◌, ◌≤◌}
 use native.Mathlib.Omega.{arith}
 use lib.ListN.{length}
 use Rattle.network.specs.Network.{Edge, State, event, step, choose, follow, run, merges, merges_in_range, trace, replay, in_range}
-use Rattle.network.specs.Inside.Settle.{onward, settle, outcome, ran_of}
-use Rattle.network.specs.declared.network.Ran.{Ran}
-use Rattle.network.specs.declared.network.Ran.TheVariants.{Settled, Refused}
+use Rattle.network.specs.Inside.Settle.{onward, settle, outcome, refused, ran_of}
+use Rattle.std.proofs.Common.{Result, Ok}
+use Rattle.merge.specs.declared.merge.MergeRefused.{MergeRefused}
 use Rattle.lists.specs.Seq.{all}
 
 pub settle_run : (f : ℕ) (t : State) (k : ℕ) → settle f t k ≡ outcome t (run f t) k
@@ -49,13 +49,13 @@ run_most (suc m) s = go (choose s.edges) (run_most m)
 
 -- the answer by question 9
 module _ (t : State) where
-  abbrev by_test : Bool → Ran
+  abbrev by_test : Bool → Result ℕ MergeRefused
   by_test b = ran_of (cond b (some (record { last = replay t (merges t); merges = 0 + length (merges t) })) none)
 
-  pub ran_no : merges_in_range t ≡ false → ran_of (outcome t (merges t) 0) ≡ Refused
+  pub ran_no : merges_in_range t ≡ false → ran_of (outcome t (merges t) 0) ≡ refused
   unfolding merges_in_range outcome ran_of
   ran_no = ap by_test
 
-  pub ran_yes : merges_in_range t ≡ true → ran_of (outcome t (merges t) 0) ≡ Settled (length (merges t))
+  pub ran_yes : merges_in_range t ≡ true → ran_of (outcome t (merges t) 0) ≡ Ok (length (merges t))
   unfolding merges_in_range outcome ran_of
-  ran_yes h = let z : 0 + length (merges t) ≡ length (merges t) = omega arith in ap by_test h ∙ ap Settled z
+  ran_yes h = let z : 0 + length (merges t) ≡ length (merges t) = omega arith in ap by_test h ∙ ap Ok z

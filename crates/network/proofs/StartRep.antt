@@ -23,7 +23,8 @@ use Rattle.network.specs.Inside.Net.{edge_of, region_of, state_of}
 use Rattle.network.specs.Inside.Rep.{Rep, Circled}
 use Rattle.network.specs.Inside.TurnIs.{gates_in, first_of, Unmarked, RunIs}
 use Rattle.network.specs.Inside.Begin.{slots, regions_from, link_from, raw_region, raw_net, Space, Raw, Begun, Linkable, AllIs}
-use Rattle.network.specs.declared.network.Ran.{Ran}
+use Rattle.std.proofs.Common.{Result}
+use Rattle.merge.specs.declared.merge.MergeRefused.{MergeRefused}
 use Rattle.merge.proofs.View.{view_lengths, view_weighed}
 use Rattle.merge.proofs.Leaf.{room_of}
 use Rattle.merge.proofs.Bias.{lt_or_le, unbias_up}
@@ -256,6 +257,6 @@ module _ (m n : ℕ) (w : List ℕ) (d : List Float) (sp : Space m n w d) (raw :
           }
 
 -- ---- merge_all
-pub all_is : (m n : ℕ) (s : Tables) (w : List ℕ) (d : List Float) (w' : List ℕ) (d' : List Float) (r : Ran) → Begun m n s w d → RunIs m n (gates_in (view m n w d)) (first_of m n (view m n w d)) w' d' r → AllIs m n s w' d' r
+pub all_is : (m n : ℕ) (s : Tables) (w : List ℕ) (d : List Float) (w' : List ℕ) (d' : List Float) (r : Result ℕ MergeRefused) → Begun m n s w d → RunIs m n (gates_in (view m n w d)) (first_of m n (view m n w d)) w' d' r → AllIs m n s w' d' r
 unfolding AllIs
 all_is m n s w d w' d' r b h = subst (λ (g : ℕ → ℕ). RunIs m n g (raw_net m n s) w' d' r) b.sizes (subst (λ (t : State). RunIs m n (gates_in (view m n w d)) t w' d' r) b.net h)

@@ -15,7 +15,8 @@ use borrow.Author.Tests.{ne_eqb, eqb-true}
 use Rattle.lists.proofs.AllLaws.{keep_all, all_upto}
 use Rattle.lists.proofs.SeqLaws.{map-upto-length, keep_every}
 use Rattle.lists.specs.Seq.{All, upto, keep, all}
-use Rattle.edges.specs.Edges.{Pair, used}
+use Rattle.edges.specs.Edges.{used}
+use Rattle.edges.specs.declared.edges.Pair.{Pair}
 use Rattle.network.specs.Network.{Region, State, Event, alone, start, size_in, merges, run, trace, replay, in_range, count_of, marked, mark_of}
 use Rattle.network.specs.Book.{Entry, book}
 use Rattle.network.specs.Inside.Log.{Entries, log_in}
@@ -26,8 +27,8 @@ use Rattle.network.specs.Inside.Net.{edge_of, region_of}
 use Rattle.network.specs.Inside.Settle.{Done, settle, outcome, ran_of}
 use Rattle.network.specs.Inside.TurnIs.{gates_in, RunLeaves, RanIs}
 use Rattle.network.specs.Inside.Begin.{raw_region, raw_net, AllIs}
-use Rattle.network.specs.declared.network.Ran.{Ran}
-use Rattle.network.specs.declared.network.Ran.TheVariants.{Settled}
+use Rattle.std.proofs.Common.{Result, Ok}
+use Rattle.merge.specs.declared.merge.MergeRefused.{MergeRefused}
 use Rattle.network.proofs.Restrict.{edge_in, region_in, restrict, OkE, OkR, Closed, event_in, trace_in, book_in}
 use Rattle.network.proofs.Own.{merges_in, final_in}
 use Rattle.network.proofs.Settles.{run_most, settle_run}
@@ -169,7 +170,7 @@ module _ (two_nyquist : Float) (k m : ℕ) (L : List ℕ) (ps : List Pair) (s : 
     pub marks : (l : ℕ) → 1 ≤ l → l ≤ k → get_or ((view m (k + 1) w d).at mark) l 0 ≡ mark_of (trace network (merges network)) l
     pub entries : Entries (log_in (view m (k + 1) w d)) (length (merges network)) (book network (merges network))
 
-  module _ (w : List ℕ) (d : List Float) (r : Ran) (h : AllIs m (k + 1) s w d r) where
+  module _ (w : List ℕ) (d : List Float) (r : Result ℕ MergeRefused) (h : AllIs m (k + 1) s w d r) where
     ran : (b : Bool) → all in_range (trace network (merges network)) ≡ b → RanIs m (k + 1) (gates_in s) (trace network (merges network)) (book network (merges network)) (ending b) w d r
     unfolding AllIs tables
     ran b e = subst (λ (o : Option Done). RanIs m (k + 1) (gates_in s) (trace network (merges network)) (book network (merges network)) o w d r) (settle_is ∙ ap ending e)
@@ -181,7 +182,7 @@ module _ (two_nyquist : Float) (k m : ℕ) (L : List ℕ) (ps : List Pair) (s : 
     answer = h.answer ∙ ap ran_of settle_is ∙ go (all in_range (trace network (merges network)))
       where
         go : (b : Bool) → ran_of (ending b) ≡ ran_of (cond b (some (record { last = replay network (merges network); merges = 0 + length (merges network) })) none)
-        go true = unfold ending ran_of in ap Settled (omega arith)
+        go true = unfold ending ran_of in ap Ok (omega arith)
         go false = unfold ending ran_of in refl
 
     named : (node : ℕ → ℕ) (i : ℕ) → 1 ≤ i → region_in some_label any_edge (region_of (gates_in s) node (view m (k + 1) w d) i) ≡ true

@@ -18,15 +18,15 @@ use Rattle.network.proofs.Choice.{Best as Heaviest, best_chosen}
 use Rattle.memory.specs.Inside.Tree.{Best}
 use Rattle.merge.specs.Inside.Tables.{Tables, view, HoldsTables, Sound}
 use Rattle.merge.specs.Inside.Table.{mark, log, weight, bridged, first, second, enext, rnext, size, rlen}
-use Rattle.merge.specs.Inside.Steps.{unbias, turned, marked_all, mark_if, entry_words, logged, merged, number_of}
+use Rattle.merge.specs.Inside.Steps.{unbias, turned, marked_all, mark_if, entry_words, logged, merged}
 use Rattle.merge.specs.Inside.Leaves.{LeavesTables, Raised, Gains, Fit}
 use Rattle.network.specs.Inside.Net.{edge_of, edge_now, region_of}
 use Rattle.network.specs.Inside.Log.{Logging}
 use Rattle.network.specs.Inside.Rep.{Rep}
-use Rattle.network.specs.Inside.Settle.{merged_by, turned_by}
+use Rattle.network.specs.Inside.Settle.{refused, number_by, merged_by, turned_by}
 use Rattle.network.specs.Inside.TurnIs.{Marking, MergeLeaves, TurnLeaves, TurnIs, Chosen, PickIs}
 use Rattle.network.specs.declared.network.Turned.{Turned}
-use Rattle.network.specs.declared.network.Turned.TheVariants.{Merged, Ended, Refused}
+use Rattle.network.specs.declared.network.Turned.TheVariants.{Merged, Ended}
 use Rattle.merge.proofs.View.{weight_at_lem, read}
 use Rattle.merge.proofs.Leaf.{turned_words}
 use Rattle.network.proofs.TableEdges.{word_live}
@@ -38,15 +38,23 @@ use Rattle.network.proofs.StepEdges.{ends_in}
 use Rattle.network.proofs.StepRep.{MergeIs, merge_is}
 use Rattle.network.proofs.LogIs.{logging_is}
 use Rattle.network.proofs.Marks.{Remarked, remarked, has_member, marked_if}
-use Rattle.merge.proofs.MergeDoes.{raised_true, raised_false}
+use Rattle.merge.proofs.MergeDoes.{raised_ok, raised_err}
+use Rattle.merge.specs.declared.merge.MergeRefused.{MergeRefused}
+use Rattle.merge.specs.declared.merge.Step.{Step}
+use mathlib.Core.Logic.{◌⊎◌, ⊎_elim}
 use Rattle.network.proofs.NumberIs.{Numbered, number_in, number_out, opposite}
 use Rattle.lists.specs.Seq.{all, upto}
 use Rattle.arithmetic.specs.Rounding.{real, round_even}
 use Rattle.arithmetic.specs.Doubtful.{doubtful}
-use Rattle.network.specs.Inside.Popped.{Takes, Pops}
-use Rattle.network.specs.declared.network.Popped.{Popped}
+use Rattle.network.specs.Inside.Popped.{Takes}
 use Rattle.network.specs.declared.network.PoppedEdge.{PoppedEdge}
-use Rattle.network.specs.declared.network.Popped.TheVariants.{Edge as Taken, Nothing}
+use Rattle.std.proofs.Common.{Some, None, Result, Ok, Err}
+
+-- the larger node is the base, the second end's at equal sizes
+abbrev pub Larger : ℕ → ℕ → List ℕ → ℕ → ℕ → ℕ → Step → Type 0
+Larger m n w p q g u =
+    ((get_or w (8 * m + 3 * n + q) 0 < get_or w (8 * m + 3 * n + p) 0) × (u ≡ record { base = p; moved = q; gain = g }))
+    ⊎ ((get_or w (8 * m + 3 * n + p) 0 ≤ get_or w (8 * m + 3 * n + q) 0) × (u ≡ record { base = q; moved = p; gain = 2000 - g }))
 
 -- ---- the choice
 choose_dead : (E : ℕ → Edge) (k n : ℕ) → ((j : ℕ) → k ≤ j → j < k + n → (E j).live ≡ false) → choose (map E (upto n k)) ≡ none
@@ -238,10 +246,10 @@ module _ (m n : ℕ) (gates : ℕ → ℕ) (past : ℕ) (w : List ℕ) (d : List
                 gates = (R.sizes v hv lv ∙ sym (ap (size_of rs) is-v)) i;
               }
 
-          merged_yes : (w' : List ℕ) (d' : List Float) (y : Bool) → Raised m n w' d' (merged m (past + 1) e b v g' s') y → y ≡ true → PickIs m n gates past s t e w' d' Merged
+          merged_yes : (w' : List ℕ) (d' : List Float) → Raised m n w' d' (merged m (past + 1) e b v g' s') (Ok tt) → PickIs m n gates past s t e w' d' (Ok Merged)
           unfolding MergeIs merged_by
-          merged_yes w' d' y h f =
-              let r : (u : Tables) × (merged m (past + 1) e b v g' s' ≡ some u) × LeavesTables m n w' d' u = raised_true m n w' d' _ y h f in
+          merged_yes w' d' h =
+              let r : (u : Tables) × (merged m (past + 1) e b v g' s' ≡ some u) × LeavesTables m n w' d' u = raised_ok m n w' d' _ h in
               let o : (all (bounded 1000) (raised (plan rs' (R'.E e)).gain rs' (plan rs' (R'.E e)).moved) ≡ true) × Rep m n gates (past + 1) r.0 (step t e) × (r.0.at mark ≡ s'.at mark) × (r.0.at log ≡ s'.at log) = subst (MergeIs m n gates past s' t R' e lt l') r.1 outcome in
               let in_range_lem : in_range (event t e) ≡ true = range_is ∙ (rw (N.bound, ← same_test, o.0) refl) in
               let left : MergeLeaves m n gates past s t e w' d' = record {
@@ -252,10 +260,10 @@ module _ (m n : ℕ) (gates : ℕ → ℕ) (past : ℕ) (w : List ℕ) (d : List
               } in
               record { answer = sym (ap merged_by in_range_lem); leaves = λ q. left }
 
-          merged_no : (w' : List ℕ) (d' : List Float) (y : Bool) → Raised m n w' d' (merged m (past + 1) e b v g' s') y → y ≡ false → (w'' : List ℕ) (d'' : List Float) → PickIs m n gates past s t e w'' d'' Refused
+          merged_no : (w' : List ℕ) (d' : List Float) (why : MergeRefused) → Raised m n w' d' (merged m (past + 1) e b v g' s') (Err why) → (w'' : List ℕ) (d'' : List Float) → PickIs m n gates past s t e w'' d'' refused
           unfolding MergeIs merged_by
-          merged_no w' d' y h f w'' d'' =
-              let o : all (bounded 1000) (raised (plan rs' (R'.E e)).gain rs' (plan rs' (R'.E e)).moved) ≡ false = subst (MergeIs m n gates past s' t R' e lt l') (raised_false m n w' d' _ y h f) outcome in
+          merged_no w' d' why h w'' d'' =
+              let o : all (bounded 1000) (raised (plan rs' (R'.E e)).gain rs' (plan rs' (R'.E e)).moved) ≡ false = subst (MergeIs m n gates past s' t R' e lt l') (raised_err m n w' d' _ why h) outcome in
               let out : in_range (event t e) ≡ false = range_is ∙ (rw (N.bound, ← same_test, o) refl) in
               record { answer = sym (ap merged_by out); leaves = λ h. absurd (true≢false (sym h ∙ out)) }
 
@@ -277,10 +285,10 @@ module _ (m n : ℕ) (gates : ℕ → ℕ) (past : ℕ) (w : List ℕ) (d : List
           unfolding plan_for
           gain₁ = N.means ∙ sym (ap (λ (x : Plan). x.gain) plan_first)
 
-          first_yes : (z : Bool) → z ≡ doubtful (quotient (R.E e).link.diff (R.E e).link.weight) → (w' : List ℕ) (d' : List Float) (y : Bool) → Raised m n w' d' (merged m (past + 1) e p q g (mark_if z q (logged past e p q g s))) y → y ≡ true → PickIs m n gates past s t e w' d' Merged
+          first_yes : (z : Bool) → z ≡ doubtful (quotient (R.E e).link.diff (R.E e).link.weight) → (w' : List ℕ) (d' : List Float) → Raised m n w' d' (merged m (past + 1) e p q g (mark_if z q (logged past e p q g s))) (Ok tt) → PickIs m n gates past s t e w' d' (Ok Merged)
           first_yes z doubt = merged_yes z doubt p q g base₁ moved₁ gain₁ N.most p_in q_in leads_q apart k_in
 
-          first_no_lem : (z : Bool) → z ≡ doubtful (quotient (R.E e).link.diff (R.E e).link.weight) → (w' : List ℕ) (d' : List Float) (y : Bool) → Raised m n w' d' (merged m (past + 1) e p q g (mark_if z q (logged past e p q g s))) y → y ≡ false → (w'' : List ℕ) (d'' : List Float) → PickIs m n gates past s t e w'' d'' Refused
+          first_no_lem : (z : Bool) → z ≡ doubtful (quotient (R.E e).link.diff (R.E e).link.weight) → (w' : List ℕ) (d' : List Float) (why : MergeRefused) → Raised m n w' d' (merged m (past + 1) e p q g (mark_if z q (logged past e p q g s))) (Err why) → (w'' : List ℕ) (d'' : List Float) → PickIs m n gates past s t e w'' d'' refused
           first_no_lem z doubt = merged_no z doubt p q g base₁ moved₁ gain₁ N.most p_in q_in leads_q apart k_in
 
         -- the second end is
@@ -301,10 +309,10 @@ module _ (m n : ℕ) (gates : ℕ → ℕ) (past : ℕ) (w : List ℕ) (d : List
           unfolding plan_for
           gain₂ = opposite g N.most ∙ ap neg_ℤ N.means ∙ sym (ap (λ (x : Plan). x.gain) plan_second)
 
-          second_yes : (z : Bool) → z ≡ doubtful (quotient (R.E e).link.diff (R.E e).link.weight) → (w' : List ℕ) (d' : List Float) (y : Bool) → Raised m n w' d' (merged m (past + 1) e q p (2000 - g) (mark_if z p (logged past e q p (2000 - g) s))) y → y ≡ true → PickIs m n gates past s t e w' d' Merged
+          second_yes : (z : Bool) → z ≡ doubtful (quotient (R.E e).link.diff (R.E e).link.weight) → (w' : List ℕ) (d' : List Float) → Raised m n w' d' (merged m (past + 1) e q p (2000 - g) (mark_if z p (logged past e q p (2000 - g) s))) (Ok tt) → PickIs m n gates past s t e w' d' (Ok Merged)
           second_yes z doubt = merged_yes z doubt q p (2000 - g) base₂ moved₂ gain₂ (omega arith) q_in p_in leads_p (λ x. apart (sym x)) k_in
 
-          second_no : (z : Bool) → z ≡ doubtful (quotient (R.E e).link.diff (R.E e).link.weight) → (w' : List ℕ) (d' : List Float) (y : Bool) → Raised m n w' d' (merged m (past + 1) e q p (2000 - g) (mark_if z p (logged past e q p (2000 - g) s))) y → y ≡ false → (w'' : List ℕ) (d'' : List Float) → PickIs m n gates past s t e w'' d'' Refused
+          second_no : (z : Bool) → z ≡ doubtful (quotient (R.E e).link.diff (R.E e).link.weight) → (w' : List ℕ) (d' : List Float) (why : MergeRefused) → Raised m n w' d' (merged m (past + 1) e q p (2000 - g) (mark_if z p (logged past e q p (2000 - g) s))) (Err why) → (w'' : List ℕ) (d'' : List Float) → PickIs m n gates past s t e w'' d'' refused
           second_no z doubt = merged_no z doubt q p (2000 - g) base₂ moved₂ gain₂ (omega arith) q_in p_in leads_p (λ x. apart (sym x)) k_in
 
   -- ---- from what the code knows of the chosen edge
@@ -320,7 +328,7 @@ module _ (m n : ℕ) (gates : ℕ → ℕ) (past : ℕ) (w : List ℕ) (d : List
 
     chosen_number : Numbered (quot (R.E e).link.diff (R.E e).link.weight) g
     chosen_number = number_in (quot (R.E e).link.diff (R.E e).link.weight) g
-        (c.number ∙ ap (λ (x : Edge). number_of (quot x.link.diff (get_or (s.at weight) e 0))) chosen_is ∙ ap (λ (x : ℕ). number_of (quot (R.E e).link.diff x)) (stands s e (R.E e) chosen_is chosen_live).weight_is) c.most
+        (c.number ∙ ap (λ (x : Edge). number_by (quot x.link.diff (get_or (s.at weight) e 0))) chosen_is ∙ ap (λ (x : ℕ). number_by (quot (R.E e).link.diff x)) (stands s e (R.E e) chosen_is chosen_live).weight_is)
 
     chosen_doubt : z ≡ doubtful (quotient (R.E e).link.diff (R.E e).link.weight)
     chosen_doubt = c.doubt ∙ ap (λ (x : Edge). doubtful (quotient x.link.diff (get_or (s.at weight) e 0))) chosen_is ∙ ap (λ (x : ℕ). doubtful (quotient (R.E e).link.diff x)) (stands s e (R.E e) chosen_is chosen_live).weight_is
@@ -330,41 +338,42 @@ module _ (m n : ℕ) (gates : ℕ → ℕ) (past : ℕ) (w : List ℕ) (d : List
         let u = ends_words e c.e_in chosen_live p q chosen_ends.0 chosen_ends.1 in
         (omega (arith, u.0, u.2), omega (arith, u.1, u.3))
 
-    pub first_asks : Sound m n s × (Gains n p q g × (Fit n p q s × (e < m)))
+    first_asks : Sound m n s × (Gains n p q g × (Fit n p q s × (e < m)))
     first_asks = asks_first e c.e_in chosen_live p q chosen_ends.0 chosen_ends.1 g chosen_number
 
-    pub second_asks : Sound m n s × (Gains n q p (2000 - g) × (Fit n q p s × (e < m)))
+    second_asks : Sound m n s × (Gains n q p (2000 - g) × (Fit n q p s × (e < m)))
     second_asks = asks_second e c.e_in chosen_live p q chosen_ends.0 chosen_ends.1 g chosen_number
 
-    -- the merge by its answer y, once it is entered in the log, which gave w₁
-    module _ (k_in : past < m) (w₁ w' : List ℕ) (d' : List Float) (y : Bool) where
-      module _ (more : get_or w (8 * m + 3 * n + q) 0 < get_or w (8 * m + 3 * n + p) 0) (h : LeavesTables m n w₁ d (logged past e p q g s)) (r : Raised m n w' d' (merged m (past + 1) e p q g (mark_if z q (view m n w₁ d))) y) where
-        first_raised : Raised m n w' d' (merged m (past + 1) e p q g (mark_if z q (logged past e p q g s))) y
-        first_raised = subst (λ (u : Tables). Raised m n w' d' (merged m (past + 1) e p q g (mark_if z q u)) y) h.tables r
+    -- the merge by its answer, once it is entered in the log, which gave w₁
+    module _ (u : Step) (larger : Larger m n w p q g u) where
+      pub pick_asks : Sound m n s × (Gains n u.base u.moved u.gain × (Fit n u.base u.moved s × (e < m)))
+      pick_asks = ⊎_elim (λ x. rw x.1 first_asks) (λ x. rw x.1 second_asks) larger
 
-        pub first_merged : y ≡ true → PickIs m n gates past s t e w' d' Merged
-        first_merged = first_yes e c.e_in chosen_live p q chosen_ends.0 chosen_ends.1 g chosen_number k_in more z chosen_doubt w' d' y first_raised
+      module _ (k_in : past < m) (w₁ w' : List ℕ) (d' : List Float) (h : LeavesTables m n w₁ d (logged past e u.base u.moved u.gain s)) where
+        abbrev Answered : Result (Unit {0}) MergeRefused → Type 0
+        Answered y = Raised m n w' d' (merged m (past + 1) e u.base u.moved u.gain (mark_if z u.moved (view m n w₁ d))) y
 
-        pub first_refused : y ≡ false → (w'' : List ℕ) (d'' : List Float) → PickIs m n gates past s t e w'' d'' Refused
-        first_refused = first_no_lem e c.e_in chosen_live p q chosen_ends.0 chosen_ends.1 g chosen_number k_in more z chosen_doubt w' d' y first_raised
+        noted : (y : Result (Unit {0}) MergeRefused) → Answered y → Raised m n w' d' (merged m (past + 1) e u.base u.moved u.gain (mark_if z u.moved (logged past e u.base u.moved u.gain s))) y
+        noted y r = subst (λ (v : Tables). Raised m n w' d' (merged m (past + 1) e u.base u.moved u.gain (mark_if z u.moved v)) y) h.tables r
 
-      module _ (less : get_or w (8 * m + 3 * n + p) 0 ≤ get_or w (8 * m + 3 * n + q) 0) (h : LeavesTables m n w₁ d (logged past e q p (2000 - g) s))
-          (r : Raised m n w' d' (merged m (past + 1) e q p (2000 - g) (mark_if z p (view m n w₁ d))) y) where
-        second_raised : Raised m n w' d' (merged m (past + 1) e q p (2000 - g) (mark_if z p (logged past e q p (2000 - g) s))) y
-        second_raised = subst (λ (u : Tables). Raised m n w' d' (merged m (past + 1) e q p (2000 - g) (mark_if z p u)) y) h.tables r
+        pub pick_merged : Answered (Ok tt) → PickIs m n gates past s t e w' d' (Ok Merged)
+        pick_merged r = ⊎_elim
+            (λ x. first_yes e c.e_in chosen_live p q chosen_ends.0 chosen_ends.1 g chosen_number k_in x.0 z chosen_doubt w' d' (rw x.1 at (noted (Ok tt) r)))
+            (λ x. second_yes e c.e_in chosen_live p q chosen_ends.0 chosen_ends.1 g chosen_number k_in x.0 z chosen_doubt w' d' (rw x.1 at (noted (Ok tt) r)))
+            larger
 
-        pub second_merged : y ≡ true → PickIs m n gates past s t e w' d' Merged
-        second_merged = second_yes e c.e_in chosen_live p q chosen_ends.0 chosen_ends.1 g chosen_number k_in less z chosen_doubt w' d' y second_raised
-
-        pub second_refused : y ≡ false → (w'' : List ℕ) (d'' : List Float) → PickIs m n gates past s t e w'' d'' Refused
-        second_refused = second_no e c.e_in chosen_live p q chosen_ends.0 chosen_ends.1 g chosen_number k_in less z chosen_doubt w' d' y second_raised
+        pub pick_refused : (why : MergeRefused) → Answered (Err why) → (w'' : List ℕ) (d'' : List Float) → PickIs m n gates past s t e w'' d'' refused
+        pick_refused why r = ⊎_elim
+            (λ x. first_no_lem e c.e_in chosen_live p q chosen_ends.0 chosen_ends.1 g chosen_number k_in x.0 z chosen_doubt w' d' why (rw x.1 at (noted (Err why) r)))
+            (λ x. second_no e c.e_in chosen_live p q chosen_ends.0 chosen_ends.1 g chosen_number k_in x.0 z chosen_doubt w' d' why (rw x.1 at (noted (Err why) r)))
+            larger
 
   -- ---- the answer of choosing
-  pub pop_none : (e : ℕ) → Best m w e → get_or w e 0 ≡ 0 → Nothing ≡ popped (choose t.edges)
+  pub pop_none : (e : ℕ) → Best m w e → get_or w e 0 ≡ 0 → None ≡ popped (choose t.edges)
   unfolding popped
   pop_none e B z = sym (ap popped (choose_none e B z))
 
-  pop_is : (p : PoppedEdge) → Takes m n w d p → Taken p ≡ popped (choose t.edges)
+  pop_is : (p : PoppedEdge) → Takes m n w d p → Some p ≡ popped (choose t.edges)
   unfolding popped
   pop_is p k =
       let e : ℕ = p.edge_number in
@@ -373,26 +382,23 @@ module _ (m n : ℕ) (gates : ℕ → ℕ) (past : ℕ) (w : List ℕ) (d : List
       let a : p.node1 ≡ (R.E e).first = k.first ∙ ap (λ (x : Edge). x.first) is in
       let b : p.node2 ≡ (R.E e).second = k.second ∙ ap (λ (x : Edge). x.second) is in
       let x : p.diff ≡ div binary64 (R.E e).link.diff (real (pos (R.E e).link.weight)) = k.diff ∙ ap (λ (z : Edge). div binary64 z.link.diff (real (pos (get_or w e 0)))) is ∙ ap (λ (z : ℕ). div binary64 (R.E e).link.diff (real (pos z))) (weighs e k.best k.live e k.best.within l) in
-      (λ i. Taken (record { node1 = a i; node2 = b i; diff = x i; doubtful = (k.doubtful ∙ ap doubtful x) i; edge_number = sym (R.number e) i }))
+      (λ i. Some (record { node1 = a i; node2 = b i; diff = x i; doubtful = (k.doubtful ∙ ap doubtful x) i; edge_number = sym (R.number e) i }))
       ∙ sym (ap popped (choose_some e k.best k.live))
 
   -- ---- a turn
-  module _ (e g : ℕ) (B : Best m w e) where
-    pub turn_ended : get_or w e 0 ≡ 0 → TurnIs m n gates past s t w d Ended
+  module _ (e : ℕ) (B : Best m w e) where
+    pub turn_ended : get_or w e 0 ≡ 0 → TurnIs m n gates past s t w d (Ok Ended)
     unfolding TurnLeaves turned_by
     turn_ended z = let c = choose_none e B z in record { answer = sym (ap (turned_by t) c); leaves = subst (λ (o : Option Edge). TurnLeaves m n gates past s t o w d) (sym c) refl }
 
-    module _ (live : get_or w e 0 ≡ 0 → ⊥) (is : g ≡ number_of (quot (edge_now s e).link.diff (get_or w e 0))) where
+    module _ (live : get_or w e 0 ≡ 0 → ⊥) where
       l : (R.E e).live ≡ true
       l = best_live e B live
-
-      in_words : g ≡ number_of (quot (R.E e).link.diff (R.E e).link.weight)
-      in_words = is ∙ ap (λ (x : Edge). number_of (quot x.link.diff (get_or w e 0))) ((R.like e B.within).whole l) ∙ ap (λ (x : ℕ). number_of (quot (R.E e).link.diff x)) (weighs e B live e B.within l)
 
       num : (R.E e).num ≡ e
       num = R.number e
 
-      pub turn_picked : (w' : List ℕ) (d' : List Float) (r : Turned) → PickIs m n gates past s t e w' d' r → TurnIs m n gates past s t w' d' r
+      pub turn_picked : (w' : List ℕ) (d' : List Float) (r : Result Turned MergeRefused) → PickIs m n gates past s t e w' d' r → TurnIs m n gates past s t w' d' r
       unfolding TurnLeaves turned_by
       turn_picked w' d' r h =
           let c = choose_some e B live in
@@ -402,11 +408,13 @@ module _ (m n : ℕ) (gates : ℕ → ℕ) (past : ℕ) (w : List ℕ) (d : List
             leaves = subst (λ (o : Option Edge). TurnLeaves m n gates past s t o w' d') (sym c) leaves;
           }
 
-      pub turn_refused : 2000 < g → (w' : List ℕ) (d' : List Float) → TurnIs m n gates past s t w' d' Refused
+      pub turn_refused : (x : MergeRefused) → Err x ≡ number_by (quot (edge_now s e).link.diff (get_or w e 0)) → (w' : List ℕ) (d' : List Float) → TurnIs m n gates past s t w' d' refused
       unfolding merged_by
-      turn_refused h w' d' =
-          let out = number_refused e B.within l (number_out (quot (R.E e).link.diff (R.E e).link.weight) g in_words h) in
-          turn_picked w' d' Refused (record { answer = sym (ap merged_by out); leaves = λ h. absurd (true≢false (sym h ∙ out)) })
+      turn_refused x o w' d' =
+          let is : edge_now s e ≡ R.E e = (R.like e B.within).whole l in
+          let out = number_refused e B.within l (number_out (quot (R.E e).link.diff (R.E e).link.weight) x
+          (o ∙ ap (λ (y : Edge). number_by (quot y.link.diff (get_or w e 0))) is ∙ ap (λ (y : ℕ). number_by (quot (R.E e).link.diff y)) (weighs e B live e B.within l))) in
+          turn_picked w' d' refused (record { answer = sym (ap merged_by out); leaves = λ h. absurd (true≢false (sym h ∙ out)) })
 
 -- ---- what `pop_edge` leaves where an edge is live
 module _ (m n : ℕ) (w : List ℕ) (d : List Float) (r : HoldsTables m n w d) (h : Sound m n (view m n w d)) (e : ℕ) (B : Best m w e) (live : get_or w e 0 ≡ 0 → ⊥) where
@@ -417,7 +425,7 @@ module _ (m n : ℕ) (w : List ℕ) (d : List Float) (r : HoldsTables m n w d) (
   y = get_or w (4 * m + e) 0
 
   abbrev Answer : PoppedEdge → Type 0
-  Answer p = Takes m n w d p × ((gates : ℕ → ℕ) (k : ℕ) (t : State) → Rep m n gates k (view m n w d) t → Taken p ≡ popped (choose t.edges))
+  Answer p = Takes m n w d p × ((gates : ℕ → ℕ) (k : ℕ) (t : State) → Rep m n gates k (view m n w d) t → Some p ≡ popped (choose t.edges))
 
   answer : (p : PoppedEdge) → Takes m n w d p → Answer p
   answer p k = (k, λ gates past t R. pop_is m n gates past w d t R p k)
@@ -436,30 +444,21 @@ module _ (m n : ℕ) (w : List ℕ) (d : List Float) (r : HoldsTables m n w d) (
       let no : turned (view m n w d) e ≡ false = turned_words m n w d r e B.within h ∙ le-ltb (get_or w (8 * m + 2 * n + x) 0) (get_or w (8 * m + 2 * n + y) 0) le in
       answer _ (record { best = B; live = live; first = rw no (sym (read first m n w d e B.within)); second = rw no (sym (read second m n w d e B.within)); diff = rw no refl; doubtful = doubt })
 
--- what is known of the answer of choosing, by its case
-pub pops_none : (m n : ℕ) (w : List ℕ) (d : List Float) (r : Popped) → r ≡ Nothing → Pops m n w d r → (e : ℕ) × Best m w e × (get_or w e 0 ≡ 0)
-unfolding Pops
-pops_none m n w d r e h = subst (Pops m n w d) e h
-
-pub pops_some : (m n : ℕ) (w : List ℕ) (d : List Float) (r : Popped) (p : PoppedEdge) → r ≡ Taken p → Pops m n w d r → Takes m n w d p
-unfolding Pops
-pops_some m n w d r p e h = subst (Pops m n w d) e h
-
-module _ (m n : ℕ) (w : List ℕ) (d : List Float) (p : PoppedEdge) (k : Takes m n w d p) (g : ℕ) (i : g ≡ number_of (whole (round_even p.diff))) where
+-- what is known of the edge chosen
+module _ (m n : ℕ) (w : List ℕ) (d : List Float) (p : PoppedEdge) (k : Takes m n w d p) (r : Result ℕ MergeRefused) (i : r ≡ number_by (whole (round_even p.diff))) where
   abbrev e : ℕ
   e = p.edge_number
 
-  pub taken_number : g ≡ number_of (quot (edge_now (view m n w d) e).link.diff (get_or w e 0))
+  pub taken_number : r ≡ number_by (quot (edge_now (view m n w d) e).link.diff (get_or w e 0))
   unfolding quot
-  taken_number = i ∙ ap (λ (x : Float). number_of (whole (round_even x))) k.diff
+  taken_number = i ∙ ap (λ (x : Float). number_by (whole (round_even x))) k.diff
 
-  pub turn_chosen : g ≤ 2000 → Chosen m (view m n w d) e p.node1 p.node2 g p.doubtful
-  turn_chosen most = record {
+  pub turn_chosen : (g : ℕ) → r ≡ Ok g → Chosen m (view m n w d) e p.node1 p.node2 g p.doubtful
+  turn_chosen g o = record {
     e_in = k.best.within;
     live = λ z. k.live (sym (weight_at_lem m n w d e k.best.within) ∙ z);
     first = k.first;
     second = k.second;
-    number = taken_number ∙ ap (λ (x : ℕ). number_of (quot (edge_now (view m n w d) e).link.diff x)) (sym (weight_at_lem m n w d e k.best.within));
-    most = most;
+    number = sym o ∙ taken_number ∙ ap (λ (x : ℕ). number_by (quot (edge_now (view m n w d) e).link.diff x)) (sym (weight_at_lem m n w d e k.best.within));
     doubt = k.doubtful ∙ ap doubtful k.diff ∙ ap (λ (x : ℕ). doubtful (quotient (edge_now (view m n w d) e).link.diff x)) (sym (weight_at_lem m n w d e k.best.within));
   }

@@ -1,19 +1,17 @@
 -- network.rs: regions joined by weighted edges, and the steps that join them into nodes.
 -- Letters: e an edge, i or k its number, a a node, b the base, m the moved node, p the plan of a merge, r a region or a record, w a weight.
-use Rattle.std.specs.Prelude.{Bool, true, false, not, ◌&&◌, ◌||◌, cond, List, [], ◌∷◌, map, ℕ, zero, suc, ◌+◌, leb, ltb, eqb, length, ℤ, pos, negsuc, ◌+ℤ◌, neg_ℤ, Float}
+use Rattle.std.specs.Prelude.{Bool, true, false, not, ◌&&◌, ◌||◌, cond, List, [], ◌∷◌, map, ℕ, zero, suc, ◌+◌, leb, ltb, eqb, length, ℤ, pos, negsuc, ◌+ℤ◌, neg_ℤ, Float, Some, None}
+use Rattle.std.specs.Prelude as Std
 use Rattle.std.proofs.Math.Option.{Option, none, some}
 use Rattle.std.specs.Float.{binary32, binary64}
 use Rattle.std.specs.Float.Ieee.{add, neg, div}
 use Rattle.lists.specs.Seq.{upto, all, keep}
 use Rattle.arithmetic.specs.Rounding.{round_even, real, scale}
 use Rattle.arithmetic.specs.Doubtful.{doubtful}
-use Rattle.arithmetic.specs.declared.rounding.Rounded.{Rounded}
-use Rattle.arithmetic.specs.declared.rounding.Rounded.TheVariants.{Whole, Outside}
 use Rattle.edges.specs.Edges.{difference, pairs, used}
 use Rattle.edges.specs.declared.edges.Shape.{Shape}
 use Rattle.edges.specs.declared.edges.EdgeRecord.{EdgeRecord}
-use Rattle.network.specs.declared.network.Popped.{Popped}
-use Rattle.network.specs.declared.network.Popped.TheVariants.{Edge as Taken, Nothing}
+use Rattle.network.specs.declared.network.PoppedEdge.{PoppedEdge}
 
 -- ---- the network
 
@@ -88,9 +86,9 @@ at (e ∷ es) i = cond (e.live && eqb i e.num) (some e) (at es i)
 -- ---- what a merge does
 
 -- A rounded number. What is beyond 2 ^ 30 or no number becomes 2000, which question 9 refuses like any number past 1,000.
-unfoldable pub whole : Rounded → ℤ
-whole (Whole z) = z
-whole Outside = pos 2000
+unfoldable pub whole : Std.Option ℤ → ℤ
+whole (Some z) = z
+whole None = pos 2000
 
 -- A difference divided by its weight, in f64.
 abbrev pub quotient : Float → ℕ → Float
@@ -254,9 +252,9 @@ choose (e ∷ es) = better e (choose es)
 
 -- The answer of choosing: the ends, the difference divided by the weight in f64, whether that is doubtful, and the number of the edge chosen,
 -- or none live.
-unfoldable pub popped : Option Edge → Popped
-popped none = Nothing
-popped (some e) = Taken (record {
+unfoldable pub popped : Option Edge → Std.Option PoppedEdge
+popped none = None
+popped (some e) = Some (record {
   node1 = e.first;
   node2 = e.second;
   diff = quotient e.link.diff e.link.weight;

@@ -8,7 +8,9 @@ ghost use Rattle.lists.specs.Seq.{tabulate};
 ghost use Rattle.network.specs.Network.{size_in};
 ghost use Rattle.network.specs.Inside.Find.{limits_by, regions_by, found_in, network_for, Planned, Limited, Labelled, Few, Merges, Finds, Leaves};
 
+use edges::edges::Shape;
 use memory::layout;
+use merge::merge::MergeRefused;
 
 // How many regions there are, and how many merges there were.
 #[derive(Clone, Copy)]
@@ -18,21 +20,7 @@ pub struct Run {
 }
 
 // The regions found and merged, or the refusal by question 9.
-#[derive(Clone, Copy)]
-pub enum Finding {
-    Regions(Run),
-    Refused,
-}
-
-// The number of limits as a length.
-fn how_many(number: i64) -> usize
-    ensures { result ≡ at_least0 number }
-{
-    if number > 0 {
-        return number as usize;
-    }
-    0
-}
+pub type Finding = Result<Run, MergeRefused>;
 
 // The limits of a plan at the front of `out`, and how many they are.
 pub fn limits(o: crate::options::Options, p: arithmetic::intervals::Plan, out: &mut [f64]) -> usize
@@ -41,8 +29,8 @@ pub fn limits(o: crate::options::Options, p: arithmetic::intervals::Plan, out: &
     ensures value { result ≡ at_least0 p.number }
     ensures out_after { out.new ≡ front (limits_by o p) out.old }
 {
-    arithmetic::intervals::limits(o.nyquist, o.splits, p.add_start, p.add_end, p.number, out);
-    how_many(p.number)
+    arithmetic::intervals::limits(o.nyquist, o.splits, p, out);
+    p.how_many()
 }
 
 // The label of each gate, at the front of `work`, by the limits of a plan, which are written into `out`. The number of regions. Of `work` the
@@ -109,19 +97,14 @@ pub fn merge_regions(
     let n = velocity.len();
     if k < 2 {
         leave_alone(words, n, k);
-        return Finding::Regions(Run {
+        return Ok(Run {
             regions: k,
             merges: 0,
         });
     }
-    let f = crate::options::shape(o);
-    match crate::reduce::reduce(words, floats, velocity, f, n, k, 2.0 * (o.nyquist as f64)) {
-        crate::network::Ran::Settled(j) => Finding::Regions(Run {
-            regions: k,
-            merges: j,
-        }),
-        crate::network::Ran::Refused => Finding::Refused,
-    }
+    let two_nyquist = 2.0 * (o.nyquist as f64);
+    let merges = crate::reduce::reduce(words, floats, velocity, Shape::from(o), n, k, two_nyquist)?;
+    Ok(Run { regions: k, merges })
 }
 
 // The regions of a sweep by the limits of a plan, merged.

@@ -6,6 +6,8 @@ ghost use Rattle.std.specs.Prelude.{◌≡◌};
 ghost use Rattle.network.specs.Inside.Reduce.{Reduces, Reduced, Keeps, kept_tables};
 
 use memory::layout;
+use merge::merge::MergeRefused;
+use merge::places::Places;
 
 // Counts, marks and log of k regions, merged over e edges of n gates, go from the tables to the places where callers look for them.
 fn keep_tables(w: &mut [u32], n: usize, e: usize, k: usize)
@@ -13,6 +15,7 @@ fn keep_tables(w: &mut [u32], n: usize, e: usize, k: usize)
     ensures { w.new ≡ kept_tables n e k w.old }
 {
     let nodes = k + 1;
+    // by sums, not by Places: the log has a place here where there is no edge, and Places's entry asks for one
     let from = layout::TABLES * n + layout::NODES * e;
     let at = n + nodes;
     memory::words::copy(w, from + layout::COUNTS * nodes, at, nodes);
@@ -37,7 +40,7 @@ pub fn reduce(
     n: usize,
     k: usize,
     two_nyquist: f64,
-) -> crate::network::Ran
+) -> Result<usize, MergeRefused>
     requires { Reduces f w.old d.old vel.now n k }
     ensures { Reduced (network_by two_nyquist f k (seg w.old 0 n) vel.now) n k w.old w.new result }
 {
@@ -45,9 +48,11 @@ pub fn reduce(
     let nodes = k + 1;
     let e = edges::edges::find_edges(w, d, vel, f, n, k, t, two_nyquist);
     crate::sizes::count_sizes(w, n, n, nodes);
-    memory::words::copy(w, n, t + layout::NODES * e + layout::SIZES * nodes, nodes);
+    let at = Places { edges: e, nodes };
+    memory::words::copy(w, n, t + at.size(0), nodes);
+    // by sums: the end of all tables is no table's place
     let end = t + layout::NODES * e + layout::NODE_TABLES * nodes + layout::ENTRY * e;
-    let r = crate::network::merge_all(&mut w[t..end], d, e, nodes);
+    let r = crate::network::merge_all(&mut w[t..end], d, at);
     keep_tables(w, n, e, k);
     r
 }

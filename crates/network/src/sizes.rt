@@ -11,11 +11,9 @@ pub fn count_sizes(w: &mut [u32], n: usize, at: usize, k: usize)
     ensures { w.new ≡ put w.old at (tabulate k (size_in (seg w.old 0 n))) }
 {
     memory::words::fill(w, at, k, 0);
-    let mut g = 0;
-    while g < n {
+    for g in 0..n {
         let l = w[g] as usize;
         let c = w[at + l];
         w[at + l] = c + 1;
-        g += 1;
     }
 }

@@ -1,13 +1,14 @@
 -- The sweep entry with a book, of a file of at most 128 gates: a book of 762 numbers is never too short, so it answers what the sweep entry answers, and its
 -- entries are the file's. Assumes nothing.
-use Prim.Native.Nat.{ℕ, zero, suc, ◌-◌, ◌/◌, ◌≤◌, ◌<◌}
+use Prim.Native.Nat.{ℕ, zero, suc, ◌-◌, ◌*◌, ◌/◌, ◌≤◌}
 use native.Mathlib.Omega.{arith}
 use mathlib.Core.Path.{◌≡◌, refl, sym, ap, ◌∙◌, subst}
 use mathlib.Core.Bool.{Bool, true, false, cond}
 use mathlib.Core.List.{List, [], ◌∷◌, map}
 use mathlib.Core.Option.{Option, none, some}
 use lib.Dec.{T}
-use lib.ListN.{length, get_or}
+use lib.ListN.{length, get_or, take}
+use Rattle.std.specs.Simd.{first_chunks}
 use lib.IntN.{ℤ}
 use lib.Ieee.{Float, nan, binary32, fits, of_bits}
 use lib.Ieee.Bits.{of_bits-fits}
@@ -18,28 +19,24 @@ use Rattle.arithmetic.specs.Inside.Asked.{Rising}
 use Rattle.arithmetic.proofs.Rising.{sweep_limits_rise}
 use Rattle.labels.specs.Label.{Found}
 use Rattle.labels.proofs.RegionLaws.{number_at_most}
-use Rattle.network.specs.declared.options.Options.{Options}
 use Rattle.network.specs.Network.{merges}
 use Rattle.network.specs.Book.{Entry, book}
 use Rattle.network.proofs.BookLaws.{merges_less, book_counts}
 use Rattle.sweep.specs.Sweep.{Sweep, Unfolded, regions_of, network_of, early, ended, finished, unfolded_by, unfolded}
-use Rattle.sweep.specs.Entry.{sweep_by}
 use Rattle.sweep.specs.Questions.{Question, ask, Outcome, refused, accepted, Lent, first_no, words_for, room, gates_in, seven, eight_of, nine_of, limits_few, own_limits, first_missed, answered, outcome}
 use Rattle.sweep.specs.Call.{Memory, answer_by, lengths, cleared_for, worked_on, ending, call}
 use Rattle.sweep.proofs.QuestionLaws.{on, or_else, list_after, none_all}
 use Rattle.sweep.proofs.PassedLaws.{passed, seven_of_eight}
 use Rattle.sweep.proofs.PlanLaws.{limits_yes}
-use Rattle.sweep_book.specs.Book.{book_of, over, holds, book_holds, later, asked_book, BookAnswer, book_after, end_book, call_book, book_answer_by}
-use Rattle.files.specs.declared.format.Header.{Header}
-use Rattle.files.specs.Format.{options_by, sweep_in}
+use Rattle.sweep_book.specs.Book.{book_of, holds, book_holds, later, asked_book, BookAnswer, book_after, end_book, call_book, book_answer_by}
+use Rattle.files.specs.Format.{sweep_in}
 use Rattle.files.specs.Questions.{as_sweep, read_questions}
-use Rattle.files.specs.Calls.{read, read_by}
 use Rattle.printout.specs.Unfold.{file_gates, lent_for, file_outcome, printed_by, printed_of}
-use Rattle.printout.specs.Book.{file_book}
-use Rattle.printout.specs.Inside.Folds.{folds_by, folds_of, text_for}
-use Rattle.printout.specs.Inside.Booked.{book_lines, Booked, booked_by, booked_of}
-use Rattle.printout.proofs.UnfoldLaws.{kept_over, outcome_some, outcome_none, file_refused, same_input, file_answered, file_unfolded, number_of, Accepted, file_accepted}
-use Rattle.printout.proofs.BookLaws.{book_text_lem}
+use Rattle.printout.specs.Book.{book_text, file_book}
+use Rattle.printout.specs.Inside.Folds.{folds_by, folds_of}
+use Rattle.printout.specs.Inside.Booked.{rows_text, Booked, booked_by, booked_of}
+use Rattle.printout.proofs.UnfoldLaws.{kept_over, outcome_some, outcome_none, file_unfolded, Accepted}
+use Rattle.printout.proofs.BookLaws.{rows_are, rows_held}
 
 -- ---- regions and merges of a sweep of n gates
 
@@ -151,45 +148,35 @@ lent_words : (n : ℕ) → (lent_for n).words ≡ words_for n
 unfolding lent_for
 lent_words n = refl
 
-module _ (f vel mask : List ℕ) (a : length vel ≡ file_gates f) (b : length mask ≡ file_gates f) (k : ℕ) (hd : Header) (vs ms : List ℕ) (e : read_by k hd vs ms ≡ read f vel mask) where
-  -- a refusal leaves counts and book
-  pub refused_left : (counts : List ℤ) (n : ℕ) (lent : List ℤ) → (k ≡ 0 → ⊥)
-      → (folds_by k counts ≡ folds_of (file_outcome f) counts) × (0 < length lent → booked_by k n lent ≡ booked_of (file_outcome f) (file_book f) n lent)
-  unfolding folds_of booked_of
-  refused_left counts n lent h =
-      let r = sym (file_refused f vel mask a b k hd vs ms e h) in
-      (ap (λ (o : Outcome). folds_of o counts) r, λ p. ap (λ (o : Outcome). booked_of o (file_book f) n lent) r)
+-- a refusal leaves the book and how many entries it says
+pub booked_refused : (f : List ℕ) (k n : ℕ) (lent : List ℤ) → file_outcome f ≡ refused k → booked_by k n lent ≡ booked_of (file_outcome f) (file_book f) n lent
+unfolding booked_of
+booked_refused f k n lent e = ap (λ (o : Outcome). booked_of o (file_book f) n lent) (sym e)
 
-  module _ (z : k ≡ 0) (o : Options) (us : List Float) (m : Memory) (lent : List ℤ) (r : ℕ) (cs : List ℤ) (ds p w : List ℕ) (d : List Float) (after : List ℤ) (g : o ≡ options_by hd) (h : us ≡ map (of_bits binary32) vs)
-      (l : lengths m ≡ lent_for (file_gates f)) (few : file_gates f ≤ 128) (long : 762 ≤ length lent) (t : book_answer_by (answer_by r cs ds p w d) after ≡ call_book (sweep_by o us ms) m lent) where
-    abbrev s : Sweep
-    s = as_sweep (sweep_in f)
+module _ (f : List ℕ) (s : Sweep) (m : Memory) (lent : List ℤ) (r : ℕ) (cs : List ℤ) (ds p w : List ℕ) (d : List Float) (after : List ℤ) (h : s ≡ as_sweep (sweep_in f))
+    (o : file_outcome f ≡ outcome (as_sweep (sweep_in f)) (lent_for (file_gates f))) (l : lengths m ≡ lent_for (file_gates f)) (few : file_gates f ≤ 128) (long : 762 ≤ length lent)
+    (t : book_answer_by (answer_by r cs ds p w d) after ≡ call_book s m lent) where
+  abbrev same : Sweep
+  same = as_sweep (sweep_in f)
 
-    handed : sweep_by o us ms ≡ s
-    handed = same_input f vel mask a b k hd vs ms e z o us g h
+  asks : asked_book same (lengths m) (length lent) ≡ first_missed same (lengths m)
+  asks = asks_same same (lengths m) (file_gates f) (file_floats f) (ap (λ (x : Lent). x.words) l ∙ lent_words (file_gates f)) (length lent) few long
 
-    asks : asked_book s (lengths m) (length lent) ≡ first_missed s (lengths m)
-    asks = asks_same s (lengths m) (file_gates f) (file_floats f) (ap (λ (x : Lent). x.words) l ∙ lent_words (file_gates f)) (length lent) few long
+  given : book_answer_by (answer_by r cs ds p w d) after ≡ call_book same m lent
+  given = t ∙ ap (λ (x : Sweep). call_book x m lent) h
 
-    given : book_answer_by (answer_by r cs ds p w d) after ≡ call_book s m lent
-    given = t ∙ ap (λ (x : Sweep). call_book x m lent) handed
+  -- an answer with a book leaves the counts
+  pub book_folds : folds_by r cs ≡ folds_of (file_outcome f) m.counts
+  book_folds = file_unfolded f same m r cs ds p w d refl o l (ap (λ (x : BookAnswer). x.answer) given ∙ call_answer same m lent asks)
 
-    book_folds : folds_by r cs ≡ folds_of (file_outcome f) m.counts
-    book_folds =
-        file_unfolded f vel mask a b k hd vs ms e z o us m r cs ds p w d g h l
-        (ap (λ (x : BookAnswer). x.answer) given ∙ call_answer s m lent asks ∙ ap (λ (x : Sweep). call x m) (sym handed))
-
-    book_booked : booked_by r (get_or p 1 0) after ≡ booked_of (file_outcome f) (file_book f) (get_or m.pair 1 0) lent
-    unfolding file_book
-    book_booked =
-        ap (λ (x : BookAnswer). booked_by x.answer.number (get_or x.answer.memory.pair 1 0) x.book) given
-        ∙ call_booked s m lent asks
-        ∙ (λ i. booked_of (outcome s (l i)) (book_of s (regions_of s (own_limits s))) (get_or m.pair 1 0) lent)
-        ∙ ap (λ (x : Outcome). booked_of x (book_of s (regions_of s (own_limits s))) (get_or m.pair 1 0) lent) (sym (file_answered f vel mask a b k hd vs ms e z))
-
-    -- an answer with a book leaves the counts and the entries
-    pub book_left : (folds_by r cs ≡ folds_of (file_outcome f) m.counts) × (0 < length lent → booked_by r (get_or p 1 0) after ≡ booked_of (file_outcome f) (file_book f) (get_or m.pair 1 0) lent)
-    book_left = (book_folds, λ q. book_booked)
+  -- and the entries
+  pub book_booked : booked_by r (get_or p 1 0) after ≡ booked_of (file_outcome f) (file_book f) (get_or m.pair 1 0) lent
+  unfolding file_book
+  book_booked =
+      ap (λ (x : BookAnswer). booked_by x.answer.number (get_or x.answer.memory.pair 1 0) x.book) given
+      ∙ call_booked same m lent asks
+      ∙ (λ i. booked_of (outcome same (l i)) (book_of same (regions_of same (own_limits same))) (get_or m.pair 1 0) lent)
+      ∙ ap (λ (x : Outcome). booked_of x (book_of same (regions_of same (own_limits same))) (get_or m.pair 1 0) lent) (sym o)
 
 -- ---- how many entries
 
@@ -228,32 +215,24 @@ file_counted f few = go (first_no (read_questions f (file_gates f) (file_gates f
 
 -- ---- what is printed
 
-pub booked_number : (o : Outcome) (vs : List Entry) (n : ℕ) (b : List ℤ) → (booked_of o vs n b).number ≡ number_of o
-unfolding booked_of
-booked_number (refused k) vs n b = refl
-booked_number (accepted cs ds r m) vs n b = refl
+-- n and b being what an acceptance left of a book
+module _ (f : List ℕ) (few : file_gates f ≤ 128) (n j : ℕ) (b lent : List ℤ) (a : Accepted (file_outcome f)) (e : booked_by 0 n b ≡ booked_of (file_outcome f) (file_book f) j lent) where
+  pub book_most : n ≤ 127
+  unfolding booked_of
+  book_most = go (file_outcome f) a (file_counted f few) e
+    where
+      go : (o : Outcome) → Accepted o → Counted (file_book f) o → booked_by 0 n b ≡ booked_of o (file_book f) j lent → n ≤ 127
+      go (refused i) a c e = absurd a
+      go (accepted cs ds r m) a c e = let q : n ≡ m = ap (λ (x : Booked). x.entries) e in omega (arith, c.1)
 
--- k, n and b being what a call left of a book
-module _ (f : List ℕ) (few : file_gates f ≤ 128) (k n j : ℕ) (b lent : List ℤ) (e : booked_by k n b ≡ booked_of (file_outcome f) (file_book f) j lent) where
-  pub book_number : k ≡ number_of (file_outcome f)
-  book_number = ap (λ (x : Booked). x.number) e ∙ booked_number (file_outcome f) (file_book f) j lent
-
-  module _ (z : k ≡ 0) where
-    pub book_most : n ≤ 127
-    unfolding booked_of
-    book_most = go (file_outcome f) (file_accepted f (sym book_number ∙ z)) (file_counted f few) e
-      where
-        go : (o : Outcome) → Accepted o → Counted (file_book f) o → booked_by k n b ≡ booked_of o (file_book f) j lent → n ≤ 127
-        go (refused i) a c e = absurd a
-        go (accepted cs ds r m) a c e = let q : n ≡ m = ap (λ (x : Booked). x.entries) e in omega (arith, c.1)
-
-    pub book_prints : printed_by 0 (book_lines n b) ≡ printed_of (text_for true f) (file_outcome f)
-    unfolding printed_of booked_of
-    book_prints = go (file_outcome f) (file_accepted f (sym book_number ∙ z)) (file_counted f few) e
-      where
-        go : (o : Outcome) → Accepted o → Counted (file_book f) o → booked_by k n b ≡ booked_of o (file_book f) j lent → printed_by 0 (book_lines n b) ≡ printed_of (text_for true f) o
-        go (refused i) a c e = absurd a
-        go (accepted cs ds r m) a c e =
-            ap (λ (x : Booked). printed_by 0 (book_lines x.entries x.book)) e
-            ∙ ap (λ (q : ℕ). printed_by 0 (book_lines q (over (file_book f) lent))) c.0
-            ∙ ap (printed_by 0) (book_text_lem (file_book f) lent)
+  pub book_prints : printed_by 0 (rows_text (first_chunks 6 (length (take (6 * n) b) / 6) (take (6 * n) b))) ≡ printed_of (λ counts. book_text (file_book f)) (file_outcome f)
+  unfolding printed_of booked_of
+  book_prints = go (file_outcome f) a (file_counted f few) e
+    where
+      go : (o : Outcome) → Accepted o → Counted (file_book f) o → booked_by 0 n b ≡ booked_of o (file_book f) j lent
+          → printed_by 0 (rows_text (first_chunks 6 (length (take (6 * n) b) / 6) (take (6 * n) b))) ≡ printed_of (λ counts. book_text (file_book f)) o
+      go (refused i) a c e = absurd a
+      go (accepted cs ds r m) a c e =
+          ap (λ (x : Booked). printed_by 0 (rows_text (first_chunks 6 (length (take (6 * x.entries) x.book) / 6) (take (6 * x.entries) x.book)))) e
+          ∙ ap (λ (w : List (List ℤ)). printed_by 0 (rows_text w)) (rows_held (file_book f) lent m c.0)
+          ∙ ap (printed_by 0) (rows_are (file_book f))

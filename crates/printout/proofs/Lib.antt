@@ -1,6 +1,5 @@
-pub mod CountLaws
 pub mod DecimalLaws
-pub mod TextLaws
+pub mod LineLaws
 pub mod UnfoldLaws
 pub mod BookLaws
 pub mod BookedLaws

@@ -1,4 +1,4 @@
 -- What internal contracts need.
-pub mod Gap
+pub mod Lines
 pub mod Folds
 pub mod Booked

@@ -1,95 +1,60 @@
-// What the program `book` prints for a file, as bytes in a lent slice: a line an entry, and a last line of totals. It assumes nothing of the file.
-ghost use Rattle.std.specs.Prelude.{◌≡◌, ◌+◌, ◌*◌, ◌<◌, ◌≤◌, [], ◌∷◌, ◌++◌, length, take};
-ghost use Rattle.std.proofs.Math.Bool.{true};
-ghost use Rattle.lists.specs.Inside.Seg.{put};
-ghost use Rattle.printout.specs.Text.{decimal};
-ghost use Rattle.printout.specs.Unfold.{file_gates, file_outcome, printed_by, printed_of};
-ghost use Rattle.printout.specs.Book.{printed_book};
-ghost use Rattle.printout.specs.Inside.Folds.{text_for};
-ghost use Rattle.printout.specs.Inside.Booked.{column, totals_line, book_lines};
+// What the program `book` prints for a file: a line an entry, and a last line of totals. It assumes nothing of the file.
+ghost use Rattle.std.specs.Prelude.{◌≡◌, ◌+◌, ◌*◌, ◌<◌, ◌≤◌, length};
+ghost use Rattle.printout.specs.Unfold.{file_outcome, printed_of};
+ghost use Rattle.printout.specs.Book.{book_text, file_book, printed_book};
+ghost use Rattle.printout.specs.Inside.Folds.{Shape, printed_in};
+ghost use Rattle.printout.specs.Inside.Booked.{rows_text};
 
-use crate::unfold::Printing;
-use crate::{arrays, count, lines, unfold};
+use crate::lines::{self, Text};
+use crate::unfold::{self, MOST_PRINTED};
 use memory::layout;
+use sweep::refusal::Refusal;
+
+// Six numbers an entry: 128 gates have at most 128 regions, and those at most 127 merges.
+const MOST_BOOK: usize = layout::ENTRY * 127;
 
 // Where the weight and the gates of an entry stand among its numbers.
 const WEIGHT: usize = 2;
 
 const GATES: usize = 5;
 
-// The sum of number k of each of the first entries of a book.
-fn column(book: &[i32], k: usize, entries: usize) -> u64
-    requires { (k < 6) × (entries ≤ 127) × (6 * entries ≤ length book.now) }
-    ensures { result ≡ column k entries book.now }
+// The text of a book's entries: a line an entry, and a last line with how many they are and the sums of their weights and gates.
+fn rows_text(rows: &[[i32; layout::ENTRY]]) -> Text
+    requires { length rows.now ≤ 127 }
+    ensures { result.bytes ≡ rows_text rows.now }
 {
-    let mut sum = 0;
-    let mut j = 0;
-    while j < entries {
-        sum += count::magnitude(book[layout::ENTRY * j + k]);
-        j += 1;
+    let mut text = Text::new();
+    for row in rows {
+        lines::put_line(&mut text, row);
     }
-    sum
+    let weights = rows
+        .iter()
+        .map(|row| u64::from(row[WEIGHT].unsigned_abs()))
+        .sum();
+    let gates = rows
+        .iter()
+        .map(|row| u64::from(row[GATES].unsigned_abs()))
+        .sum();
+    lines::put_line(&mut text, &[rows.len() as u64, weights, gates]);
+    text
 }
 
-// Stores a number in decimal and one byte behind it, and answers the place after that.
-fn put_number(text: &mut [u8], at: usize, n: u64, behind: u8) -> usize
-    requires { at + 21 ≤ length text.old }
-    ensures { (text.new ≡ put text.old at (decimal n ++ (behind ∷ []))) × (result ≡ at + length (decimal n ++ (behind ∷ [])))
-        × (result ≤ at + 21) }
+// The text of the merge book of a file's sweep, rays and gates being the file's.
+fn entries_text(file: &[u8], rays: usize, gates: usize) -> Result<Text, Refusal>
+    requires { Shape file.now rays gates }
+    ensures { printed_in result ≡ printed_of (λ counts. book_text (file_book file.now)) (file_outcome file.now) }
 {
-    let end = count::put_decimal(text, at, n);
-    text[end] = behind;
-    end + 1
-}
-
-// Stores the last line and answers the place after it.
-fn put_totals(text: &mut [u8], at: usize, entries: u64, weights: u64, gates: u64) -> usize
-    requires { at + 63 ≤ length text.old }
-    ensures { (text.new ≡ put text.old at (totals_line entries weights gates))
-        × (result ≡ at + length (totals_line entries weights gates)) × (result ≤ at + 63) }
-{
-    let second = put_number(text, at, entries, 32);
-    let third = put_number(text, second, weights, 32);
-    put_number(text, third, gates, 10)
-}
-
-// Stores the text of the first entries of a book, from the start of the text, and answers how many bytes that is.
-fn put_book(text: &mut [u8], book: &[i32], entries: usize) -> usize
-    requires { (entries ≤ 127) × (6 * entries ≤ length book.now) × (9334 ≤ length text.old) }
-    ensures { (text.new ≡ put text.old 0 (book_lines entries book.now))
-        × (result ≡ length (book_lines entries book.now)) × (result ≤ 9334) }
-{
-    let end = lines::put_rays(text, book, entries, layout::ENTRY);
-    let weights = column(book, WEIGHT, entries);
-    let gates = column(book, GATES, entries);
-    put_totals(text, end, entries as u64, weights, gates)
-}
-
-// The text of the merge book of a file's sweep, of at most 128 gates.
-pub fn print_entries(file: &[u8], n: usize, text: &mut [u8]) -> Printing
-    requires { (n ≡ file_gates file.now) × (n ≤ 128) × (9334 ≤ length text.old) }
-    ensures { (printed_by result.number (take result.bytes text.new) ≡ printed_of (text_for true file.now) (file_outcome file.now))
-        × (result.bytes ≤ length text.new) }
-{
-    let mut counts = arrays::counts();
+    let mut counts = [0i32; MOST_PRINTED];
     let mut pair = [0u32; 2];
-    let mut book = arrays::book();
-    let number = unfold::unfold_file(file, &mut counts[..n], &mut pair, &mut book);
-    if number != 0 {
-        return unfold::nothing(number);
-    }
-    let bytes = put_book(text, &book, pair[1] as usize);
-    Printing {
-        number: 0,
-        bytes: bytes,
-    }
+    let mut book = [0i32; MOST_BOOK];
+    unfold::unfold_with_book(file, &mut counts[..rays * gates], &mut pair, &mut book)?;
+    let (rows, _) = book[..layout::ENTRY * pair[1] as usize].as_chunks();
+    Ok(rows_text(rows))
 }
 
-// Puts the text that the program `book` prints for a file at the start of `text`.
-pub fn print_book(file: &[u8], text: &mut [u8]) -> Printing
-    requires { 9334 ≤ length text.old }
-    ensures { (printed_by result.number (take result.bytes text.new) ≡ printed_book file.now)
-        × (result.bytes ≤ length text.new) }
+// The text that the program `book` prints for a file.
+pub fn print_book(file: &[u8]) -> Result<Text, Refusal>
+    ensures { printed_in result ≡ printed_book file.now }
 {
-    unfold::print_by(file, true, text)
+    unfold::print_by(file, entries_text)
 }

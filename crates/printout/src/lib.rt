@@ -1,9 +1,8 @@
-// What the programs print, as bytes in a lent slice: counts in decimal, lines of them, and the text for a file; and recorded lists of files.
+// What the programs print, as text: lines of numbers, the text for a file, and the answers to a file or to a recorded list of files.
 #![tactic(auto)]
 
-pub mod arrays;
 pub mod book;
-pub mod count;
+pub mod input;
 pub mod lines;
 pub mod list;
 pub mod unfold;

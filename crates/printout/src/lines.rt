@@ -1,53 +1,79 @@
-// Lines of counts: the counts of a line parted by one space, one line a ray. The caller sees that the text has room: twelve bytes a count, one a line.
-ghost use Rattle.std.specs.Prelude.{◌≡◌, ◌+◌, ◌*◌, ◌<◌, ◌≤◌, length};
-ghost use Rattle.lists.specs.Inside.Seg.{put};
-ghost use Rattle.printout.specs.Text.{line, ray_lines};
-ghost use Rattle.printout.specs.Inside.Gap.{gap};
+// Lines of numbers as text: the numbers of a line in decimal, parted by one space. The caller sees that the text has room.
+ghost use Rattle.std.specs.Prelude.{◌≡◌, ℕ, ◌+◌, ◌*◌, ◌≤◌, List, ◌++◌, length};
+ghost use Rattle.arrayvec.specs.ArrayString.{array_string_len};
+ghost use Rattle.printout.specs.Text.{decimal, count_text, ray_lines};
+ghost use Rattle.printout.specs.Inside.Lines.{line_by};
 
-use crate::count;
+use arrayvec::ArrayString;
+use itoa::Buffer;
 
-// Stores what stands before count i of a line, one space or nothing, and answers the place after it.
-fn put_gap(text: &mut [u8], at: usize, i: usize) -> usize
-    requires { at < length text.old }
-    ensures { (text.new ≡ put text.old at (gap i)) × (result ≡ at + length (gap i)) }
-{
-    if i == 0 {
-        return at;
-    }
-    text[at] = 32;
-    at + 1
+// The longest text is that of 127 entries of six numbers, twelve bytes a number and one a line, and a last line of three numbers of twenty digits, 21 bytes a
+// number and one more. The text of 128 counts on 720 lines has at most 2,256 bytes.
+pub const MOST_TEXT: usize = 127 * (6 * 12 + 1) + 3 * 21 + 1;
+
+// The text for a file, in memory of its own.
+pub type Text = ArrayString<MOST_TEXT>;
+
+// A number of a line: its text, and how many bytes that has at most.
+pub trait Number: Copy {
+    ghost MOST: { ℕ };
+
+    ghost as_text: { Self → List ℕ };
+
+    // Appends the number's text. The bound on its length is for callers, who need not know the number.
+    fn put(self, text: &mut Text)
+        requires { array_string_len text.old + MOST ≤ MOST_TEXT }
+        ensures appended { text.new.bytes ≡ text.old.bytes ++ as_text self }
+        ensures len { array_string_len text.new ≤ array_string_len text.old + MOST };
 }
 
-// Stores a line and answers the place after it. The bound on that place is for callers, who need not know the counts.
-pub fn put_line(text: &mut [u8], at: usize, counts: &[i32]) -> usize
-    requires { at + 12 * length counts.now + 1 ≤ length text.old }
-    ensures { (text.new ≡ put text.old at (line counts.now))
-        × (result ≡ at + length (line counts.now)) × (result ≤ at + 12 * length counts.now + 1) }
-{
-    let mut end = at;
-    let mut i = 0;
-    while i < counts.len() {
-        let from = put_gap(text, end, i);
-        end = count::put_count(text, from, counts[i]);
-        i += 1;
+// A count. The longest is -2147483648.
+impl Number for i32 {
+    ghost MOST = { 11 };
+
+    ghost as_text = { count_text };
+
+    fn put(self, text: &mut Text) {
+        text.push_str(Buffer::new().format(self));
     }
-    text[end] = 10;
-    end + 1
 }
 
-// Stores a line for each ray, from the start of the text, and answers how many bytes that is.
-pub fn put_rays(text: &mut [u8], counts: &[i32], rays: usize, gates: usize) -> usize
-    requires { (rays * gates ≤ length counts.now) × (12 * (rays * gates) + rays ≤ length text.old) }
-    ensures { (text.new ≡ put text.old 0 (ray_lines rays gates counts.now))
-        × (result ≡ length (ray_lines rays gates counts.now)) × (result ≤ 12 * (rays * gates) + rays) }
+// A total.
+impl Number for u64 {
+    ghost MOST = { 20 };
+
+    ghost as_text = { decimal };
+
+    fn put(self, text: &mut Text) {
+        text.push_str(Buffer::new().format(self));
+    }
+}
+
+// Appends a line.
+pub fn put_line<N: Number>(text: &mut Text, numbers: &[N])
+    requires { array_string_len text.old + (N.MOST + 1) * length numbers.now + 1 ≤ MOST_TEXT }
+    ensures appended { text.new.bytes ≡ text.old.bytes ++ line_by N.as_text numbers.now }
+    ensures len { array_string_len text.new ≤ array_string_len text.old + (N.MOST + 1) * length numbers.now + 1 }
 {
-    let mut end = 0;
-    let mut r = 0;
-    while r < rays {
+    for (i, n) in numbers.iter().enumerate() {
+        let later = i != 0;
+        if later {
+            text.push(' ');
+        }
+        n.put(text);
+    }
+    text.push('\n');
+}
+
+// Appends a line for each ray. A ray may have no gates, which `chunks` could not take.
+pub fn put_rays(text: &mut Text, counts: &[i32], rays: usize, gates: usize)
+    requires within { rays * gates ≤ length counts.now }
+    requires room { array_string_len text.old + 12 * (rays * gates) + rays ≤ MOST_TEXT }
+    ensures appended { text.new.bytes ≡ text.old.bytes ++ ray_lines rays gates counts.now }
+    ensures len { array_string_len text.new ≤ array_string_len text.old + 12 * (rays * gates) + rays }
+{
+    for r in 0..rays {
         let from = r * gates;
-        let to = from + gates;
-        end = put_line(text, end, &counts[from..to]);
-        r += 1;
+        put_line(text, &counts[from..from + gates]);
     }
-    end
 }

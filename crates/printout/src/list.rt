@@ -1,39 +1,49 @@
 // A recorded list of files on standard input, and what is answered to each on standard output. An entry of the list is a file's length in two bytes,
 // high byte first, and the file.
-ghost use Rattle.std.specs.Prelude.{◌≡◌, ◌≤◌, length};
+use crate::lines::Text;
+use sweep::refusal::Refusal;
 
 // The longest file of a list.
-pub const LONGEST: usize = 4096;
+const LONGEST: usize = 4096;
 
-// Memory for one file. The contract gives the length, which a part that is lent needs.
-pub fn memory() -> [u8; 4096]
-    ensures { 4096 ≡ length result }
-{
-    [0; 4096]
-}
-
-// Reads the next file and answers its length; more than the longest where the list ends, is cut short, or has a longer file.
-pub fn read_file(file: &mut [u8]) -> usize
-    requires { 4096 ≤ length file.old }
-{
+// Reads the next file. There is none where the list ends, is cut short, or has a longer file.
+fn read_file(memory: &mut [u8; LONGEST]) -> Option<&[u8]> {
     let mut head = [0u8; 2];
     if io::read_full(0, &mut head) < 2 {
-        return LONGEST + 1;
+        return None;
     }
-    let n = files::format::read_u16(&head, 0) as usize;
-    if n > LONGEST {
-        return n;
+    let n = usize::from(u16::from_be_bytes(head));
+    if n > LONGEST || io::read_full(0, &mut memory[..n]) < n {
+        return None;
     }
-    if io::read_full(0, &mut file[..n]) < n {
-        return LONGEST + 1;
-    }
-    n
+    Some(&memory[..n])
 }
 
 // Writes a line with `=` and the number of a file, and then its text.
-pub fn write_answer(number: u32, text: &[u8]) {
+fn write_answer(answer: Result<Text, Refusal>) {
     io::write_all(1, b"= ");
-    io::print_decimal(1, number as u64);
-    io::write_all(1, b"\n");
-    io::write_all(1, text);
+    match answer {
+        Ok(text) => {
+            io::write_all(1, b"0\n");
+            io::write_all(1, text.as_bytes());
+        }
+        Err(refusal) => {
+            io::print_decimal(1, u64::from(refusal.number()));
+            io::write_all(1, b"\n");
+        }
+    }
+}
+
+// Writes an answer to every file of the list.
+pub fn print_list<F: Fn(&[u8]) -> Result<Text, Refusal>>(text_of: F)
+    requires { F.IsAlwaysCallable text_of }
+{
+    let mut memory = [0u8; LONGEST];
+    // A loop has to end: no list has as many files.
+    for _ in 0..u64::MAX {
+        let Some(file) = read_file(&mut memory) else {
+            break;
+        };
+        write_answer(text_of(file));
+    }
 }

@@ -1,166 +1,176 @@
-// What the programs `unfold` and `book` print for a file, as bytes in a lent slice. It assumes nothing of the file.
-ghost use Rattle.std.specs.Prelude.{◌≡◌, ◌*◌, ◌<◌, ◌≤◌, length, get_or, take};
-ghost use Rattle.sweep.specs.Questions.{words_for, floats_for};
-ghost use Rattle.files.specs.Format.{u16_at};
+// What the program `unfold` prints for a file, and the steps that `book` shares with it. It assumes nothing of the file.
+ghost use Rattle.std.specs.Prelude.{◌≡◌, ℕ, ◌≤◌, List, ℤ, length, get_or, IfOk, IfErr};
+ghost use Rattle.sweep.specs.Entry.{sweep_in as sweep_of, answer_of};
+ghost use Rattle.sweep.specs.Questions.{refused, outcome};
+ghost use Rattle.sweep.specs.Refusal.{number_of, missed_by};
+ghost use Rattle.files.specs.Format.{u16_at, sweep_in};
+ghost use Rattle.files.specs.Questions.{as_sweep};
 ghost use Rattle.printout.specs.Text.{ray_lines};
-ghost use Rattle.printout.specs.Unfold.{file_gates, file_outcome, printed_by, printed_of, printed_with, printed};
+ghost use Rattle.printout.specs.Unfold.{file_gates, lent_for, file_outcome, printed_of, printed_with, printed};
 ghost use Rattle.printout.specs.Book.{file_book};
-ghost use Rattle.printout.specs.Inside.Folds.{folds_by, folds_of, room_for, text_for};
+ghost use Rattle.printout.specs.Inside.Folds.{folds_by, folds_of, Shape, printed_in};
 ghost use Rattle.printout.specs.Inside.Booked.{booked_by, booked_of};
 
-use crate::{arrays, lines};
+use crate::lines::{self, Text};
+use files::bits::velocities_of;
+use files::format::read_u16;
+use files::reader;
 use memory::layout;
 use sweep::entry::dealias_sweep;
+use sweep::input::Sweep;
+use sweep::refusal::Refusal;
 use sweep_book::entry::dealias_sweep_book;
 
 // The most gates of a sweep that is printed.
-const MOST_PRINTED: usize = 128;
+pub const MOST_PRINTED: usize = 128;
 
-// The number of the first question that got a no, or 0, and how many bytes of text there are.
-#[derive(Clone, Copy)]
-pub struct Printing {
-    pub number: u32,
-    pub bytes: usize,
+// The work memory that they take.
+const MOST_WORDS: usize = layout::WORDS * MOST_PRINTED + layout::WORDS_MORE;
+
+const MOST_FLOATS: usize = layout::FLOATS * MOST_PRINTED + layout::FLOATS_MORE;
+
+// Memory for a file's sweep and a call on it, but for what the call answers.
+#[derive(Drop)]
+struct Memory {
+    bits: [u32; MOST_PRINTED],
+    valid: [u8; MOST_PRINTED],
+    velocity: [f32; MOST_PRINTED],
+    doubtful: [u8; MOST_PRINTED],
+    words: [u32; MOST_WORDS],
+    floats: [f64; MOST_FLOATS],
 }
 
-// Reads a file and unfolds its sweep, all memory being lent: the number of the first question that gets a no, or 0 with the counts. A book
-// that is not empty has room for all entries: they go there, and how many they are to the pair.
-fn unfold_in(
+impl Memory {
+    fn new() -> Memory {
+        Memory {
+            bits: [0; MOST_PRINTED],
+            valid: [0; MOST_PRINTED],
+            velocity: [0.0; MOST_PRINTED],
+            doubtful: [0; MOST_PRINTED],
+            words: [0; MOST_WORDS],
+            floats: [0.0; MOST_FLOATS],
+        }
+    }
+}
+
+// Reads a file's sweep, its velocities and mask in the memory lent.
+fn read_sweep<'a>(
     file: &[u8],
     bits: &mut [u32],
-    valid: &mut [u8],
-    velocity: &mut [f32],
-    counts: &mut [i32],
-    marks: &mut [u8],
-    pair: &mut [u32],
-    book: &mut [i32],
-    words: &mut [u32],
-    floats: &mut [f64],
-) -> u32
-    requires bits_len { (length bits.old ≡ file_gates file.now) × (length valid.old ≡ file_gates file.now) × (length velocity.old ≡ file_gates file.now) }
-    requires counts_len { (length counts.old ≡ file_gates file.now) × (length marks.old ≡ file_gates file.now) × (length pair.old ≡ 2) }
-    requires words_len { (length words.old ≡ words_for (file_gates file.now)) × (length floats.old ≡ floats_for (file_gates file.now)) }
-    requires file_bound { (file_gates file.now ≤ 128) × (0 < length book.old → 762 ≤ length book.old) }
-    ensures counts_after { folds_by result counts.new ≡ folds_of (file_outcome file.now) counts.old }
-    ensures book_after { 0 < length book.old → booked_by result (get_or pair.new 1 0) book.new
-        ≡ booked_of (file_outcome file.now) (file_book file.now) (get_or pair.old 1 0) book.old }
+    valid: &'a mut [u8],
+    velocity: &'a mut [f32],
+) -> Result<Sweep<'a>, Refusal>
+    requires { (length bits.old ≡ file_gates file.now) × (length valid.old ≡ file_gates file.now) × (length velocity.old ≡ file_gates file.now) }
+    ensures refused { IfErr result (λ e. file_outcome file.now ≡ refused (number_of e)) }
+    ensures read { IfOk result (λ s. (sweep_of s ≡ as_sweep (sweep_in file.now))
+        × (file_outcome file.now ≡ outcome (as_sweep (sweep_in file.now)) (lent_for (file_gates file.now)))) }
 {
-    let r = files::reader::read(file, bits, valid);
-    if r.number != 0 {
-        return r.number;
-    }
-    files::bits::velocities_of(bits, velocity);
-    let o = files::entry::options_of(r.header);
-    if book.len() == 0 {
-        return dealias_sweep(o, velocity, valid, counts, marks, pair, words, floats);
-    }
-    dealias_sweep_book(o, velocity, valid, counts, marks, pair, book, words, floats)
+    let header = reader::read(file, bits, valid)?;
+    velocities_of(bits, velocity);
+    Ok(Sweep {
+        options: header.into(),
+        velocity,
+        valid,
+    })
 }
 
-// The same with memory of its own but for counts, pair and book.
-pub fn unfold_file(file: &[u8], counts: &mut [i32], pair: &mut [u32], book: &mut [i32]) -> u32
-    requires counts_len { (length counts.old ≡ file_gates file.now) × (length counts.old ≤ 128) × (length pair.old ≡ 2) }
-    requires in_bounds { 0 < length book.old → 762 ≤ length book.old }
-    ensures counts_after { folds_by result counts.new ≡ folds_of (file_outcome file.now) counts.old }
-    ensures book_after { 0 < length book.old → booked_by result (get_or pair.new 1 0) book.new
-        ≡ booked_of (file_outcome file.now) (file_book file.now) (get_or pair.old 1 0) book.old }
+// The fold counts of a file's sweep, with memory of its own but for counts and pair.
+pub fn unfold_file(file: &[u8], counts: &mut [i32], pair: &mut [u32]) -> Result<(), Refusal>
+    requires { (length counts.old ≡ file_gates file.now) × (length counts.old ≤ 128) × (length pair.old ≡ 2) }
+    ensures { folds_by (answer_of (missed_by result)) counts.new ≡ folds_of (file_outcome file.now) counts.old }
 {
     let n = counts.len();
+    let mut m = Memory::new();
+    let s = read_sweep(
+        file,
+        &mut m.bits[..n],
+        &mut m.valid[..n],
+        &mut m.velocity[..n],
+    )?;
     let w = layout::WORDS * n + layout::WORDS_MORE;
     let d = layout::FLOATS * n + layout::FLOATS_MORE;
-    let mut bits = arrays::bits();
-    let mut valid = arrays::mask();
-    let mut velocity = arrays::velocities();
-    let mut doubtful = arrays::mask();
-    let mut words = arrays::words();
-    let mut floats = arrays::floats();
-    unfold_in(
-        file,
-        &mut bits[..n],
-        &mut valid[..n],
-        &mut velocity[..n],
+    dealias_sweep(
+        s,
         counts,
-        &mut doubtful[..n],
+        &mut m.doubtful[..n],
         pair,
-        book,
-        &mut words[..w],
-        &mut floats[..d],
+        &mut m.words[..w],
+        &mut m.floats[..d],
     )
 }
 
-// A number and no text.
-pub fn nothing(number: u32) -> Printing
-    ensures { (result.number ≡ number) × (result.bytes ≡ 0) }
-{
-    Printing {
-        number: number,
-        bytes: 0,
-    }
-}
-
-// The text of a sweep of at most 128 gates, rays and gates being the file's. The counts are memory lent.
-fn print_counts(
+// The same with the merge book: the entries go to the book, and how many they are to the pair.
+// A twin of `unfold_file`: one function that takes the call as a closure leaves its proof nothing of what the closure writes behind a captured `&mut`.
+pub fn unfold_with_book(
     file: &[u8],
-    rays: usize,
-    gates: usize,
     counts: &mut [i32],
-    text: &mut [u8],
-) -> Printing
-    requires rays_value { (rays ≡ u16_at file.now 3) × (gates ≡ u16_at file.now 5) × (rays ≤ 720) }
-    requires counts_len { (length counts.old ≡ rays * gates) × (length counts.old ≤ 128) × (2256 ≤ length text.old) }
-    ensures { (printed_by result.number (take result.bytes text.new) ≡ printed_of (ray_lines rays gates) (file_outcome file.now))
-        × (result.bytes ≤ length text.new) }
+    pair: &mut [u32],
+    book: &mut [i32],
+) -> Result<(), Refusal>
+    requires lent { (length counts.old ≡ file_gates file.now) × (length counts.old ≤ 128) × (length pair.old ≡ 2) }
+    requires room { 762 ≤ length book.old }
+    ensures counts_after { folds_by (answer_of (missed_by result)) counts.new ≡ folds_of (file_outcome file.now) counts.old }
+    ensures book_after { booked_by (answer_of (missed_by result)) (get_or pair.new 1 0) book.new
+        ≡ booked_of (file_outcome file.now) (file_book file.now) (get_or pair.old 1 0) book.old }
 {
-    let mut pair = [0u32; 2];
-    let mut no_book = [0i32; 0];
-    let number = unfold_file(file, counts, &mut pair, &mut no_book);
-    if number != 0 {
-        return nothing(number);
-    }
-    let bytes = lines::put_rays(text, counts, rays, gates);
-    Printing {
-        number: 0,
-        bytes: bytes,
-    }
+    let n = counts.len();
+    let mut m = Memory::new();
+    let s = read_sweep(
+        file,
+        &mut m.bits[..n],
+        &mut m.valid[..n],
+        &mut m.velocity[..n],
+    )?;
+    let w = layout::WORDS * n + layout::WORDS_MORE;
+    let d = layout::FLOATS * n + layout::FLOATS_MORE;
+    dealias_sweep_book(
+        s,
+        counts,
+        &mut m.doubtful[..n],
+        pair,
+        book,
+        &mut m.words[..w],
+        &mut m.floats[..d],
+    )
 }
 
-// The same with memory of its own for the counts.
-fn print_sweep(file: &[u8], rays: usize, gates: usize, text: &mut [u8]) -> Printing
-    requires { (rays ≡ u16_at file.now 3) × (gates ≡ u16_at file.now 5) × (rays ≤ 720) × (rays * gates ≤ 128) × (2256 ≤ length text.old) }
-    ensures { (printed_by result.number (take result.bytes text.new) ≡ printed_of (ray_lines rays gates) (file_outcome file.now))
-        × (result.bytes ≤ length text.new) }
+// The text for a file: nothing for a sweep of more than 128 gates, else what `text_of` gives of the file with its rays and gates.
+pub fn print_by<F: FnOnce(&[u8], usize, usize) -> Result<Text, Refusal>>(
+    file: &[u8],
+    text_of: F,
+) -> Result<Text, Refusal>
+    ghost text: { List ℤ → List ℕ }
+    requires callable { (rays gates : ℕ) → Shape file.now rays gates → F.pre text_of file rays gates }
+    requires prints { (rays gates : ℕ) (r : _) → Shape file.now rays gates → F.post text_of file rays gates r
+        → printed_in r ≡ printed_of text (file_outcome file.now) }
+    ensures { printed_in result ≡ printed_with text file.now }
 {
-    let n = rays * gates;
-    let mut counts = arrays::counts();
-    print_counts(file, rays, gates, &mut counts[..n], text)
-}
-
-// Puts the text for a file at the start of `text`: that of its sweep's merge book, or of its counts.
-pub fn print_by(file: &[u8], book: bool, text: &mut [u8]) -> Printing
-    requires { room_for book ≤ length text.old }
-    ensures { (printed_by result.number (take result.bytes text.new) ≡ printed_with (text_for book file.now) file.now)
-        × (result.bytes ≤ length text.new) }
-{
-    let fault = files::reader::header_fault(file);
-    if fault != 0 {
-        return nothing(fault);
-    }
-    let rays = files::format::read_u16(file, 3) as usize;
-    let gates = files::format::read_u16(file, 5) as usize;
+    reader::header_fault(file)?;
+    let rays = usize::from(read_u16(file, 3));
+    let gates = usize::from(read_u16(file, 5));
     if rays * gates > MOST_PRINTED {
-        return nothing(0);
+        return Ok(Text::new());
     }
-    if book {
-        return crate::book::print_entries(file, rays * gates, text);
-    }
-    print_sweep(file, rays, gates, text)
+    text_of(file, rays, gates)
 }
 
-// The same of what the program `unfold` prints.
-pub fn print_file(file: &[u8], text: &mut [u8]) -> Printing
-    requires { 2256 ≤ length text.old }
-    ensures { (printed_by result.number (take result.bytes text.new) ≡ printed file.now)
-        × (result.bytes ≤ length text.new) }
+// The text of a sweep's counts, rays and gates being the file's.
+fn counts_text(file: &[u8], rays: usize, gates: usize) -> Result<Text, Refusal>
+    requires { Shape file.now rays gates }
+    ensures { printed_in result ≡ printed_of (ray_lines (u16_at file.now 3) (u16_at file.now 5)) (file_outcome file.now) }
 {
-    print_by(file, false, text)
+    let mut counts = [0i32; MOST_PRINTED];
+    let counts = &mut counts[..rays * gates];
+    let mut pair = [0u32; 2];
+    unfold_file(file, counts, &mut pair)?;
+    let mut text = Text::new();
+    lines::put_rays(&mut text, counts, rays, gates);
+    Ok(text)
+}
+
+// The text that the program `unfold` prints for a file.
+pub fn print_file(file: &[u8]) -> Result<Text, Refusal>
+    ensures { printed_in result ≡ printed file.now }
+{
+    print_by(file, counts_text)
 }

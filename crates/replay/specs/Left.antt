@@ -1,6 +1,7 @@
 -- What a call is to leave of the memory lent to it. Before it, what it writes holds the pattern, 7 in each place, and so does the work memory, but
 -- for the words that a call before has cleared.
-use Rattle.std.specs.Prelude.{ℕ, Bool, false, cond, ◌&&◌, ◌||◌, List, ltb, eqb, length, get_or, ℤ, pos, negsuc, Float}
+use Rattle.std.specs.Prelude.{ℕ, Bool, cond, ◌&&◌, ◌||◌, List, ltb, eqb, length, get_or, ℤ, pos, Float}
+use Rattle.std.specs.Ordering.{int_eq}
 use Rattle.std.specs.Float.{nan}
 use Rattle.std.specs.Float.Ieee.{eq}
 use Rattle.lists.specs.Seq.{upto, all}
@@ -27,8 +28,7 @@ floats_left k d = all (λ g. eq (get_or d g nan) (due_float k g)) (upto (length 
 
 -- whether a count is the pattern
 unfoldable pub is_pattern : ℤ → Bool
-is_pattern (pos n) = eqb n 7
-is_pattern (negsuc n) = false
+is_pattern z = int_eq z (pos 7)
 
 -- every count is the pattern
 unfoldable pub counts_kept : List ℤ → Bool

@@ -9,48 +9,50 @@ mod lines;
 mod raise;
 mod words;
 
-ghost use Rattle.std.specs.Prelude.{◌≡◌, true, ◌-◌, ◌≤◌, length};
+ghost use Rattle.std.specs.Prelude.{◌≡◌, true, ◌≤◌, length};
 ghost use Rattle.replay.specs.Record.{held};
 
+use gates::Setting;
+use jivakkol::exports;
+use lines::Refusal;
+use words::Malformed;
+
+// A recorded sweep, whose gates and memory the arrays hold. Velocities and mask are two slices, as in the C interface.
+#[derive(Clone, Copy)]
+struct Sweep<'a> {
+    setting: Setting,
+    velocity: &'a [f32],
+    valid: &'a [u8],
+    ghost few_gates: { length velocity.now ≤ 128 },
+    ghost fits: { held setting ≡ true },
+}
+
 // Calls the second entry with a sweep, its counts, each with the recorded number added, and its labels, and writes its answer.
-fn call_velocity(
-    s: gates::Setting,
-    velocity: &[f32],
-    valid: &[u8],
-    counts: &mut [i32],
-    labels: &[u32],
-)
-    requires { length velocity.now ≤ 128 }
-{
+fn call_velocity(sweep: Sweep, counts: &mut [i32], labels: &[u32]) {
+    let s = sweep.setting;
     raise::raise(counts, s.more);
-    let n = velocity.len();
-    let mut unfolded = arrays::unfolded();
-    let number = jivakkol::exports::jivakkol_unfold_velocity(
+    let mut unfolded = [arrays::FLOAT; arrays::GATES];
+    let unfolded = &mut unfolded[..sweep.velocity.len()];
+    let number = exports::jivakkol_unfold_velocity(
         s.rays,
         s.gates,
         s.nyquist,
-        velocity,
-        valid,
+        sweep.velocity,
+        sweep.valid,
         counts,
         labels,
-        &mut unfolded[..n],
+        unfolded,
     );
-    lines::write_velocities(number, &unfolded[..n]);
+    lines::write_velocities(number, unfolded);
 }
 
-// Calls the region map with a sweep, and writes its answer.
-fn put_map(
-    s: gates::Setting,
-    velocity: &[f32],
-    valid: &[u8],
-    labels: &mut [u32],
-    regions: &mut [u32],
-    words: &mut [u32],
-    floats: &mut [f64],
-)
-    requires { length velocity.now ≤ 128 }
-{
-    let number = jivakkol::exports::jivakkol_region_map(
+// Calls the region map with a sweep, and writes its answer. Lends for the number of regions one word less than the record has for the pair.
+#[tactic(auto, unfolding(crate::specs::Record::held))]
+fn call_map(sweep: Sweep, labels: &mut [u32], words: &mut [u32], floats: &mut [f64]) {
+    let s = sweep.setting;
+    let mut regions = [arrays::WORD; arrays::PAIR];
+    let regions = &mut regions[..s.pair.saturating_sub(1)];
+    let number = exports::jivakkol_region_map(
         s.rays,
         s.gates,
         s.nyquist,
@@ -59,60 +61,31 @@ fn put_map(
         s.skip_along_ray,
         s.centred,
         s.wrap,
-        velocity,
-        valid,
+        sweep.velocity,
+        sweep.valid,
         labels,
         regions,
         words,
         floats,
     );
     let kept = left::map_kept(labels, regions);
-    let left = left::left_by(number, velocity.len(), kept, words, floats);
+    let left = left::left_by(number, sweep.velocity.len(), kept, words, floats);
     lines::write_map(number, regions, labels, left);
-}
-
-// One less, and 0 of 0.
-fn one_less(k: u32) -> usize
-    ensures { result ≡ k - 1 }
-{
-    if k == 0 {
-        return 0;
-    }
-    (k - 1) as usize
-}
-
-// Lends for the number of regions one word less than the record has for the pair.
-fn call_map(
-    s: gates::Setting,
-    velocity: &[f32],
-    valid: &[u8],
-    labels: &mut [u32],
-    words: &mut [u32],
-    floats: &mut [f64],
-)
-    requires { (length velocity.now ≤ 128) × (held s ≡ true) }
-{
-    let r = one_less(s.pair);
-    let mut regions = arrays::regions();
-    put_map(s, velocity, valid, labels, &mut regions[..r], words, floats);
 }
 
 // Calls the sweep entry with a sweep and memory that holds the pattern, and writes its answer; then the region map, with the work memory as it
 // was left, and where the answer is 0 the second entry, with what the two wrote.
 fn call_sweep(
-    s: gates::Setting,
-    velocity: &[f32],
-    valid: &[u8],
+    sweep: Sweep,
     counts: &mut [i32],
     doubtful: &mut [u8],
     pair: &mut [u32],
     labels: &mut [u32],
     words: &mut [u32],
     floats: &mut [f64],
-)
-    requires { (length velocity.now ≤ 128) × (held s ≡ true) }
-{
-    let number = jivakkol::exports::jivakkol_dealias_sweep(
+) {
+    let s = sweep.setting;
+    let number = exports::jivakkol_dealias_sweep(
         s.rays,
         s.gates,
         s.nyquist,
@@ -121,8 +94,8 @@ fn call_sweep(
         s.skip_along_ray,
         s.centred,
         s.wrap,
-        velocity,
-        valid,
+        sweep.velocity,
+        sweep.valid,
         counts,
         doubtful,
         pair,
@@ -130,110 +103,82 @@ fn call_sweep(
         floats,
     );
     let kept = left::folds_kept(counts, doubtful, pair);
-    let left = left::left_by(number, velocity.len(), kept, words, floats);
+    let left = left::left_by(number, sweep.velocity.len(), kept, words, floats);
     lines::write_answer(number, pair, counts, doubtful, left);
-    call_map(s, velocity, valid, labels, words, floats);
+    call_map(sweep, labels, words, floats);
     if number == 0 {
-        call_velocity(s, velocity, valid, counts, labels);
+        call_velocity(sweep, counts, labels);
     }
 }
 
 // Lends memory as long as the record says, and as many labels as counts.
-fn answer(s: gates::Setting, velocity: &[f32], valid: &[u8])
-    requires { (length velocity.now ≤ 128) × (held s ≡ true) }
-{
-    let c = s.counts as usize;
-    let b = s.doubtful as usize;
-    let p = s.pair as usize;
-    let w = s.words as usize;
-    let d = s.floats as usize;
-    let mut counts = arrays::counts();
-    let mut doubtful = arrays::marks();
-    let mut pair = arrays::pair();
-    let mut labels = arrays::labels();
-    let mut words = arrays::words();
-    let mut floats = arrays::floats();
+#[tactic(auto, unfolding(crate::specs::Record::held))]
+fn answer(sweep: Sweep) {
+    let s = sweep.setting;
+    let mut counts = [arrays::COUNT; arrays::COUNTS];
+    let mut doubtful = [arrays::MARK; arrays::COUNTS];
+    let mut pair = [arrays::WORD; arrays::PAIR];
+    let mut labels = [arrays::WORD; arrays::COUNTS];
+    let mut words = [arrays::WORD; arrays::WORDS];
+    let mut floats = [arrays::FLOAT; arrays::FLOATS];
     call_sweep(
-        s,
-        velocity,
-        valid,
-        &mut counts[..c],
-        &mut doubtful[..b],
-        &mut pair[..p],
-        &mut labels[..c],
-        &mut words[..w],
-        &mut floats[..d],
+        sweep,
+        &mut counts[..s.counts],
+        &mut doubtful[..s.doubtful],
+        &mut pair[..s.pair],
+        &mut labels[..s.counts],
+        &mut words[..s.words],
+        &mut floats[..s.floats],
     );
 }
 
-// Reads a sweep's gates and answers it; false where they cannot be read.
-fn replay(s: gates::Setting) -> bool
+// Reads a sweep's gates and answers it.
+#[tactic(auto, unfolding(crate::specs::Record::held))]
+fn replay(s: Setting) -> Result<(), Malformed>
     requires { held s ≡ true }
 {
-    let n = s.recorded as usize;
-    let mut velocity = printout::arrays::velocities();
-    let mut valid = printout::arrays::mask();
-    if !gates::read_gates(&mut velocity[..n], &mut valid[..n]) {
-        return false;
-    }
-    answer(s, &velocity[..n], &valid[..n]);
-    true
+    let mut velocity = [0.0; arrays::GATES];
+    let mut valid = [0; arrays::GATES];
+    let velocity = &mut velocity[..s.recorded];
+    let valid = &mut valid[..s.recorded];
+    gates::read_gates(velocity, valid)?;
+    answer(Sweep {
+        setting: s,
+        velocity,
+        valid,
+    });
+    Ok(())
 }
 
 // Whether the arrays hold the gates and the memory that a record asks for.
-fn holds(s: gates::Setting) -> bool
+#[tactic(auto, unfolding(crate::specs::Record::held))]
+fn holds(s: Setting) -> bool
     ensures { result ≡ held s }
 {
-    if s.recorded > 128 {
-        return false;
-    }
-    if s.counts > 136 {
-        return false;
-    }
-    if s.doubtful > 136 {
-        return false;
-    }
-    if s.pair > 4 {
-        return false;
-    }
-    if s.words > 12416 {
-        return false;
-    }
-    s.floats <= 2080
+    s.recorded <= arrays::GATES
+        && s.counts <= arrays::COUNTS
+        && s.doubtful <= arrays::COUNTS
+        && s.pair <= arrays::PAIR
+        && s.words <= arrays::WORDS
+        && s.floats <= arrays::FLOATS
 }
 
-// One sweep of the list; false where the run ends.
-fn replay_next() -> bool {
-    match gates::read_start() {
-        gates::Start::Sweep(s) => {
-            if !holds(s) {
-                io::write_all(
-                    1,
-                    b"refused: more gates or more memory than the arrays have\n",
-                );
-                return false;
-            }
-            if replay(s) {
-                return true;
-            }
-            io::write_all(1, b"refused: gates that are cut short or malformed\n");
-            false
+// The sweeps of the list. A loop has to end: this one has more turns than any list has sweeps.
+fn replay_all() -> Result<(), Refusal> {
+    for _ in 0..u64::MAX {
+        let Some(s) = gates::read_start().map_err(|_| Refusal::Start)? else {
+            break;
+        };
+        if !holds(s) {
+            return Err(Refusal::Memory);
         }
-        gates::Start::End => false,
-        gates::Start::Malformed => {
-            io::write_all(
-                1,
-                b"refused: a start of a sweep that is cut short or malformed\n",
-            );
-            false
-        }
+        replay(s).map_err(|_| Refusal::Gates)?;
     }
+    Ok(())
 }
 
-// A loop has to end: it counts its turns down, from a number that no list uses up.
 fn main() {
-    let mut turns = u64::MAX;
-    while turns > 0 && replay_next() {
-        turns -= 1;
+    if let Err(refusal) = replay_all() {
+        lines::write_refusal(refusal);
     }
 }

@@ -1,112 +1,89 @@
 // Words of eight hexadecimal digits, each followed by a space or a line end: what the recorded list is written in.
 // It assumes nothing of the text.
-ghost use Rattle.std.specs.Prelude.{◌≡◌, true, ℕ, ◌+◌, ◌*◌, ◌≤◌, length};
+ghost use Rattle.std.specs.Prelude.{◌≡◌, ℕ, ◌+◌, ◌*◌, ◌≤◌, ◌<◌, IfSome, OnOk, is_ok, length};
 ghost use Rattle.replay.specs.Inside.Words.{digit_of, digits_from, word_at, Words, all_words, got_by};
 
-// A word's number, or that no word stands there.
-#[derive(Clone, Copy)]
-pub enum Word {
-    Number(u32),
-    Malformed,
-}
+// Text that is cut short or is no list of words.
+#[derive(Clone, Copy, Debug, PartialEq, Eq)]
+pub struct Malformed;
 
-// What a read of numbers found: all of them, no byte more, or text that is cut short or is no list of words.
-#[derive(Clone, Copy)]
+// What a read of numbers found: all of them, or no byte more.
+#[derive(Clone, Copy, Debug, PartialEq, Eq)]
 pub enum Got {
     Numbers,
     End,
-    Malformed,
 }
 
-// A digit's value, and 16 of any other byte.
-fn digit(b: u8) -> u32
-    ensures { result ≡ digit_of b }
+// A digit's value.
+fn digit(b: u8) -> Option<u32>
+    ensures value { result ≡ digit_of b }
+    ensures small { IfSome result (λ d. d < 16) }
 {
-    if b < 48 {
-        return 16;
+    match b {
+        b'0'..=b'9' => Some(u32::from(b - b'0')),
+        b'a'..=b'f' => Some(u32::from(b - b'a') + 10),
+        _ => None,
     }
-    if b < 58 {
-        return (b - 48) as u32;
-    }
-    if b < 97 {
-        return 16;
-    }
-    if b < 103 {
-        return (b - 87) as u32;
-    }
-    16
 }
 
 // The number of eight digits.
-fn digits(text: &[u8], at: usize) -> Word
+fn digits(text: &[u8], at: usize) -> Option<u32>
     requires { at + 8 ≤ length text.now }
     ensures { result ≡ digits_from text.now at 8 0 }
 {
-    let mut value: u32 = 0;
-    let mut i = 0;
-    while i < 8 {
-        let d = digit(text[at + i]);
-        if d > 15 {
-            return Word::Malformed;
-        }
-        value = value * 16 + d;
-        i += 1;
+    let mut value = 0;
+    for i in 0..8 {
+        value = value * 16 + digit(text[at + i])?;
     }
-    Word::Number(value)
+    Some(value)
 }
 
 // The word at a place.
-fn word_at(text: &[u8], at: usize) -> Word
+#[tactic(auto, unfolding(crate::specs::Inside::Words::word_at))]
+fn word_at(text: &[u8], at: usize) -> Option<u32>
     requires { at + 9 ≤ length text.now }
     ensures { result ≡ word_at text.now at }
 {
-    let end = text[at + 8];
-    if end == 32 {
-        return digits(text, at);
+    match text[at + 8] {
+        b' ' | b'\n' => digits(text, at),
+        _ => None,
     }
-    if end == 10 {
-        return digits(text, at);
-    }
-    Word::Malformed
 }
 
-// The numbers of as many words as `out` holds; false where one is malformed.
-fn numbers(text: &[u8], out: &mut [u32]) -> bool
+// The numbers of as many words as `out` holds.
+fn numbers(text: &[u8], out: &mut [u32]) -> Result<(), Malformed>
     requires { 9 * length out.old ≤ length text.now }
-    ensures { (result ≡ all_words text.now (length out.old)) × (result ≡ true → Words text.now out.new) }
+    ensures all { is_ok result ≡ all_words text.now (length out.old) }
+    ensures words { OnOk result (Words text.now out.new) }
 {
-    let mut i = 0;
-    while i < out.len() {
-        let Word::Number(n) = word_at(text, 9 * i) else {
-            return false;
-        };
-        out[i] = n;
-        i += 1;
+    for (i, n) in out.iter_mut().enumerate() {
+        *n = word_at(text, 9 * i).ok_or(Malformed)?;
     }
-    true
+    Ok(())
 }
 
-// What text says of which so many bytes could be read: the numbers of as many words as `out` holds, the end, or neither.
-fn got_of(text: &[u8], got: usize, out: &mut [u32]) -> Got
+// What text says of which so many bytes could be read: the numbers of as many words as `out` holds, or the end.
+#[tactic(auto, unfolding(crate::specs::Inside::Words::got_by))]
+fn got_of(text: &[u8], got: usize, out: &mut [u32]) -> Result<Got, Malformed>
     requires { 9 * length out.old ≤ length text.now }
-    ensures { (result ≡ got_by text.now got (length out.old)) × (result ≡ Got.Numbers → Words text.now out.new) }
+    ensures got { result ≡ got_by text.now got (length out.old) }
+    ensures words { result ≡ Ok Got.Numbers → Words text.now out.new }
 {
-    if got < text.len() {
-        if got == 0 {
-            return Got::End;
-        }
-        return Got::Malformed;
+    if got >= text.len() {
+        numbers(text, out)?;
+        Ok(Got::Numbers)
+    } else if got == 0 {
+        Ok(Got::End)
+    } else {
+        Err(Malformed)
     }
-    if numbers(text, out) {
-        return Got::Numbers;
-    }
-    Got::Malformed
 }
 
 // Reads as many words as `out` holds from standard input. `text` is the memory for them. How many bytes k there were, no contract says.
-pub fn read(text: &mut [u8], out: &mut [u32]) -> Got
+pub fn read(text: &mut [u8], out: &mut [u32]) -> Result<Got, Malformed>
     requires { 9 * length out.old ≤ length text.old }
-    ensures { ((k : ℕ) × (result ≡ got_by text.new k (length out.old))) × (result ≡ Got.Numbers → Words text.new out.new) }
+    ensures got { (k : ℕ) × (result ≡ got_by text.new k (length out.old)) }
+    ensures words { result ≡ Ok Got.Numbers → Words text.new out.new }
 {
     let got = io::read_full(0, text);
     got_of(text, got, out)

@@ -30,6 +30,10 @@ ghost use Rattle.sweep.specs.Entry.{sweep_of, answer_of};
 ghost use Rattle.sweep.specs.Inside.Finish.{counts_by, marks_by, WritesMarks, Finishes};
 ghost use Rattle.stages.specs.Answers.{range_number, ran_number};
 
+use merge::places::Places;
+use network::options::Options;
+use sweep::input::Sweep;
+
 // Questions 1 to 7.
 #[unsafe(no_mangle)]
 pub extern "C" fn stage_questions(
@@ -49,19 +53,24 @@ pub extern "C" fn stage_questions(
     ensures { let s = sweep_of rays gates nyquist splits skip_between_rays skip_along_ray centred wrap velocity.now valid.now in
         result ≡ answer_of (first_no (seven_of s (record { counts = length velocity.now; doubtful = length velocity.now; pair = 2; words = words; floats = floats }))) }
 {
-    let o = network::options::Options {
-        rays: rays,
-        gates: gates,
-        nyquist: nyquist,
-        splits: splits,
-        skip_between_rays: skip_between_rays,
-        skip_along_ray: skip_along_ray,
-        centred: centred,
-        wrap: wrap,
+    let options = Options::new(
+        rays,
+        gates,
+        nyquist,
+        splits,
+        skip_between_rays,
+        skip_along_ray,
+        centred,
+        wrap,
+    );
+    let s = Sweep {
+        options,
+        velocity,
+        valid,
     };
     let n = sweep::questions::gates_in(rays, gates);
     let lent = sweep::questions::room_of(n, velocity.len(), velocity.len(), 2, words, floats);
-    sweep::questions::first_missed(o, velocity, valid, lent)
+    sweep::refusal::answer(sweep::questions::first_missed(s, lent))
 }
 
 // The least and the greatest valid velocity: 1 where there is one.
@@ -71,13 +80,8 @@ pub extern "C" fn stage_range(velocity: &[f32], valid: &[u8]) -> u32
     ensures { result ≡ range_number (I.range (I.valid velocity.now valid.now)) }
 {
     match arithmetic::intervals::least_and_greatest(velocity, valid) {
-        arithmetic::intervals::Extremes::Both(lo, hi) => {
-            if lo <= hi {
-                return 1;
-            }
-            0
-        }
-        arithmetic::intervals::Extremes::NoneValid => 0,
+        Some(e) => u32::from(e.least <= e.greatest),
+        None => 0,
     }
 }
 
@@ -96,16 +100,7 @@ pub extern "C" fn stage_limits(
     ensures value { result ≡ I.at_least0 (I.number_for nyquist splits (I.range (I.valid velocity.now valid.now))) }
     ensures out_after { out.new ≡ front (I.limits_for nyquist splits (I.range (I.valid velocity.now valid.now))) out.old }
 {
-    let o = network::options::Options {
-        rays: 0,
-        gates: 0,
-        nyquist: nyquist,
-        splits: splits,
-        skip_between_rays: 0,
-        skip_along_ray: 0,
-        centred: 0,
-        wrap: 0,
-    };
+    let o = Options::new(0, 0, nyquist, splits, 0, 0, 0, 0);
     let e = arithmetic::intervals::least_and_greatest(velocity, valid);
     let p = arithmetic::intervals::plan_limits(nyquist, splits, e);
     network::find::limits(o, p, out)
@@ -146,11 +141,11 @@ pub extern "C" fn stage_looks(
     ensures upper_bound { result ≤ 4 * n }
 {
     let f = edges::edges::Shape {
-        rays: rays,
-        gates: gates,
-        skip_between_rays: skip_between_rays,
-        skip_along_ray: skip_along_ray,
-        wrap: wrap,
+        rays,
+        gates,
+        skip_between_rays,
+        skip_along_ray,
+        wrap,
     };
     edges::pairs::pair_all(work, n, f)
 }
@@ -219,9 +214,10 @@ pub extern "C" fn stage_merges(tables: &mut [u32], floats: &mut [f64], e: usize,
     ensures fact { let s = view e v tables.old floats.old in
         RunLeaves e v (gates_in s) (trace (raw_net e v s) (run e (raw_net e v s))) (book (raw_net e v s) (run e (raw_net e v s))) (settle e (raw_net e v s) 0) tables.new floats.new }
 {
-    match network::network::merge_all(tables, floats, e, v) {
-        network::network::Ran::Settled(k) => 1,
-        network::network::Ran::Refused => 0,
+    let at = Places { edges: e, nodes: v };
+    match network::network::merge_all(tables, floats, at) {
+        Ok(_) => 1,
+        Err(_) => 0,
     }
 }
 
@@ -230,10 +226,7 @@ pub extern "C" fn stage_merges(tables: &mut [u32], floats: &mut [f64], e: usize,
 pub extern "C" fn stage_doubtful(q: f64) -> u32
     ensures { result ≡ cond (doubtful q) 1 0 }
 {
-    if arithmetic::doubtful::is_doubtful(q) {
-        return 1;
-    }
-    0
+    u32::from(arithmetic::doubtful::is_doubtful(q))
 }
 
 // The counts and marks of all gates.

@@ -6,8 +6,7 @@ use Rattle.std.proofs.Common.{arith, ltb-true}
 use Rattle.std.specs.Float.{nan, binary32}
 use Rattle.std.specs.Float.Ieee.{of_int}
 use Rattle.lists.specs.Seq.{keep}
-use Rattle.arithmetic.specs.Intervals.{valid, range}
-use Rattle.arithmetic.specs.declared.intervals.Extremes.TheVariants.{Both}
+use Rattle.arithmetic.specs.Intervals.{valid, range, both}
 use Rattle.network.specs.Network.{Event, trace}
 use Rattle.sweep.specs.Evaluating.{evaluating}
 use Rattle.sweep.specs.Sweep.{Sweep, unfolded}
@@ -110,11 +109,11 @@ velocities c (suc zero) h = refl
 velocities c (suc (suc g)) h = absurd (past g h)
 
 -- both have −9 and 9 for least and greatest
-pub folds_range : (c : ℕ) → range (valid (folds c).vel (folds c).mask) ≡ Both (of_int binary32 (negsuc 8)) (of_int binary32 (pos 9))
+pub folds_range : (c : ℕ) → range (valid (folds c).vel (folds c).mask) ≡ both (of_int binary32 (negsuc 8)) (of_int binary32 (pos 9))
 unfolding evaluating
 folds_range c = refl
 
-pub smooth_range : (c : ℕ) → range (valid (smooth c).vel (smooth c).mask) ≡ Both (of_int binary32 (negsuc 8)) (of_int binary32 (pos 9))
+pub smooth_range : (c : ℕ) → range (valid (smooth c).vel (smooth c).mask) ≡ both (of_int binary32 (negsuc 8)) (of_int binary32 (pos 9))
 unfolding evaluating
 smooth_range c = refl
 

@@ -2,7 +2,8 @@
 use Rattle.std.proofs.Common.{◌≡◌, ℕ, Bool, true, false, ◌||◌, ltb, List, [], ◌∷◌, pos, sym, refl, true≢false, ltb-true}
 use Rattle.arithmetic.specs.Intervals.{two_nyquist}
 use Rattle.labels.specs.Label.{Found}
-use Rattle.edges.specs.Edges.{Pair, used}
+use Rattle.edges.specs.Edges.{used}
+use Rattle.edges.specs.declared.edges.Pair.{Pair}
 use Rattle.network.specs.Network.{merges, trace, count_of, mark_of}
 use Rattle.network.proofs.FewRegions.{used_few, used_none, no_merges, no_counts, no_marks}
 use Rattle.sweep.specs.Sweep.{Sweep, pairs_of, network_of, final, none, early}

@@ -7,6 +7,7 @@ pub mod FillLaws
 pub mod GateLaws
 pub mod VelocityLaws
 pub mod QuestionLaws
+pub mod RefusalLaws
 pub mod PassedLaws
 pub mod PlanLaws
 pub mod WorkLaws

@@ -13,14 +13,14 @@ use Rattle.edges.specs.Edges.{pairs, used}
 use Rattle.merge.specs.Inside.Steps.{unbias}
 use Rattle.memory.specs.Inside.Layout.{sizes_at, counts_at, marks_at}
 use Rattle.memory.specs.Size.{gates_of_largest}
-use Rattle.network.specs.Inside.Find.{shape_of, network_for, finding_of, Leaves}
+use Rattle.network.specs.Inside.Find.{Finding, shape_of, network_for, finding_of, Leaves}
 use Rattle.network.proofs.Joint.{gates_from, gates_most}
 use Rattle.network.proofs.Settles.{ran_no, ran_yes}
 use Rattle.network.proofs.BookLaws.{merges_less}
 use Rattle.network.specs.declared.options.Options.{Options}
 use Rattle.network.specs.declared.find.Run.{Run}
-use Rattle.network.specs.declared.find.Finding.{Finding}
-use Rattle.network.specs.declared.find.Finding.TheVariants.{Regions, Refused}
+use Rattle.std.specs.Prelude.{Ok, Err}
+use Rattle.network.specs.Inside.Settle.{refused as run_refused}
 use Rattle.sweep.specs.Sweep.{Sweep, or_zero, weighed, mean_of, network_of, offset_of, final, gate_count, finished, unfolded_by}
 use Rattle.sweep.specs.Questions.{refused, accepted, first_no, answered, asked9}
 use Rattle.sweep.specs.Entry.{sweep_by}
@@ -57,12 +57,12 @@ mark_most vs l = go (not (eqb l 0) && marked vs l)
 -- ---- what was found
 
 abbrev accepts : Finding → Bool
-accepts (Regions r) = true
-accepts Refused = false
+accepts (Ok r) = true
+accepts (Err e) = false
 
 abbrev run_of : Finding → Run
-run_of (Regions r) = r
-run_of Refused = record { regions = 0; merges = 0 }
+run_of (Ok r) = r
+run_of (Err e) = record { regions = 0; merges = 0 }
 
 -- F being the regions of n gates, v the words and x the answer that finding left
 module _ (o : Options) (vel : List Float) (mask : List ℕ) (F : Found) (n : ℕ) (v : List ℕ) (x : Finding) (R : Leaves F (network_for o F vel) n v x)
@@ -97,22 +97,22 @@ module _ (o : Options) (vel : List Float) (mask : List ℕ) (F : Found) (n : ℕ
 
   -- ---- what was found, by question 9
 
-  pub found_no : merges_in_range t ≡ false → x ≡ Refused
+  pub found_no : merges_in_range t ≡ false → x ≡ run_refused
   found_no g = R.answer ∙ ap (finding_of k) (ran_no t g)
 
-  pub found_yes : merges_in_range t ≡ true → x ≡ Regions (record { regions = k; merges = length (merges t) })
+  pub found_yes : merges_in_range t ≡ true → x ≡ Ok (record { regions = k; merges = length (merges t) })
   found_yes g = R.answer ∙ ap (finding_of k) (ran_yes t g)
 
   -- ---- what writing asks
 
-  pub good_if : (r : Run) → x ≡ Regions r → merges_in_range t ≡ true
+  pub good_if : (r : Run) → x ≡ Ok r → merges_in_range t ≡ true
   good_if r e = go (merges_in_range t) refl
     where
       go : (b : Bool) → merges_in_range t ≡ b → merges_in_range t ≡ true
       go true g = g
       go false g = absurd (true≢false (ap accepts (sym e ∙ found_no g)))
 
-  pub run_is : (r : Run) → x ≡ Regions r → r ≡ record { regions = k; merges = length (merges t) }
+  pub run_is : (r : Run) → x ≡ Ok r → r ≡ record { regions = k; merges = length (merges t) }
   run_is r e = ap run_of (sym e ∙ found_yes (good_if r e))
 
   finishes : merges_in_range t ≡ true → (m : ℕ) → m ≡ n → (c : ℕ) → c ≡ n → Finishes v m k mask c

@@ -1,9 +1,8 @@
 -- Every list of questions: a yes goes on, a no decides, a list after a list, zero is none. Then a product that fits, and one turn of the
 -- loops over mask bytes and velocities. Assumes nothing.
-use Rattle.std.proofs.Common.{◌≡◌, ℕ, suc, ◌+◌, ◌*◌, ◌<◌, ◌≤◌, Bool, true, false, cond, ◌&&◌, eqb, ltb, leb, List, [], ◌∷◌, ◌++◌, length, get_or, drop, sym, refl, ap, ◌∙◌, mul-le-mul, add-one, arith, drop_of_length-le, drop-cons, w64, Fits, ltb-true, eq-eqb, ne_eqb, le-leb}
+use Rattle.std.proofs.Common.{◌≡◌, ◌↔◌, ℕ, zero, suc, ◌+◌, ◌*◌, ◌<◌, ◌≤◌, Bool, true, false, cond, not, ◌&&◌, ◌||◌, eqb, ltb, leb, List, [], ◌∷◌, ◌++◌, length, get_or, drop, sym, refl, ap, ◌∙◌, mul-le-mul, add-one, arith, drop_of_length-le, drop-cons, w64, Fits, ltb-true, leb-true, eq-eqb, ne_eqb, le-leb}
 use mathlib.Core.Option.{Option, none, some, none-ne-some}
 use lib.Ieee.{Float, nan}
-use borrow.Author.Tests.{lt-leb}
 use Rattle.lists.specs.Seq.{all, All}
 use Rattle.arithmetic.specs.Intervals.{valid, velocity_in_range}
 use Rattle.lists.proofs.AllLaws.{and_left, and_right}
@@ -54,13 +53,9 @@ module _ (qs rs : List Question) where
   pub rest_yes : first_no (qs ++ rs) ≡ none → first_no rs ≡ none
   rest_yes h = sym (goes_on (first_yes h)) ∙ h
 
-  -- a number other than 0 is the first no's of both lists
-  pub first_no_lem : (k : ℕ) → k ≡ answer_of (first_no qs) → (k ≡ 0 → ⊥) → first_no (qs ++ rs) ≡ some k
-  first_no_lem k q h = list_after qs rs ∙ go (first_no qs) q
-    where
-      go : (o : Option ℕ) → k ≡ answer_of o → or_else o (first_no rs) ≡ some k
-      go none q = absurd (h q)
-      go (some j) q = ap some (sym q)
+  -- a no of the first list is the first no of both
+  pub stops : (k : ℕ) → first_no qs ≡ some k → first_no (qs ++ rs) ≡ some k
+  stops k h = list_after qs rs ∙ ap (λ (o : Option ℕ). or_else o (first_no rs)) h
 
 -- the first no has the number of one of the questions: it meets every test that all of their numbers meet
 pub no_meets : (t : ℕ → Bool) (qs : List Question) (k : ℕ) → all (λ q. t q.number) qs ≡ true → first_no qs ≡ some k → t k ≡ true
@@ -110,22 +105,60 @@ product_fits a b h k = record { fits = under (a * b) (mul-le-mul (below a h) (be
     under : (x : ℕ) → x ≤ 4294967295 * 4294967295 → x < 18446744073709551616
     under x h = omega arith
 
--- ---- mask bytes, from byte i on
+-- ---- tests of every gate
 
-module _ (l : List ℕ) (i : ℕ) where
-  mask_turn : i < length l → mask_is_bits (drop i l) ≡ (leb (get_or l i 0) 1 && mask_is_bits (drop (i + 1) l))
-  unfolding mask_is_bits all
-  mask_turn h = rw (add-one, drop-cons l i 0) refl
+-- two tests that are true together
+together : (b c : Bool) → (b ≡ true → c ≡ true) → (c ≡ true → b ≡ true) → b ≡ c
+together true c f g = sym (f refl)
+together false true f g = g refl
+together false false f g = refl
 
-  pub mask_yes : i < length l → get_or l i 0 ≤ 1 → mask_is_bits (drop i l) ≡ mask_is_bits (drop (i + 1) l)
-  mask_yes h t = mask_turn h ∙ ap (λ (b : Bool). b && mask_is_bits (drop (i + 1) l)) (le-leb (get_or l i 0) 1 t)
+each_bit : (l : List ℕ) → ((k : ℕ) → k < length l → get_or l k 0 ≤ 1) → mask_is_bits l ≡ true
+unfolding mask_is_bits all
+each_bit [] h = refl
+each_bit (m ∷ l) h = rw (le-leb m 1 (h 0 (omega arith))) (each_bit l (λ k i. h (suc k) (omega arith)))
 
-  pub mask_no : i < length l → 1 < get_or l i 0 → mask_is_bits (drop i l) ≡ false
-  mask_no h t = mask_turn h ∙ ap (λ (b : Bool). b && mask_is_bits (drop (i + 1) l)) (lt-leb (get_or l i 0) 1 t)
+bit_each : (l : List ℕ) → mask_is_bits l ≡ true → (k : ℕ) → k < length l → get_or l k 0 ≤ 1
+unfolding mask_is_bits all
+bit_each [] h k i = absurd (omega arith)
+bit_each (m ∷ l) h zero i = leb-true m 1 (and_left (leb m 1) _ h)
+bit_each (m ∷ l) h (suc k) i = bit_each l (and_right (leb m 1) _ h) k (omega arith)
 
-  pub mask_end : length l ≤ i → mask_is_bits (drop i l) ≡ true
-  unfolding mask_is_bits all
-  mask_end h = rw (drop_of_length-le l h) refl
+-- question 3 by a test that is true exactly if every byte is at most 1
+pub mask_by : (b : Bool) (l : List ℕ) → ((b ≡ true) ↔ ((k : ℕ) → k < length l → get_or l k 0 ≤ 1)) → b ≡ mask_is_bits l
+mask_by b l h = together b (mask_is_bits l) (λ e. each_bit l (h.0 e)) (λ e. h.1 (bit_each l e))
+
+-- question 7 of a gate, as the code puts it
+abbrev pub speed_test : List Float → List ℕ → ℕ → Bool
+speed_test vs ms k = not (eqb (get_or ms k 0) 1) || velocity_in_range (get_or vs k nan)
+
+each_speed : (vs : List Float) (ms : List ℕ) → length ms ≡ length vs → ((k : ℕ) → k < length vs → speed_test vs ms k ≡ true) → velocities_in_range vs ms ≡ true
+unfolding velocities_in_range all valid
+each_speed [] ms e h = refl
+each_speed (v ∷ vs) [] e h = absurd (omega arith)
+each_speed (v ∷ vs) (m ∷ ms) e h = go (eqb m 1) (h 0 (omega arith)) (each_speed vs ms (omega arith) (λ k i. h (suc k) (omega arith)))
+  where
+    go : (b : Bool) → (not b || velocity_in_range v) ≡ true → all velocity_in_range (valid vs ms) ≡ true → all velocity_in_range (cond b (v ∷ valid vs ms) (valid vs ms)) ≡ true
+    go true a r = rw a r
+    go false a r = r
+
+speed_each : (vs : List Float) (ms : List ℕ) → length ms ≡ length vs → velocities_in_range vs ms ≡ true → (k : ℕ) → k < length vs → speed_test vs ms k ≡ true
+unfolding velocities_in_range all valid
+speed_each [] ms e h k i = absurd (omega arith)
+speed_each (v ∷ vs) [] e h k i = absurd (omega arith)
+speed_each (v ∷ vs) (m ∷ ms) e h k i = let b = both (eqb m 1) h in go k i b.0 (speed_each vs ms (omega arith) b.1)
+  where
+    both : (b : Bool) → all velocity_in_range (cond b (v ∷ valid vs ms) (valid vs ms)) ≡ true → ((not b || velocity_in_range v) ≡ true) × (all velocity_in_range (valid vs ms) ≡ true)
+    both true h = (and_left (velocity_in_range v) _ h, and_right (velocity_in_range v) _ h)
+    both false h = (refl, h)
+
+    go : (k : ℕ) → k < suc (length vs) → (not (eqb m 1) || velocity_in_range v) ≡ true → ((k : ℕ) → k < length vs → speed_test vs ms k ≡ true) → speed_test (v ∷ vs) (m ∷ ms) k ≡ true
+    go zero i h f = h
+    go (suc k) i h f = f k (omega arith)
+
+-- question 7 by a test that is true exactly if that of every gate is
+pub speeds_by : (b : Bool) (vs : List Float) (ms : List ℕ) → length ms ≡ length vs → ((b ≡ true) ↔ ((k : ℕ) → k < length vs → speed_test vs ms k ≡ true)) → b ≡ velocities_in_range vs ms
+speeds_by b vs ms e h = together b (velocities_in_range vs ms) (λ q. each_speed vs ms e (h.0 q)) (λ q. h.1 (speed_each vs ms e q))
 
 -- ---- velocities at valid gates, from gate i on
 

@@ -8,8 +8,6 @@ use lib.Ieee.Fits.{down_pos}
 use lib.Ieee.Nearest.{closest, closest_mono}
 use Rattle.memory.specs.Size.{gates_of_largest}
 use Rattle.arithmetic.specs.Rounding.{within, nearest_whole, if_within, round_even, signed}
-use Rattle.arithmetic.specs.declared.rounding.Rounded.{Rounded}
-use Rattle.arithmetic.specs.declared.rounding.Rounded.TheVariants.{Whole, Outside}
 use Rattle.arithmetic.proofs.Plans.{mag_add}
 use Rattle.merge.specs.Inside.Steps.{unbias}
 use Rattle.merge.proofs.Bias.{lt_or_le, unbias_up, unbias_down}
@@ -83,14 +81,6 @@ module _ (held gates : ℕ) (g : gates ≤ gates_of_largest) (h : held ≤ 2000 
 
   pub total_back : to_z w64 (of_z w64 (to_z w64 held -ℤ to_z w64 (1000 * gates))) ≡ sub_ℕ held (1000 * gates)
   total_back = to_z-of_z w64 (to_z w64 held -ℤ to_z w64 (1000 * gates)) total_fits ∙ total_is
-
-pub mean_whole : (x : Float) (r : Rounded) (z : ℤ) → r ≡ round_even x → r ≡ Whole z → SFits w32 z → to_z w32 (of_z w32 z) ≡ or_zero (round_even x)
-unfolding or_zero
-mean_whole x r z e g f = to_z-of_z w32 z f ∙ ap or_zero (sym g ∙ e)
-
-pub mean_none : (x : Float) (r : Rounded) → r ≡ round_even x → r ≡ Outside → pos 0 ≡ or_zero (round_even x)
-unfolding or_zero
-mean_none x r e g = ap or_zero (sym g ∙ e)
 
 -- a number with a sign is as large as the number
 pub signed_abs : (s : Bool) (n : ℕ) → nat_abs (signed s n) ≡ n

@@ -6,11 +6,11 @@ use Rattle.arithmetic.specs.declared.intervals.Plan.{Plan}
 use Rattle.labels.proofs.RegionLaws.{labels_long, label_at_most, number_at_most}
 use Rattle.labels.specs.Label.{Found}
 use Rattle.network.specs.Network.{State, merges, merges_in_range}
-use Rattle.network.specs.Inside.Find.{limits_by, regions_by, network_for, Finds, Leaves}
+use Rattle.network.specs.Inside.Find.{Finding, limits_by, regions_by, network_for, Finds, Leaves}
 use Rattle.network.specs.declared.options.Options.{Options}
 use Rattle.network.specs.declared.find.Run.{Run}
-use Rattle.network.specs.declared.find.Finding.{Finding}
-use Rattle.network.specs.declared.find.Finding.TheVariants.{Regions, Refused}
+use Rattle.std.specs.Prelude.{Ok}
+use Rattle.network.specs.Inside.Settle.{refused as run_refused}
 use Rattle.sweep.specs.Sweep.{unfolded, regions_of}
 use Rattle.sweep.specs.Questions.{Outcome, refused, accepted, asked9}
 use Rattle.sweep.specs.Call.{Answer, ending, memory_of, answer_by}
@@ -48,13 +48,13 @@ module _ (o : Options) (p : Plan) (vel : List Float) (mask w : List ℕ) (d : Li
   low = label_at_most o.gates vel mask (limits_by o p) q.limited.rising
 
   -- what was found, by question 9
-  pub refused_found : merges_in_range t ≡ false → x ≡ Refused
+  pub refused_found : merges_in_range t ≡ false → x ≡ run_refused
   refused_found = M.found_no o vel mask F (length vel) v x R q.limited.masks q.limited.small room few long low
 
-  pub run_found : merges_in_range t ≡ true → x ≡ Regions (record { regions = F.number; merges = length (merges t) })
+  pub run_found : merges_in_range t ≡ true → x ≡ Ok (record { regions = F.number; merges = length (merges t) })
   run_found = M.found_yes o vel mask F (length vel) v x R q.limited.masks q.limited.small room few long low
 
-  pub accepted_run : (r : Run) → x ≡ Regions r → (merges_in_range t ≡ true) × (r ≡ record { regions = F.number; merges = length (merges t) })
+  pub accepted_run : (r : Run) → x ≡ Ok r → (merges_in_range t ≡ true) × (r ≡ record { regions = F.number; merges = length (merges t) })
   accepted_run r e = (
     M.good_if o vel mask F (length vel) v x R q.limited.masks q.limited.small room few long low r e,
     M.run_is o vel mask F (length vel) v x R q.limited.masks q.limited.small room few long low r e,

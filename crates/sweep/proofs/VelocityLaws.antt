@@ -1,7 +1,7 @@
 -- The second entry: one turn of the loop over its gates, its own questions, and its call. Assumes nothing.
 use Rattle.std.proofs.Common.{◌≡◌, ℕ, ◌+◌, ◌*◌, ◌<◌, ◌≤◌, Bool, true, false, ◌&&◌, eqb, List, [], ◌∷◌, ◌++◌, length, get_or, drop, set, ℤ, pos, negsuc, sym, refl, ap, ◌∙◌, true≢false, append-nil, arith, drop_of_length-le, w32, SFits, to_z, of_z, le-ltb, lt-ltb, leb-false, leb-true}
-use mathlib.Core.Option.{Option, none, some}
-use lib.Signed.{le_z, mag}
+use mathlib.Core.Option.{none, some}
+use lib.Signed.{le_z}
 use mir.ValLaws.{to_z-of_z}
 use lib.Ieee.{Float, nan}
 use Rattle.lists.specs.Seq.{upto, all, tabulate}
@@ -12,15 +12,15 @@ use Rattle.arithmetic.proofs.IntervalLaws.{front_more, front_none}
 use Rattle.network.specs.Network.{bounded}
 use Rattle.sweep.specs.Questions.{ask, first_no, lengths_fit, velocities_in_range}
 use Rattle.sweep.specs.Entry.{answer_of}
-use Rattle.sweep.specs.Velocity.{Counted, VelocityAnswer, wind, shows_wind, unfolded_at, velocities, own_long, counts_in_range, asked_velocity, call_velocity}
+use Rattle.sweep.specs.Velocity.{Counted, wind, shows_wind, unfolded_at, velocities, own_long, counts_in_range, asked_velocity, call_velocity}
 use Rattle.sweep.specs.Inside.Gates.{gates_asked}
 use Rattle.sweep.proofs.QuestionLaws.{zero_none, all_yes}
 use Rattle.sweep.proofs.PassedLaws.{long_are, three_are}
 use Rattle.sweep.proofs.GateLaws.{count_test}
 
 -- a gate's unfolded velocity
-abbrev pub gate_velocity : Float → List Float → List ℕ → List ℤ → List ℕ → ℕ → Float
-gate_velocity nyq vs ms cs ls g = unfolded_at nyq (get_or vs g nan) (get_or ms g 0) (get_or cs g (pos 0)) (get_or ls g 0)
+abbrev pub gate_velocity : Counted → ℕ → Float
+gate_velocity u g = unfolded_at u.nyquist (get_or u.vel g nan) (get_or u.mask g 0) (get_or u.counts g (pos 0)) (get_or u.labels g 0)
 
 -- at a gate that shows a wind it is the wind, at any other 0
 pub shown_at : (nyq v : Float) (m : ℕ) (c : ℤ) (l : ℕ) → shows_wind m l ≡ true → unfolded_at nyq v m c l ≡ wind nyq v c
@@ -30,10 +30,6 @@ shown_at nyq v m c l h = rw h refl
 pub hidden_at : (nyq v : Float) (m : ℕ) (c : ℤ) (l : ℕ) → shows_wind m l ≡ false → unfolded_at nyq v m c l ≡ real (pos 0)
 unfolding unfolded_at
 hidden_at nyq v m c l h = rw h refl
-
--- a count that was read from a slice is itself
-pub read_back : (z : ℤ) → mag z < 2147483648 → to_z w32 (of_z w32 z) ≡ z
-read_back z h = to_z-of_z w32 z (record { sfits = h })
 
 -- ---- velocities at the front of what is written
 
@@ -120,17 +116,13 @@ module _ (u : Counted) (k : ℕ) where
   all_long h = lengths (all_yes _ _ (all_yes _ _ h).1).0
 
 module _ (u : Counted) (out : List Float) where
-  pub velocity_refused : (r : ℕ) → r ≡ answer_of (asked_velocity u (length out)) → (r ≡ 0 → ⊥) → record { number = r; unfolded = out } ≡ call_velocity u out
+  pub velocity_refused : (k : ℕ) → asked_velocity u (length out) ≡ some k → record { number = k; unfolded = out } ≡ call_velocity u out
   unfolding call_velocity
-  velocity_refused r e h = go (asked_velocity u (length out)) e
-    where
-      go : (o : Option ℕ) → r ≡ answer_of o → ◌≡◌ {A = VelocityAnswer} (record { number = r; unfolded = out }) (elim o [ none ↦ record { number = 0; unfolded = velocities u } | some k ↦ record { number = k; unfolded = out } ])
-      go none e = absurd (h e)
-      go (some k) e = ap (λ (j : ℕ). record { number = j; unfolded = out }) e
+  velocity_refused k h = rw (h, call_velocity) refl
 
   -- the velocities that the loop writes
   abbrev unfolded_gates : ℕ → List Float
-  unfolded_gates m = tabulate m (gate_velocity u.nyquist u.vel u.mask u.counts u.labels)
+  unfolded_gates m = tabulate m (gate_velocity u)
 
   pub unfolds : (w : List Float) → asked_velocity u (length out) ≡ none → w ≡ unfolded_gates (length out) → record { number = 0; unfolded = w } ≡ call_velocity u out
   unfolding call_velocity velocities

@@ -1,5 +1,5 @@
 -- What a yes to questions 1 to 7 gives of the work memory, for any entry: the asked part of it, what region finding asks, and that part cleared. Assumes nothing.
-use Rattle.std.proofs.Common.{◌≡◌, ℕ, zero, suc, ◌+◌, ◌-◌, ◌*◌, ◌<◌, ◌≤◌, List, [], ◌∷◌, ◌++◌, length, take, drop, replicate, sym, refl, ap, ◌∙◌, mul-le-mul, arith}
+use Rattle.std.proofs.Common.{◌≡◌, ℕ, zero, suc, ◌+◌, ◌*◌, ◌<◌, ◌≤◌, List, [], ◌∷◌, ◌++◌, length, take, drop, replicate, sym, refl, ap, ◌∙◌, mul-le-mul, arith}
 use lib.Ieee.{Float}
 use Rattle.memory.specs.Size.{gates_of_largest}
 use Rattle.arithmetic.specs.declared.intervals.Plan.{Plan}
@@ -15,13 +15,10 @@ use Rattle.sweep.specs.declared.questions.Room.{Room}
 use Rattle.sweep.proofs.PassedLaws.{Passed}
 
 -- as much as is lent of a work memory
-taken : {A : Type 0} (k : ℕ) (w : List A) → k ≤ length w → length (take k w) ≡ k
-taken zero w h = refl
-taken (suc k) [] h = absurd (omega arith)
-taken (suc k) (x ∷ w) h = ap suc (taken k w (omega arith))
-
-pub length_taken : {A : Type 0} (k : ℕ) (w : List A) → k ≤ length w → length (take (k - 0) w) ≡ k
-length_taken k w h = let e : k - 0 ≡ k = omega arith in ap (λ (j : ℕ). length (take j w)) e ∙ taken k w h
+pub length_taken : {A : Type 0} (k : ℕ) (w : List A) → k ≤ length w → length (take k w) ≡ k
+length_taken zero w h = refl
+length_taken (suc k) [] h = absurd (omega arith)
+length_taken (suc k) (x ∷ w) h = ap suc (length_taken k w (omega arith))
 
 -- k zeros, and what lies behind the first k words
 pub cleared_is : {A : Type 0} (z : A) (k j : ℕ) (w rest m : List A) → k ≡ j → w ≡ replicate k z → rest ≡ drop k m → w ++ rest ≡ cleared z j m

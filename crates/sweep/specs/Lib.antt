@@ -1,5 +1,6 @@
 pub mod Sweep
 pub mod Questions
+pub mod Refusal
 pub mod Call
 pub mod Entry
 pub mod Velocity

@@ -1,5 +1,6 @@
 -- The questions put to a sweep, and the answer.
 use Rattle.std.specs.Prelude.{ℕ, ◌+◌, ◌*◌, Bool, true, false, ◌&&◌, leb, List, [], ◌∷◌, ◌++◌, length, ℤ, pos, negsuc, ◌==◌, nat_le, Float}
+use Rattle.std.specs.Prelude as Std
 use Rattle.std.proofs.Math.Option.{Option, none, some}
 use Rattle.lists.specs.Seq.{all}
 use Rattle.memory.specs.Size.{largest}
@@ -72,11 +73,11 @@ at_most k (pos n) = nat_le n k
 at_most k (negsuc n) = true
 
 -- the least and the greatest valid velocity of a sweep
-abbrev pub range_of : Sweep → Extremes
+abbrev pub range_of : Sweep → Std.Option Extremes
 range_of s = range (valid s.vel s.mask)
 
 -- question 8 of the limits for a least and a greatest velocity: their number
-abbrev pub few_for : Float → ℕ → Extremes → Bool
+abbrev pub few_for : Float → ℕ → Std.Option Extremes → Bool
 few_for nyq splits e = at_most 10000 (number_for nyq splits e)
 
 -- question 8 of a sweep's own limits

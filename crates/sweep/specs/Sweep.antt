@@ -1,15 +1,14 @@
 -- sweep.rs: the counts of a sweep by given limits, and the marks of its doubtful merges.
-use Rattle.std.specs.Prelude.{ℕ, Bool, true, false, cond, ◌||◌, List, [], ◌∷◌, map, length, ℤ, pos, ◌+ℤ◌, ◌-ℤ◌, ◌*ℤ◌, ◌==◌, nat_lt, slice_index, Float}
+use Rattle.std.specs.Prelude.{Option, unwrap_or, ℕ, Bool, true, false, cond, ◌||◌, List, [], ◌∷◌, map, length, ℤ, pos, ◌+ℤ◌, ◌-ℤ◌, ◌*ℤ◌, ◌==◌, nat_lt, slice_index, Float}
 use Rattle.std.specs.Float.{binary64}
 use Rattle.std.specs.Float.Ieee.{div}
 use Rattle.lists.specs.Seq.{upto, tabulate}
 use Rattle.arithmetic.specs.Rounding.{round_even, real}
-use Rattle.arithmetic.specs.declared.rounding.Rounded.{Rounded}
-use Rattle.arithmetic.specs.declared.rounding.Rounded.TheVariants.{Whole, Outside}
 use Rattle.arithmetic.specs.Intervals.{two_nyquist}
 use Rattle.labels.specs.Label.{Found}
 use Rattle.labels.specs.Regions.{regions}
-use Rattle.edges.specs.Edges.{Pair, pairs}
+use Rattle.edges.specs.Edges.{pairs}
+use Rattle.edges.specs.declared.edges.Pair.{Pair}
 use Rattle.edges.specs.declared.edges.Shape.{Shape}
 use Rattle.network.specs.Network.{Region, State, gates_of, size_in, merges, merges_in_range, replay, trace, count_of, mark_of, network_by}
 
@@ -57,9 +56,8 @@ weighed [] = pos 0
 weighed (r ∷ rs) = (pos r.size *ℤ r.count) +ℤ weighed rs
 
 -- a rounded number; 0 for what is no number, as the mean over no gates
-unfoldable pub or_zero : Rounded → ℤ
-or_zero (Whole z) = z
-or_zero Outside = pos 0
+unfoldable pub or_zero : Option ℤ → ℤ
+or_zero z = unwrap_or z (pos 0)
 
 -- the mean count of the labelled gates, rounded
 unfoldable pub mean_of : List Region → ℤ

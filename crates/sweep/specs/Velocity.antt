@@ -7,6 +7,7 @@ use Rattle.lists.specs.Seq.{upto, all, tabulate}
 use Rattle.arithmetic.specs.Rounding.{real}
 use Rattle.arithmetic.specs.Intervals.{two_nyquist, nyquist_in_range}
 use Rattle.network.specs.Network.{bounded}
+use Rattle.sweep.specs.declared.input.Counted.{Counted as Lent}
 use Rattle.sweep.specs.Questions.{Question, ask, first_no, size_in_range, lengths_fit, mask_is_bits, velocities_in_range}
 
 -- the inputs of a call of the second entry
@@ -22,6 +23,10 @@ pub record Counted : Type 0 where
 -- the same, of a call's parameters
 abbrev pub counted : ℕ → ℕ → Float → List Float → List ℕ → List ℤ → List ℕ → Counted
 counted rays gates nyquist vel mask counts labels = record { rays = rays; gates = gates; nyquist = nyquist; vel = vel; mask = mask; counts = counts; labels = labels }
+
+-- the same, of a counted sweep as a host lends it
+abbrev pub counted_in : Lent → Counted
+counted_in u = counted u.rays u.gates u.nyquist u.velocity.now u.valid.now u.folds.now u.labels.now
 
 -- the wind that a count gives: the velocity in f64 + count × (2 × Nyquist), each operation rounded once
 unfoldable pub wind : Float → Float → ℤ → Float

@@ -2,6 +2,8 @@
 #![tactic(auto)]
 
 pub mod entry;
+pub mod input;
 pub mod questions;
+pub mod refusal;
 pub mod sweep;
 pub mod velocity;

@@ -1,13 +1,16 @@
-// The questions put to a call, each as a test, and for each entry the number of the first that gets a no. Question 9 is put at each merge.
+// The questions put to a call, each as a test, and for each entry the first that gets a no. Question 9 is put at each merge.
 ghost use Rattle.std.specs.Prelude.{◌≡◌, ℕ, ◌*◌, ◌≤◌, ◌&&◌, leb, length, ◌==◌, nat_le};
 ghost use Rattle.memory.specs.Size.{gates_of_largest};
 ghost use Rattle.arithmetic.specs.Intervals.{nyquist_in_range, velocity_in_range};
 ghost use Rattle.network.specs.Network.{bounded};
 ghost use Rattle.sweep.specs.Questions.{first_no, seven, room, at_most, words_for, floats_for, size_in_range, lengths_fit, mask_is_bits, velocities_in_range};
-ghost use Rattle.sweep.specs.Entry.{sweep_by, answer_of};
-ghost use Rattle.sweep.specs.Velocity.{counted, shows_wind, after_lengths, asked_velocity};
+ghost use Rattle.sweep.specs.Entry.{sweep_in};
+ghost use Rattle.sweep.specs.Refusal.{missed_by};
+ghost use Rattle.sweep.specs.Velocity.{counted_in, shows_wind, after_lengths, asked_velocity};
 ghost use Rattle.sweep.specs.Inside.Gates.{gate_asked, gates_asked};
 
+use crate::input::{Counted, Sweep};
+use crate::refusal::Refusal;
 use memory::layout;
 
 // The ranges that the questions ask for.
@@ -70,14 +73,7 @@ pub fn lengths_fit(n: usize, velocity: &[f32], valid: &[u8], own: bool) -> bool
 pub fn mask_is_bits(valid: &[u8]) -> bool
     ensures { result ≡ mask_is_bits valid.now }
 {
-    let mut i = 0;
-    while i < valid.len() {
-        if valid[i] > 1 {
-            return false;
-        }
-        i += 1;
-    }
-    true
+    valid.iter().all(|&m| m <= 1)
 }
 
 // Question 4.
@@ -123,16 +119,10 @@ fn velocities_in_range(velocity: &[f32], valid: &[u8]) -> bool
     requires { length valid.now ≡ length velocity.now }
     ensures { result ≡ velocities_in_range velocity.now valid.now }
 {
-    let mut i = 0;
-    while i < velocity.len() {
-        if valid[i] == 1 {
-            if !velocity_in_range(velocity[i]) {
-                return false;
-            }
-        }
-        i += 1;
-    }
-    true
+    velocity
+        .iter()
+        .zip(valid)
+        .all(|(&v, &m)| m != 1 || velocity_in_range(v))
 }
 
 // Question 8, of a plan of limits.
@@ -156,37 +146,38 @@ pub fn shows_wind(valid: u8, label: u32) -> bool
     valid == 1 && label != 0
 }
 
-// Questions 7 and 10 of one gate: the number of the first that gets a no, or 0. What count stands at a gate that shows no wind does not matter.
+// Questions 7 and 10 of one gate. What count stands at a gate that shows no wind does not matter.
 #[tactic(auto, unfolding(crate::specs::Inside::Gates::gate_asked, crate::specs::Inside::Gates::velocity_passes, crate::specs::Velocity::count_passes, crate::specs::Questions::first_no))]
-fn gate_missed(v: f32, valid: u8, count: i32, label: u32) -> u32
-    ensures { result ≡ answer_of (gate_asked v valid count label) }
+fn gate_missed(v: f32, valid: u8, count: i32, label: u32) -> Result<(), Refusal>
+    ensures { missed_by result ≡ gate_asked v valid count label }
 {
     let shown = shows_wind(valid, label);
     if valid == 1 && !velocity_in_range(v) {
-        return 7;
+        return Err(Refusal::Velocities);
     }
     if shown && !count_in_range(count) {
-        return 10;
+        return Err(Refusal::Counts);
     }
-    0
+    Ok(())
 }
 
 // Questions 7 and 10 of every gate, in one pass: 7 of each comes before 10 of any.
-fn gates_missed(velocity: &[f32], valid: &[u8], folds: &[i32], labels: &[u32]) -> u32
+fn gates_missed(
+    velocity: &[f32],
+    valid: &[u8],
+    folds: &[i32],
+    labels: &[u32],
+) -> Result<(), Refusal>
     requires { (length valid.now ≡ length velocity.now) × (length folds.now ≡ length velocity.now) × (length labels.now ≡ length velocity.now) }
-    ensures { result ≡ answer_of (gates_asked velocity.now valid.now folds.now labels.now) }
+    ensures { missed_by result ≡ gates_asked velocity.now valid.now folds.now labels.now }
 {
-    let mut missed = 0;
-    let mut i = 0;
-    while i < velocity.len() {
-        let here = gate_missed(velocity[i], valid[i], folds[i], labels[i]);
-        if here == 7 {
-            return 7;
+    let mut missed = Ok(());
+    for i in 0..velocity.len() {
+        match gate_missed(velocity[i], valid[i], folds[i], labels[i]) {
+            Ok(()) => {}
+            Err(Refusal::Velocities) => return Err(Refusal::Velocities),
+            Err(refusal) => missed = Err(refusal),
         }
-        if here == 10 {
-            missed = 10;
-        }
-        i += 1;
     }
     missed
 }
@@ -212,30 +203,31 @@ pub fn room_of(
 {
     Room {
         own: two_long(counts, n, doubtful, n) && pair == 2,
-        words: words,
-        floats: floats,
+        words,
+        floats,
     }
 }
 
-// Questions 1 to 7 of an entry that works on a sweep: the number of the first that gets a no, or 0.
-pub fn first_missed(o: network::options::Options, velocity: &[f32], valid: &[u8], lent: Room) -> u32
-    ensures { result ≡ answer_of (first_no (seven (sweep_by o velocity.now valid.now) lent)) }
+// Questions 1 to 7 of an entry that works on a sweep: the first that gets a no refuses it.
+pub fn first_missed(s: Sweep, lent: Room) -> Result<(), Refusal>
+    ensures { missed_by result ≡ first_no (seven (sweep_in s.entry) lent) }
 {
+    let o = s.options;
     if !size_in_range(o.rays, o.gates) {
-        return 1;
+        return Err(Refusal::Size);
     }
     let n = gates_in(o.rays, o.gates);
-    if !lengths_fit(n, velocity, valid, lent.own) {
-        return 2;
+    if !lengths_fit(n, s.velocity, s.valid, lent.own) {
+        return Err(Refusal::Lengths);
     }
-    if !mask_is_bits(valid) {
-        return 3;
+    if !mask_is_bits(s.valid) {
+        return Err(Refusal::Mask);
     }
     if !work_suffices(n, lent.words, lent.floats) {
-        return 4;
+        return Err(Refusal::Work);
     }
     if !nyquist_in_range(o.nyquist) {
-        return 5;
+        return Err(Refusal::Nyquist);
     }
     if !options_in_range(
         o.splits,
@@ -244,56 +236,40 @@ pub fn first_missed(o: network::options::Options, velocity: &[f32], valid: &[u8]
         o.centred,
         o.wrap,
     ) {
-        return 6;
+        return Err(Refusal::Options);
     }
-    if !velocities_in_range(velocity, valid) {
-        return 7;
+    if !velocities_in_range(s.velocity, s.valid) {
+        return Err(Refusal::Velocities);
     }
-    0
+    Ok(())
 }
 
-// Questions 3, 5, 7 and 10 of the second entry's input, whose lengths fit: the number of the first that gets a no, or 0.
-pub fn missed_after_lengths(
-    nyquist: f32,
-    velocity: &[f32],
-    valid: &[u8],
-    folds: &[i32],
-    labels: &[u32],
-) -> u32
-    requires { (length valid.now ≡ length velocity.now) × (length folds.now ≡ length velocity.now) × (length labels.now ≡ length velocity.now) }
-    ensures { (rays gates : ℕ) → length velocity.now ≡ rays * gates → result
-        ≡ answer_of (first_no (after_lengths (counted rays gates nyquist velocity.now valid.now folds.now labels.now))) }
+// Questions 3, 5, 7 and 10 of the second entry's input, whose lengths fit.
+pub fn missed_after_lengths(u: Counted) -> Result<(), Refusal>
+    requires { let n = length u.velocity.now in
+        (length u.valid.now ≡ n) × (length u.folds.now ≡ n) × (length u.labels.now ≡ n) }
+    ensures { let v = counted_in u.entry in length v.vel ≡ v.rays * v.gates → missed_by result ≡ first_no (after_lengths v) }
 {
-    if !mask_is_bits(valid) {
-        return 3;
+    if !mask_is_bits(u.valid) {
+        return Err(Refusal::Mask);
     }
-    if !nyquist_in_range(nyquist) {
-        return 5;
+    if !nyquist_in_range(u.nyquist) {
+        return Err(Refusal::Nyquist);
     }
-    gates_missed(velocity, valid, folds, labels)
+    gates_missed(u.velocity, u.valid, u.folds, u.labels)
 }
 
-// The second entry's questions, 1, 2, 3, 5, 7 and 10: the number of the first that gets a no, or 0. `unfolded` is a length.
-pub fn first_missed_velocity(
-    rays: u32,
-    gates: u32,
-    nyquist: f32,
-    velocity: &[f32],
-    valid: &[u8],
-    folds: &[i32],
-    labels: &[u32],
-    unfolded: usize,
-) -> u32
-    ensures { let u = counted rays gates nyquist velocity.now valid.now folds.now labels.now in
-        result ≡ answer_of (asked_velocity u unfolded) }
+// The second entry's questions, 1, 2, 3, 5, 7 and 10. `unfolded` is a length.
+pub fn first_missed_velocity(u: Counted, unfolded: usize) -> Result<(), Refusal>
+    ensures { missed_by result ≡ asked_velocity (counted_in u.entry) unfolded }
 {
-    if !size_in_range(rays, gates) {
-        return 1;
+    if !size_in_range(u.rays, u.gates) {
+        return Err(Refusal::Size);
     }
-    let n = gates_in(rays, gates);
-    let own = three_long(folds.len(), labels.len(), unfolded, n);
-    if !lengths_fit(n, velocity, valid, own) {
-        return 2;
+    let n = gates_in(u.rays, u.gates);
+    let own = three_long(u.folds.len(), u.labels.len(), unfolded, n);
+    if !lengths_fit(n, u.velocity, u.valid, own) {
+        return Err(Refusal::Lengths);
     }
-    missed_after_lengths(nyquist, velocity, valid, folds, labels)
+    missed_after_lengths(u)
 }

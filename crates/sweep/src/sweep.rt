@@ -13,13 +13,15 @@ ghost use Rattle.sweep.specs.Sweep.{or_zero, gate_count, unfolded};
 ghost use Rattle.sweep.specs.Inside.Mean.{sum_from, size_at, held_at, Tabled, Writes};
 ghost use Rattle.sweep.specs.Questions.{asked9};
 ghost use Rattle.sweep.specs.Call.{ending, memory_of, answer_by};
-ghost use Rattle.sweep.specs.Entry.{sweep_by};
+ghost use Rattle.sweep.specs.Entry.{sweep_in, answer_of};
+ghost use Rattle.sweep.specs.Refusal.{missed_by};
 ghost use Rattle.sweep.specs.Inside.Finish.{offset_by, counts_by, marks_by, WritesMarks, Finishes, WritesFound, lent, outcome_by, all_zero};
 
-// Counts are kept with 1,000 added (layout::ZERO): the word of 0, for sums and for signed numbers.
-const ZERO_U64: u64 = 1000;
-
-const ZERO_I32: i32 = 1000;
+use crate::input::Sweep;
+use crate::refusal::Refusal;
+use arithmetic::intervals::Plan;
+use memory::layout;
+use network::find::Finding;
 
 // The gates of all regions, and their counts, with 1,000 added to each, summed over them.
 #[derive(Clone, Copy)]
@@ -35,18 +37,13 @@ fn add_up(w: &[u32], n: usize, k: usize) -> Totals
 {
     let mut gates: u64 = 0;
     let mut held: u64 = 0;
-    let mut l = k;
-    while l > 0 {
+    for l in (1..k + 1).rev() {
         let s = w[n + l] as u64;
         let c = w[n + (k + 1) + l] as u64;
-        gates = s + gates;
-        held = s * c + held;
-        l -= 1;
+        gates += s;
+        held += s * c;
     }
-    Totals {
-        gates: gates,
-        held: held,
-    }
+    Totals { gates, held }
 }
 
 // The mean count, rounded; 0 where it is no number.
@@ -54,12 +51,9 @@ fn mean(s: Totals) -> i32
     requires { (s.gates ≤ gates_of_largest) × (s.held ≤ 2000 * gates_of_largest) }
     ensures { result ≡ or_zero (round_even (div binary64 (real (sub_ℕ s.held (1000 * s.gates))) (real (pos s.gates)))) }
 {
-    let total = (s.held as i64) - ((ZERO_U64 * s.gates) as i64);
+    let total = (s.held as i64) - (((layout::ZERO as u64) * s.gates) as i64);
     let x = std::num::nearest_i64_to_f64(total) / std::num::nearest_u64_to_f64(s.gates);
-    match arithmetic::rounding::round_even(x) {
-        arithmetic::rounding::Rounded::Whole(z) => z,
-        arithmetic::rounding::Rounded::Outside => 0,
-    }
+    arithmetic::rounding::round_even(x).unwrap_or(0)
 }
 
 // The count of a gate with mask byte m, whose region's count, with 1,000 added, is c.
@@ -70,7 +64,7 @@ fn fold_of(m: u8, c: u32, offset: i32) -> i32
     if m != 1 {
         return 0;
     }
-    ((c as i32) - ZERO_I32) - offset
+    ((c as i32) - (layout::ZERO as i32)) - offset
 }
 
 // The counts of all gates: labels are the first n words, counts lie in their table.
@@ -78,12 +72,10 @@ fn write_folds(w: &[u32], n: usize, k: usize, valid: &[u8], offset: i32, folds: 
     requires { Writes w.now n k valid.now offset (length folds.old) }
     ensures { folds.new ≡ tabulate n (λ g. gate_count offset (slice_index valid.now g) (unbias (slice_index w.now (counts_at n k + slice_index w.now g)))) }
 {
-    let mut g = 0;
-    while g < n {
+    for g in 0..n {
         let l = w[g] as usize;
         let c = w[n + (k + 1) + l];
         folds[g] = fold_of(valid[g], c, offset);
-        g += 1;
     }
 }
 
@@ -121,49 +113,32 @@ pub fn write_marks(w: &[u32], n: usize, k: usize, doubtful: &mut [u8])
     requires { WritesMarks w.now n k (length doubtful.old) }
     ensures { doubtful.new ≡ marks_by w.now n k }
 {
-    let mut g = 0;
-    while g < n {
+    for g in 0..n {
         let l = w[g] as usize;
         doubtful[g] = w[n + (k + 1) + (k + 1) + l] as u8;
-        g += 1;
     }
 }
 
-// What was found, written: counts, marks and pair, or nothing where question 9 refused. The answer's number.
+// What was found, written: counts, marks and pair, or nothing where question 9 refused.
 pub fn write(
-    f: network::find::Finding,
+    f: Finding,
     centred: u32,
     valid: &[u8],
     w: &[u32],
     folds: &mut [i32],
     doubtful: &mut [u8],
     pair: &mut [u32],
-) -> u32
+) -> Result<(), Refusal>
     requires { WritesFound f w.now valid.now (length folds.old) (length doubtful.old) (length pair.old) }
-    ensures { record { number = result; memory = lent folds.new doubtful.new pair.new }
+    ensures { record { number = answer_of (missed_by result); memory = lent folds.new doubtful.new pair.new }
         ≡ ending (outcome_by f w.now valid.now centred) (lent folds.old doubtful.old pair.old) }
 {
-    match f {
-        network::find::Finding::Regions(r) => {
-            let n = valid.len();
-            settle(w, n, r.regions, valid, centred, folds);
-            write_marks(w, n, r.regions, doubtful);
-            write_pair(pair, r.regions, r.merges);
-            0
-        }
-        network::find::Finding::Refused => 9,
-    }
-}
-
-// All floats are zero.
-fn clear_floats(d: &mut [f64])
-    ensures { d.new ≡ replicate (length d.old) (real (pos 0)) }
-{
-    let mut i = 0;
-    while i < d.len() {
-        d[i] = 0.0;
-        i += 1;
-    }
+    let found = f?;
+    let n = valid.len();
+    settle(w, n, found.regions, valid, centred, folds);
+    write_marks(w, n, found.regions, doubtful);
+    write_pair(pair, found.regions, found.merges);
+    Ok(())
 }
 
 // All words and all floats are zero.
@@ -171,32 +146,28 @@ pub fn clear(words: &mut [u32], floats: &mut [f64])
     ensures words_after { words.new ≡ replicate (length words.old) 0 }
     ensures floats_after { floats.new ≡ replicate (length floats.old) (real (pos 0)) }
 {
-    let n = words.len();
-    memory::words::fill(words, 0, n, 0);
-    clear_floats(floats);
+    words.fill(0);
+    floats.fill(0.0);
 }
 
-// A sweep that passed questions 1 to 8, its limits planned: find, write, clear. 0, or the refusal by question 9.
+// A sweep that passed questions 1 to 8, its limits planned: find, write, clear. Question 9 may still refuse it.
 pub fn solve(
-    o: network::options::Options,
-    p: arithmetic::intervals::Plan,
-    velocity: &[f32],
-    valid: &[u8],
+    s: Sweep,
+    p: Plan,
     folds: &mut [i32],
     doubtful: &mut [u8],
     pair: &mut [u32],
     words: &mut [u32],
     floats: &mut [f64],
-) -> u32
-    requires finds { Finds o p velocity.now valid.now words.old floats.old }
-    requires folds_len { (length folds.old ≡ length velocity.now) × (length doubtful.old ≡ length velocity.now) × (length pair.old ≡ 2) }
-    ensures { let s = sweep_by o velocity.now valid.now in
-        let m = memory_of folds.old doubtful.old pair.old words.old floats.old in
-        answer_by result folds.new doubtful.new pair.new words.new floats.new
-        ≡ ending (asked9 (unfolded s (limits_by o p))) (all_zero m) }
+) -> Result<(), Refusal>
+    requires finds { Finds s.options p s.velocity.now s.valid.now words.old floats.old }
+    requires long { (length folds.old ≡ length s.velocity.now) × (length doubtful.old ≡ length s.velocity.now) × (length pair.old ≡ 2) }
+    ensures { let m = memory_of folds.old doubtful.old pair.old words.old floats.old in
+        answer_by (answer_of (missed_by result)) folds.new doubtful.new pair.new words.new floats.new
+        ≡ ending (asked9 (unfolded (sweep_in s.entry) (limits_by s.entry.options p))) (all_zero m) }
 {
-    let f = network::find::find(o, p, velocity, valid, words, floats);
-    let r = write(f, o.centred, valid, words, folds, doubtful, pair);
+    let f = network::find::find(s.options, p, s.velocity, s.valid, words, floats);
+    let r = write(f, s.options.centred, s.valid, words, folds, doubtful, pair);
     clear(words, floats);
     r
 }

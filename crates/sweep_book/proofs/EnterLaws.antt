@@ -1,63 +1,44 @@
 -- Entries from the log of merges into a book, over plain values. Assumes nothing.
-use Prim.Native.Nat.{ℕ, ◌+◌, ◌*◌, ◌-◌, ◌/◌, ◌≤◌, ◌<◌, ◌^◌}
+use Prim.Native.Nat.{ℕ, ◌+◌, ◌*◌, ◌≤◌, ◌<◌, ◌^◌}
 use native.Mathlib.Omega.{arith}
 use mathlib.Core.Path.{◌≡◌, refl, sym, ap, ◌∙◌}
-use mathlib.Core.Bool.{true}
-use lib.Dec.{leb}
-use borrow.Author.Tests.{le-leb}
 use mathlib.Core.List.{List, [], ◌∷◌, ◌++◌, append-nil}
 use lib.IntN.{ℤ, pos}
-use lib.ListN.{length, get_or, set, drop}
+use lib.ListN.{length, get_or, drop}
 use mir.Syntax.{w32}
-use mir.Val.{SFits, to_z, of_z}
+use mir.Val.{to_z, of_z}
 use mir.ValLaws.{to_z_pos, to_z-of_z}
 use Rattle.lists.specs.Seq.{each, tabulate, upto}
 use Rattle.lists.specs.Inside.Seg.{put}
 use Rattle.lists.proofs.SeqLaws.{each_append, tab_length, tab_snoc}
-use Rattle.lists.proofs.SegLaws.{length-put, put_lent}
+use borrow.Rule.Slice.PartMut.{put_mid}
+use Rattle.lists.proofs.SegLaws.{length-put, put_lent, put_mid_lem}
 use Rattle.lists.proofs.PartLaws.{put_then}
 use Rattle.merge.specs.Inside.Steps.{unbias}
-use Rattle.merge.proofs.LogLaws.{six_set}
 use Rattle.sweep.proofs.SignedLaws.{unbias_fits}
 use Rattle.network.specs.Book.{Entry, numbers}
 use Rattle.network.specs.Inside.Log.{entry_in}
-use Rattle.sweep_book.specs.Book.{over, holds, book_holds}
+use Rattle.sweep_book.specs.Book.{over}
 use Rattle.sweep_book.specs.Inside.Entering.{numbers_at, Enters, entered_from}
-
--- ---- question 13
-
-pub holds_none_lem : (k long : ℕ) → k ≡ 0 → true ≡ book_holds k long
-unfolding book_holds holds
-holds_none_lem k long e = sym (le-leb (k - 1) (long / 6) (omega arith))
-
-pub holds_some : (k long : ℕ) → leb (k - 1) (long / 6) ≡ book_holds k long
-unfolding book_holds holds
-holds_some k long = refl
 
 -- ---- one entry
 
-pub low_fits : (x : ℕ) → x < 2 ^ 31 → SFits w32 (pos x)
-low_fits x h = record { sfits = omega arith }
+module _ (w : List ℕ) (at : ℕ) (low : (j : ℕ) → j < 6 → get_or w (at + j) 0 < 2 ^ 31) where
+  first_low : get_or w at 0 < 2 ^ 31
+  first_low = let z : at + 0 ≡ at = omega arith in omega (arith, low 0 (omega arith), ap (λ (i : ℕ). get_or w i 0) z)
 
-module _ (w : List ℕ) (from : ℕ) (low : (j : ℕ) → j < 6 → get_or w (from + j) 0 < 2 ^ 31) where
-  pub first_low : get_or w from 0 < 2 ^ 31
-  first_low = let z : from + 0 ≡ from = omega arith in omega (arith, low 0 (omega arith), ap (λ (i : ℕ). get_or w i 0) z)
-
-  pub enter_does : (gain : get_or w (from + 4) 0 ≤ 2000) (b : List ℤ) (at : ℕ) (g : ℤ) → g ≡ unbias (get_or w (from + 4) 0)
-      → set (set (set (set (set (set b at (to_z w32 (get_or w from 0))) (at + 1) (to_z w32 (get_or w (from + 1) 0))) (at + 2) (to_z w32 (get_or w (from + 2) 0))) (at + 3) (to_z w32 (get_or w (from + 3) 0))) (at + 4) (to_z w32 (of_z w32 g))) (at + 5) (to_z w32 (get_or w (from + 5) 0))
-      ≡ put b at (numbers_at w from)
+  -- the six numbers as the code has them, g being the folds
+  pub numbers_done : (gain : get_or w (at + 4) 0 ≤ 2000) (g : ℤ) → g ≡ unbias (get_or w (at + 4) 0)
+      → to_z w32 (get_or w at 0) ∷ to_z w32 (get_or w (at + 1) 0) ∷ to_z w32 (get_or w (at + 2) 0) ∷ to_z w32 (get_or w (at + 3) 0) ∷ to_z w32 (of_z w32 g) ∷ to_z w32 (get_or w (at + 5) 0) ∷ [] ≡ numbers_at w at
   unfolding numbers_at
-  enter_does gain b at g e =
-      six_set b at _ _ _ _ _ _
-      ∙ (λ i. put b at (
-      to_z_pos w32 (get_or w from 0) first_low i
-      ∷ to_z_pos w32 (get_or w (from + 1) 0) (low 1 (omega arith)) i
-      ∷ to_z_pos w32 (get_or w (from + 2) 0) (low 2 (omega arith)) i
-      ∷ to_z_pos w32 (get_or w (from + 3) 0) (low 3 (omega arith)) i
-      ∷ (ap (λ (z : ℤ). to_z w32 (of_z w32 z)) e ∙ to_z-of_z w32 (unbias (get_or w (from + 4) 0)) (unbias_fits (get_or w (from + 4) 0) gain)) i
-      ∷ to_z_pos w32 (get_or w (from + 5) 0) (low 5 (omega arith)) i
+  numbers_done gain g e =
+      λ i. to_z_pos w32 (get_or w at 0) first_low i
+      ∷ to_z_pos w32 (get_or w (at + 1) 0) (low 1 (omega arith)) i
+      ∷ to_z_pos w32 (get_or w (at + 2) 0) (low 2 (omega arith)) i
+      ∷ to_z_pos w32 (get_or w (at + 3) 0) (low 3 (omega arith)) i
+      ∷ (ap (λ (z : ℤ). to_z w32 (of_z w32 z)) e ∙ to_z-of_z w32 (unbias (get_or w (at + 4) 0)) (unbias_fits (get_or w (at + 4) 0) gain)) i
+      ∷ to_z_pos w32 (get_or w (at + 5) 0) (low 5 (omega arith)) i
       ∷ []
-      ))
 
 -- the six numbers of entry j of a log
 numbers_are : (w : List ℕ) (from j : ℕ) → numbers_at w (from + 6 * j) ≡ numbers (entry_in (λ i. get_or w (from + i) 0) j)
@@ -100,21 +81,26 @@ module _ (w : List ℕ) (from k : ℕ) (b₀ : List ℤ) (q : Enters w from k (l
     book_long = ap length I.book ∙ length-put b₀ 0 (at j)
 
     module _ (lt : j < k) where
-      pub enter_asks : ((from + 6 * j + 6 ≤ length w) × (6 * j + 6 ≤ length b)) × (((i : ℕ) → i < 6 → get_or w (from + 6 * j + i) 0 < 2 ^ 31) × (get_or w (from + 6 * j + 4) 0 ≤ 2000))
-      enter_asks = (
-        (omega (arith, q.room), omega (arith, q.holds, book_long)),
-        (λ i h. omega (arith, q.low (6 * j + i) (omega arith), word i), omega (arith, q.gains j lt, word 4)),
-      )
-        where
-          word : (i : ℕ) → get_or w (from + 6 * j + i) 0 ≡ get_or w (from + (6 * j + i)) 0
-          word i = let z : from + 6 * j + i ≡ from + (6 * j + i) = omega arith in ap (λ (x : ℕ). get_or w x 0) z
+      word : (i : ℕ) → get_or w (from + 6 * j + i) 0 ≡ get_or w (from + (6 * j + i)) 0
+      word i = let z : from + 6 * j + i ≡ from + (6 * j + i) = omega arith in ap (λ (x : ℕ). get_or w x 0) z
 
-      pub enter_turn : (c : List ℤ) → c ≡ put b (6 * j) (numbers_at w (from + 6 * j)) → Entering w from k b₀ c (j + 1)
-      enter_turn c e = record {
-        book = put_then b₀ b c 0 (6 * j) (at j) (numbers (entry_in (λ i. get_or w (from + i) 0) j)) I.book (e ∙ ap (put b (6 * j)) (numbers_are w from j)) (omega (arith, at_long j))
+      pub entry_low : (i : ℕ) → i < 6 → get_or w (from + 6 * j + i) 0 < 2 ^ 31
+      entry_low i h = omega (arith, q.low (6 * j + i) (omega arith), word i)
+
+      pub entry_gain : get_or w (from + 6 * j + 4) 0 ≤ 2000
+      entry_gain = omega (arith, q.gains j lt, word 4)
+
+      -- ys written over the six numbers from 6j on
+      pub enter_turn : (ys : List ℤ) (m : ℕ) → ys ≡ numbers_at w (from + 6 * j) → m ≡ 6 → Entering w from k b₀ (put_mid (6 * j) m b ys) (j + 1)
+      enter_turn ys m e f = record {
+        book = put_then b₀ b (put_mid (6 * j) m b ys) 0 (6 * j) (at j) (numbers (entry_in (λ i. get_or w (from + i) 0) j)) I.book
+            (put_mid_lem b (6 * j) m ys (ap length e ∙ six (from + 6 * j) ∙ sym f) (omega (arith, q.holds, book_long, f)) ∙ ap (put b (6 * j)) (e ∙ numbers_are w from j)) (omega (arith, at_long j))
             ∙ ap (put b₀ 0) (sym (ap (each numbers) (tab_snoc (entry_in (λ i. get_or w (from + i) 0)) j) ∙ one_more (tabulate j (entry_in (λ i. get_or w (from + i) 0))) (entry_in (λ i. get_or w (from + i) 0) j)));
         most = omega arith;
       }
+        where
+          six : (at : ℕ) → length (numbers_at w at) ≡ 6
+          six at = unfold numbers_at in refl
 
     pub enter_end : k ≤ j → b ≡ entered_from w from k b₀
     unfolding over

@@ -15,10 +15,9 @@ use Rattle.arithmetic.specs.declared.intervals.Plan.{Plan}
 use Rattle.labels.specs.Label.{Found}
 use Rattle.network.specs.Network.{State, merges, merges_in_range}
 use Rattle.network.specs.Book.{Entry, book}
-use Rattle.network.specs.Inside.Find.{shape_of, limits_by, regions_by, network_for, Finds, Leaves}
+use Rattle.network.specs.Inside.Find.{Finding, shape_of, limits_by, regions_by, network_for, Finds, Leaves}
 use Rattle.network.specs.declared.options.Options.{Options}
 use Rattle.network.specs.declared.find.Run.{Run}
-use Rattle.network.specs.declared.find.Finding.{Finding}
 use Rattle.network.proofs.BookLaws.{merges_less}
 use Rattle.sweep.specs.Sweep.{Sweep, regions_of, network_of, early, unfolded_by, unfolded}
 use Rattle.sweep.specs.Questions.{Question, ask, first_no, answered, asked9}

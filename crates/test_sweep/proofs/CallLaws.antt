@@ -78,8 +78,9 @@ module _ (rays gates : ℕ) (word : List ℕ) (m : Slices) where
   test_refused r h = sym (test_ends ∙ ap test_end h)
 
   -- a state of another length than one word
-  pub test_other : (length word ≡ 1 → ⊥) → (r : ℕ) → r ≡ answer_of (asked_test rays gates m false) → test_answer_by r word m ≡ call_test rays gates word m
-  test_other h r e = test_refused r (ap (asked_test rays gates m) (ne_eqb (length word) 1 h) ∙ some_missed rays gates m false r e (λ z. true≢false (sym (lengths rays gates m false (none_missed rays gates m false r e z)).2)))
+  pub test_other : (length word ≡ 1 → ⊥) → (o : Option ℕ) → o ≡ asked_test rays gates m false → test_answer_by (answer_of o) word m ≡ call_test rays gates word m
+  test_other h none e = absurd (true≢false (sym (lengths rays gates m false (sym e)).2))
+  test_other h (some k) e = test_refused k (ap (asked_test rays gates m) (ne_eqb (length word) 1 h) ∙ sym e)
 
 -- with one word it is the library function's call
 pub host_same : HostSame
@@ -96,14 +97,21 @@ one_read [] e = absurd (omega arith)
 one_read (x ∷ []) e = refl
 one_read (x ∷ y ∷ l) e = absurd (omega arith)
 
--- the library function's call on the word, and its state written there
-pub test_done : (rays gates : ℕ) (word : List ℕ) (m : Slices) → length word ≡ 1 → (a : FillAnswer) → a ≡ call_fill rays gates (get_or word 0 0) m
-    → test_answer_by a.number (set word 0 a.state) a.slices ≡ call_test rays gates word m
-test_done rays gates word m h a e =
-    ap (λ (w : List ℕ). test_answer_by a.number w a.slices) (one_set word a.state h)
-    ∙ ap (λ (x : FillAnswer). test_answer_by x.number (x.state ∷ []) x.slices) e
-    ∙ sym (host_same rays gates (get_or word 0 0) m)
-    ∙ ap (λ (w : List ℕ). call_test rays gates w m) (one_read word h)
+module _ (rays gates : ℕ) (word : List ℕ) (m : Slices) (h : length word ≡ 1) where
+  -- the library function's call on the word, and its state in place of it
+  word_done : (a : FillAnswer) → a ≡ call_fill rays gates (get_or word 0 0) m → test_answer_by a.number (a.state ∷ []) a.slices ≡ call_test rays gates word m
+  word_done a e =
+      ap (λ (x : FillAnswer). test_answer_by x.number (x.state ∷ []) x.slices) e
+      ∙ sym (host_same rays gates (get_or word 0 0) m)
+      ∙ ap (λ (w : List ℕ). call_test rays gates w m) (one_read word h)
+
+  -- the state written there
+  pub test_done : (a : FillAnswer) → a ≡ call_fill rays gates (get_or word 0 0) m → test_answer_by a.number (set word 0 a.state) a.slices ≡ call_test rays gates word m
+  test_done a e = ap (λ (w : List ℕ). test_answer_by a.number w a.slices) (one_set word a.state h) ∙ word_done a e
+
+  -- a refusal, which leaves the word
+  pub test_kept : (k : ℕ) (s : Slices) → fill_answer_by k (get_or word 0 0) s ≡ call_fill rays gates (get_or word 0 0) m → test_answer_by k word s ≡ call_test rays gates word m
+  test_kept k s e = ap (λ (w : List ℕ). test_answer_by k w s) (sym (one_read word h)) ∙ word_done (fill_answer_by k (get_or word 0 0) s) e
 
 -- ---- the other statements on one call
 

@@ -1,15 +1,10 @@
 -- The state after a gate, its twelve bits, and k − 2,048 as an i32. Assumes nothing.
-use Rattle.std.proofs.Common.{◌≡◌, ℕ, suc, ◌+◌, ◌-◌, ◌*◌, ◌%◌, ◌^◌, ◌<◌, ◌≤◌, Bool, true, false, cond, not, T, ltb, ℤ, pos, negsuc, ◌-ℤ◌, sym, refl, ap, ◌∙◌, subst, mod-lt, arith, nltb→le, w32, SFits, to_z, of_z, lt-ltb, le-leb}
-use native.Mathlib.Nat.{mod-add-mod}
+use Rattle.std.proofs.Common.{◌≡◌, ℕ, suc, ◌+◌, ◌-◌, ◌<◌, ◌≤◌, Bool, true, false, cond, not, T, ltb, ℤ, pos, negsuc, ◌-ℤ◌, sym, refl, ap, ◌∙◌, subst, mod-lt, arith, nltb→le, w32, SFits, to_z, of_z, lt-ltb, le-leb}
 use lib.Signed.{mag}
 use lib.Ieee.{binary32, in_float}
 use mir.ValLaws.{to_z_pos, to_z-of_z}
 use Rattle.arithmetic.proofs.RangeLaws.{T_of}
 use Rattle.test_sweep.specs.Generator.{next_state, state_after, twelve_bits}
-
-pub next_is : (state p r : ℕ) → p ≡ state * 1664525 % 2 ^ 32 → r ≡ (p + 1013904223) % 2 ^ 32 → r ≡ next_state state
-unfolding next_state
-next_is state p r e h = h ∙ ap (λ (x : ℕ). (x + 1013904223) % 2 ^ 32) e ∙ mod-add-mod (state * 1664525) (2 ^ 32) 1013904223
 
 -- the state one gate on
 pub after_none : (state : ℕ) → state ≡ state_after 0 state

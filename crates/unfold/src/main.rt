@@ -1,16 +1,7 @@
-// Unfolds the sweep of a file on standard input: one line a ray, counts parted by one space (printout: `print_file`).
-// No file of at most 128 gates has more than 2,178 bytes: a longer input prints nothing, and no more of it is read (`longer_prints_nothing`).
+// Unfolds the sweep of a file on standard input: one line a ray, counts parted by one space (printout: `print_input`, `print_file`).
 
 #![tactic(auto)]
 
 fn main() {
-    let mut file = [0u8; 2179];
-    let got = io::read_full(0, &mut file);
-    if got > 2178 {
-        return;
-    }
-    let mut text = printout::arrays::text();
-    let p = printout::unfold::print_file(&file[..got], &mut text);
-    let bytes = p.bytes;
-    io::write_all(1, &text[..bytes]);
+    printout::input::print_input(printout::unfold::print_file);
 }

@@ -3,7 +3,7 @@ use Prim.Native.Nat.{ℕ, ◌*◌, ◌≤◌, ◌<◌}
 use mathlib.Core.Path.{◌≡◌, refl, sym, ap, ◌∙◌}
 use mathlib.Core.Bool.{Bool, true, false, ◌&&◌}
 use mathlib.Core.List.{List, [], ◌∷◌, ◌++◌}
-use mathlib.Core.Option.{none}
+use mathlib.Core.Option.{none, some}
 use lib.Dec.{eqb, leb, ltb}
 use lib.ListN.{length}
 use borrow.Author.Tests.{eqb-true, leb-true, ltb-true}
@@ -13,7 +13,7 @@ use Rattle.memory.specs.Size.{gates_of_largest}
 use Rattle.sweep.specs.Questions.{Question, ask, first_no, size_in_range, lengths_fit}
 use Rattle.sweep.specs.Entry.{answer_of}
 use Rattle.sweep.specs.Velocity.{Counted, after_lengths}
-use Rattle.sweep.proofs.QuestionLaws.{on, no, goes_on, first_no_lem, zero_none, all_yes}
+use Rattle.sweep.proofs.QuestionLaws.{on, no, goes_on, stops, zero_none, all_yes}
 use Rattle.sweep.proofs.PassedLaws.{size_product, long_are, two_are}
 use Rattle.window.specs.declared.questions.Words.{Words}
 use Rattle.window.specs.declared.questions.Lent.{Lent}
@@ -22,30 +22,30 @@ use Rattle.window.specs.Window.{gates_of, sizes_in_range, arrival_long, window_f
 module _ (u : Counted) (w : Words) (l : Lent) where
   -- ---- questions 1 and 2, put one by one
 
-  pub size_no : size_in_range u.rays u.gates ≡ false → 1 ≡ answer_of (first_no (size_and_lengths u w l))
+  pub size_no : size_in_range u.rays u.gates ≡ false → some 1 ≡ first_no (size_and_lengths u w l)
   unfolding sizes_in_range
-  size_no e = sym (ap answer_of (no _ _ (rw e refl)))
+  size_no e = sym (no _ _ (rw e refl))
 
   module _ (y : size_in_range u.rays u.gates ≡ true) where
-    pub window_size_no : size_in_range w.rays w.gates ≡ false → 1 ≡ answer_of (first_no (size_and_lengths u w l))
+    pub window_size_no : size_in_range w.rays w.gates ≡ false → some 1 ≡ first_no (size_and_lengths u w l)
     unfolding sizes_in_range
-    window_size_no e = sym (ap answer_of (no _ _ (rw (y, e) refl)))
+    window_size_no e = sym (no _ _ (rw (y, e) refl))
 
     module _ (z : size_in_range w.rays w.gates ≡ true) where
       sizes_yes : first_no (size_and_lengths u w l) ≡ first_no (ask 2 (arrival_long u && window_fits w l) ∷ [])
       unfolding sizes_in_range
       sizes_yes = on _ _ (rw (y, z) refl)
 
-      pub long_no : arrival_long u ≡ false → 2 ≡ answer_of (first_no (size_and_lengths u w l))
-      long_no e = sym (ap answer_of (sizes_yes ∙ no _ _ (rw e refl)))
+      pub long_no : arrival_long u ≡ false → some 2 ≡ first_no (size_and_lengths u w l)
+      long_no e = sym (sizes_yes ∙ no _ _ (rw e refl))
 
       module _ (a : arrival_long u ≡ true) where
-        pub fits_no : window_fits w l ≡ false → 2 ≡ answer_of (first_no (size_and_lengths u w l))
-        fits_no e = sym (ap answer_of (sizes_yes ∙ no _ _ (rw (a, e) refl)))
+        pub fits_no : window_fits w l ≡ false → some 2 ≡ first_no (size_and_lengths u w l)
+        fits_no e = sym (sizes_yes ∙ no _ _ (rw (a, e) refl))
 
-        pub both_yes : window_fits w l ≡ true → 0 ≡ answer_of (first_no (size_and_lengths u w l))
+        pub both_yes : window_fits w l ≡ true → none ≡ first_no (size_and_lengths u w l)
         unfolding first_no
-        both_yes e = sym (ap answer_of (sizes_yes ∙ on (ask 2 (arrival_long u && window_fits w l)) [] (rw (a, e) refl)))
+        both_yes e = sym (sizes_yes ∙ on (ask 2 (arrival_long u && window_fits w l)) [] (rw (a, e) refl))
 
   -- the two parts of question 2 as the code has them, n and m being its products
   pub arrival_is : (r own : Bool) (n : ℕ) → r ≡ lengths_fit n u.vel u.mask own → own ≡ (eqb (length u.counts) n && eqb (length u.labels) n) → n ≡ u.rays * u.gates → r ≡ arrival_long u
@@ -65,42 +65,34 @@ module _ (u : Counted) (w : Words) (l : Lent) where
   later = after_lengths u ++ (ask 14 (same_size u w) ∷ [])
 
   -- a no to question 1 or 2
-  pub missed_early : (k : ℕ) → k ≡ answer_of (first_no (size_and_lengths u w l)) → (k ≡ 0 → ⊥) → k ≡ answer_of (asked_by u w l)
+  pub missed_early : (k : ℕ) → first_no (size_and_lengths u w l) ≡ some k → asked_by u w l ≡ some k
   unfolding asked_by
-  missed_early k e h = sym (ap answer_of (first_no_lem (size_and_lengths u w l) later k e h))
+  missed_early = stops (size_and_lengths u w l) later
 
   -- no question has the number 0
-  early_none : (k : ℕ) → k ≡ answer_of (first_no (size_and_lengths u w l)) → k ≡ 0 → first_no (size_and_lengths u w l) ≡ none
-  unfolding all
-  early_none k e h = zero_none _ refl (sym e ∙ h)
-
-  after_none : (k : ℕ) → k ≡ answer_of (first_no (after_lengths u)) → k ≡ 0 → first_no (after_lengths u) ≡ none
-  unfolding all
-  after_none k e h = zero_none _ refl (sym e ∙ h)
-
   pub asked_none : (k : ℕ) → k ≡ answer_of (asked_by u w l) → k ≡ 0 → asked_by u w l ≡ none
   unfolding asked_by all
   asked_none k e h = zero_none _ refl (sym e ∙ h)
 
-  module _ (k : ℕ) (e : k ≡ answer_of (first_no (size_and_lengths u w l))) (h : k ≡ 0) where
+  module _ (e : first_no (size_and_lengths u w l) ≡ none) where
     early_yes : asked_by u w l ≡ first_no later
     unfolding asked_by
-    early_yes = goes_on (size_and_lengths u w l) later (early_none k e h)
+    early_yes = goes_on (size_and_lengths u w l) later e
 
     -- a no to question 3, 5, 7 or 10
-    pub missed_after : (j : ℕ) → j ≡ answer_of (first_no (after_lengths u)) → (j ≡ 0 → ⊥) → j ≡ answer_of (asked_by u w l)
-    missed_after j f g = sym (ap answer_of (early_yes ∙ first_no_lem (after_lengths u) (ask 14 (same_size u w) ∷ []) j f g))
+    pub missed_after : (k : ℕ) → first_no (after_lengths u) ≡ some k → asked_by u w l ≡ some k
+    missed_after k f = early_yes ∙ stops (after_lengths u) (ask 14 (same_size u w) ∷ []) k f
 
-    module _ (j : ℕ) (f : j ≡ answer_of (first_no (after_lengths u))) (g : j ≡ 0) where
+    module _ (f : first_no (after_lengths u) ≡ none) where
       after_yes : asked_by u w l ≡ first_no (ask 14 (same_size u w) ∷ [])
-      after_yes = early_yes ∙ goes_on (after_lengths u) (ask 14 (same_size u w) ∷ []) (after_none j f g)
+      after_yes = early_yes ∙ goes_on (after_lengths u) (ask 14 (same_size u w) ∷ []) f
 
-      pub missed_14 : same_size u w ≡ false → 14 ≡ answer_of (asked_by u w l)
-      missed_14 q = sym (ap answer_of (after_yes ∙ no _ _ q))
+      pub missed_14 : same_size u w ≡ false → some 14 ≡ asked_by u w l
+      missed_14 q = sym (after_yes ∙ no _ _ q)
 
-      pub missed_none : same_size u w ≡ true → 0 ≡ answer_of (asked_by u w l)
+      pub missed_none : same_size u w ≡ true → none ≡ asked_by u w l
       unfolding first_no
-      missed_none q = sym (ap answer_of (after_yes ∙ on (ask 14 (same_size u w)) [] q))
+      missed_none q = sym (after_yes ∙ on (ask 14 (same_size u w)) [] q)
 
   -- ---- what a yes to questions 1 and 2 gives
 
@@ -154,7 +146,3 @@ module _ (u : Counted) (w : Words) (l : Lent) where
         held = leb-true w.held 8 fit.5;
         next = ltb-true w.next 8 fit.6;
       }
-
-  -- the same from the code's number
-  pub sized_by : (k : ℕ) → k ≡ answer_of (first_no (size_and_lengths u w l)) → k ≡ 0 → Sized
-  sized_by k e h = sized (early_none k e h)

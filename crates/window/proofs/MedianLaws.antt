@@ -3,18 +3,18 @@ use Prim.Native.Nat.{ℕ, zero, suc, ◌+◌, ◌-◌, ◌*◌, ◌/◌, ◌%◌
 use native.Mathlib.Nat.{mod-lt, div-add-mod', mul-le-mul, suc-mul}
 use native.Mathlib.Omega.{arith}
 use mathlib.Core.Path.{◌≡◌, refl, sym, ap, ◌∙◌}
-use mathlib.Core.Bool.{Bool, true, false, cond}
+use mathlib.Core.Bool.{Bool, true, false, cond, not}
 use mathlib.Core.List.{List, [], ◌∷◌}
 use lib.Dec.{eqb}
 use lib.ListN.{length, get_or}
-use lib.IntN.{pos}
-use lib.Ieee.{Float, nan, inf, fin, lt}
+use lib.Ieee.{Float, nan, inf, fin, lt, of_bits, of_int, binary64}
+use Rattle.std.specs.Prelude.{Option, Some, None, is_some, unwrap_or}
 use Rattle.arithmetic.specs.Rounding.{real}
 use Rattle.window.specs.declared.median.Four.{Four}
-use Rattle.window.specs.declared.median.Drawn.{Drawn}
-use Rattle.window.specs.Median.{lesser, greater, infinity, place, placed, middle, median, mark}
+use Rattle.arithmetic.specs.Intervals.{lesser, greater}
+use Rattle.window.specs.Median.{infinity, place, placed, middle, median, mark}
 use Rattle.window.specs.Window.{after, before, winds_from}
-use Rattle.window.specs.Inside.Drawing.{four_of, floor_of, drawn_of}
+use Rattle.window.specs.Inside.Drawing.{four_of, floor_of, middle_of, drawn_of}
 
 -- ---- the four least
 
@@ -154,13 +154,11 @@ unfolding mark
 mark_some [] h = absurd (omega arith)
 mark_some (v ∷ vs) h = refl
 
-pub middle_none : (l : List Float) → 0 ≡ length l → ◌≡◌ {A = Drawn} (record { wind = real (pos 0); mark = 1 }) (record { wind = middle l; mark = mark l })
-unfolding middle mark
-middle_none [] h = refl
-middle_none (v ∷ vs) h = absurd (omega arith)
+middle_some : (l : List Float) → 0 < length l → Some (middle l) ≡ middle_of l
+middle_some [] h = absurd (omega arith)
+middle_some (v ∷ vs) h = refl
 
-pub middle_is : (s : Four) (k : ℕ) → (k ≡ 0 → ⊥) → k ≤ 8 → (l : List Float) → s ≡ four_of l → k ≡ length l
-    → ◌≡◌ {A = Drawn} (record { wind = get_or (s.a ∷ s.b ∷ s.c ∷ s.d ∷ []) ((k - 1) / 2) nan; mark = 0 }) (record { wind = middle l; mark = mark l })
+pub middle_is : (s : Four) (k : ℕ) → (k ≡ 0 → ⊥) → k ≤ 8 → (l : List Float) → s ≡ four_of l → k ≡ length l → Some (get_or (s.a ∷ s.b ∷ s.c ∷ s.d ∷ []) ((k - 1) / 2) nan) ≡ middle_of l
 middle_is s k z m l e h =
     let some : 0 < length l = omega arith in
     let j = (k - 1) / 2 in
@@ -169,23 +167,36 @@ middle_is s k z m l e h =
     ∙ get_d_any l j infinity nan (omega (arith, (half_is k (omega arith)).0))
     ∙ ap (λ (i : ℕ). get_or l ((i - 1) / 2) nan) h
     ∙ sym (middle_at l some) in
-    let n = sym (mark_some l some) in
-    λ i. record { wind = w i; mark = n i }
-
-placed_mark : (y : Float) (ys vs : List Float) → mark (placed (y ∷ ys) vs) ≡ 0
-unfolding mark placed place
-placed_mark y ys [] = refl
-placed_mark y ys (v ∷ vs) = placed_mark (lesser v y) (place (greater v y) ys) vs
-
-mark_placed : (vs : List Float) → mark (placed [] vs) ≡ mark vs
-unfolding mark placed place
-mark_placed [] = refl
-mark_placed (v ∷ vs) = placed_mark (lesser v infinity) [] vs
+    ap Some w ∙ middle_some l some
 
 length_place : (x : Float) (l : List Float) → length (place x l) ≡ suc (length l)
 unfolding place
 length_place x [] = refl
 length_place x (y ∷ l) = ap suc (length_place (greater x y) l)
+
+length_placed : (l vs : List Float) → length l ≤ length (placed l vs)
+unfolding placed
+length_placed l [] = omega arith
+length_placed l (v ∷ vs) = omega (arith, length_placed (place v l) vs, length_place v l)
+
+-- the middle one of the winds that a gate shows, put in their places
+middle_placed : (vs : List Float) → middle_of (placed [] vs) ≡ drawn_of vs
+unfolding placed median place
+middle_placed [] = refl
+middle_placed (v ∷ vs) = sym (middle_some (placed (lesser v infinity ∷ []) vs) (omega (arith, length_placed (lesser v infinity ∷ []) vs)))
+
+-- what the picture and its marks have of it
+pub drawn_median : (vs : List Float) → unwrap_or (drawn_of vs) (of_bits binary64 0) ≡ median vs
+unfolding median placed middle real of_bits of_int
+drawn_median [] = refl
+drawn_median (v ∷ vs) = refl
+
+pub drawn_mark : (vs : List Float) (none : Bool) → is_some (drawn_of vs) ≡ not none → cond none 1 0 ≡ mark vs
+unfolding mark
+drawn_mark [] true e = refl
+drawn_mark [] false e = absurd (cc)
+drawn_mark (v ∷ vs) true e = absurd (cc)
+drawn_mark (v ∷ vs) false e = refl
 
 -- ---- places
 
@@ -216,9 +227,6 @@ pub record Sofar (s : Four) (k left : ℕ) (rest whole : List Float) : Type 0 wh
   pub count : k ≡ length list
   pub few : k + left ≤ 8
   pub same : placed list rest ≡ placed [] whole
-
-pub sofar_begin : (s : Four) (left : ℕ) (whole : List Float) → s ≡ four_of [] → left ≤ 8 → Sofar s 0 left whole whole
-sofar_begin s left whole e h = record { list = []; four = e; count = refl; few = omega arith; same = refl }
 
 -- the wind of a place as it is read, placed: t are the four least with it
 module _ (s t : Four) (k left b : ℕ) (v : Float) (rest now whole : List Float) (f : Sofar s k left now whole) (h : 0 < left) (e : now ≡ before b v rest)
@@ -254,14 +262,6 @@ module _ (s t : Four) (k left b : ℕ) (v : Float) (rest now whole : List Float)
       go true y = sofar_shown y
       go false y = sofar_hidden y
 
--- the count gains at most one
-pub one_most : (b : ℕ) → cond (eqb b 1) 1 0 ≤ 1
-one_most b = go (eqb b 1)
-  where
-    go : (c : Bool) → cond c 1 0 ≤ 1
-    go true = omega arith
-    go false = omega arith
-
 -- one turn, x being the wind as it was read, c what the count gains and q the place after p
 pub turn : (ws : List Float) (bs : List ℕ) (n g : ℕ) (s : Four) (k p left : ℕ) (whole : List Float) → Sofar s k left (winds_from ws bs n g p left) whole → 0 < left
     → (x y : Float) (t : Four) (c q : ℕ) → y ≡ floor_of (get_or bs (p * n + g) 0) → x ≡ greater (get_or ws (p * n + g) nan) y → ((l : List Float) → s ≡ four_of l → t ≡ four_of (place x l))
@@ -275,14 +275,12 @@ turn ws bs n g s k p left whole f h x y t c q ey ex r ec eq =
     (λ l d. r l d ∙ ap (λ (z : Float). four_of (place z l)) read))
 
 -- nothing is left
-pub sofar_end : (s : Four) (k left : ℕ) (r : Drawn) (rest whole : List Float) → Sofar s k left rest whole → rest ≡ []
-    → ((l : List Float) → s ≡ four_of l → k ≡ length l → r ≡ record { wind = middle l; mark = mark l }) → r ≡ drawn_of whole
-unfolding placed median
+pub sofar_end : (s : Four) (k left : ℕ) (r : Option Float) (rest whole : List Float) → Sofar s k left rest whole → rest ≡ []
+    → ((l : List Float) → s ≡ four_of l → k ≡ length l → r ≡ middle_of l) → r ≡ drawn_of whole
+unfolding placed
 sofar_end s k left r rest whole f e h =
     let same : f.list ≡ placed [] whole = sym (ap (placed f.list) e) ∙ f.same in
-    h f.list f.four f.count
-    ∙ ap (λ (l : List Float). record { wind = middle l; mark = mark l }) same
-    ∙ ap (λ (m : ℕ). record { wind = median whole; mark = m }) (mark_placed whole)
+    h f.list f.four f.count ∙ ap middle_of same ∙ middle_placed whole
 
 pub winds_none : (ws : List Float) (bs : List ℕ) (n g p k : ℕ) → k ≡ 0 → winds_from ws bs n g p k ≡ []
 unfolding winds_from

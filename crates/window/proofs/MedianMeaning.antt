@@ -16,7 +16,8 @@ use Rattle.lists.proofs.SeqLaws.{keep_every, keep_most}
 use Rattle.lists.proofs.AllLaws.{all_weaker, all_index}
 use Rattle.arithmetic.proofs.Signed.{plus, minus, le_values}
 use Rattle.labels.proofs.FloatOrder.{lt_le, lt_not_le, of_T}
-use Rattle.window.specs.Median.{lesser, greater, infinity, place, placed, median, Number, count, Middle}
+use Rattle.arithmetic.specs.Intervals.{lesser, greater}
+use Rattle.window.specs.Median.{infinity, place, placed, median, Number, count, Middle}
 use Rattle.window.proofs.MedianLaws.{middle_at, half_is}
 
 -- ---- the order of numbers

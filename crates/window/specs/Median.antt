@@ -4,14 +4,7 @@ use Rattle.std.specs.Float.{nan, inf}
 use Rattle.std.specs.Float.Ieee.{lt, is_nan}
 use Rattle.lists.specs.Seq.{keep, Member}
 use Rattle.arithmetic.specs.Rounding.{real}
-
--- the lesser of two
-unfoldable pub lesser : Float → Float → Float
-lesser x y = cond (lt x y) x y
-
--- the other one
-unfoldable pub greater : Float → Float → Float
-greater x y = cond (lt x y) y x
+use Rattle.arithmetic.specs.Intervals.{lesser, greater}
 
 -- above every number
 abbrev pub infinity : Float

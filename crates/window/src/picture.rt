@@ -3,63 +3,38 @@ ghost use Rattle.std.specs.Prelude.{◌≡◌, cond, ◌+◌, ◌≤◌, length,
 ghost use Rattle.std.specs.Float.{nan};
 ghost use Rattle.lists.specs.Seq.{tabulate};
 ghost use Rattle.lists.specs.Inside.Seg.{put};
-ghost use Rattle.sweep.specs.Velocity.{shows_wind, unfolded_at};
+ghost use Rattle.sweep.specs.Velocity.{counted_in, shows_wind, unfolded_at};
 ghost use Rattle.window.specs.Median.{median, mark};
 ghost use Rattle.window.specs.Window.{winds_from};
 ghost use Rattle.window.specs.Inside.Drawing.{Held};
 
-// A gate's byte: 1 where it shows a wind, else 0.
-fn byte_of(valid: u8, label: u32) -> u8
-    ensures { result ≡ cond (shows_wind valid label) 1 0 }
-{
-    if sweep::questions::shows_wind(valid, label) {
-        return 1;
-    }
-    0
-}
+use sweep::input::Counted;
 
-// The bytes of an arrival, written from `base` on.
+// The bytes of an arrival, written from `base` on: 1 where a gate shows a wind, else 0.
 pub fn write_shown(base: usize, valid: &[u8], labels: &[u32], shown: &mut [u8])
     requires { (length labels.now ≡ length valid.now) × (base + length valid.now ≤ length shown.old) }
     ensures { shown.new
         ≡ put shown.old base
         (tabulate (length valid.now) (λ g. cond (shows_wind (get_or valid.now g 0) (get_or labels.now g 0)) 1 0)) }
 {
-    let mut g = 0;
-    while g < valid.len() {
-        shown[base + g] = byte_of(valid[g], labels[g]);
-        g += 1;
+    for g in 0..valid.len() {
+        shown[base + g] = u8::from(sweep::questions::shows_wind(valid[g], labels[g]));
     }
 }
 
 // Its winds.
-pub fn write_winds(
-    base: usize,
-    nyquist: f32,
-    velocity: &[f32],
-    valid: &[u8],
-    folds: &[i32],
-    labels: &[u32],
-    winds: &mut [f64],
-)
-    requires { (length valid.now ≡ length velocity.now) × (length folds.now ≡ length velocity.now)
-        × (length labels.now ≡ length velocity.now) × (base + length velocity.now ≤ length winds.old) }
-    ensures { winds.new
-        ≡ put winds.old base (tabulate (length velocity.now)
-        (λ g. unfolded_at nyquist (get_or velocity.now g nan) (get_or valid.now g 0) (get_or folds.now g (pos 0)) (get_or labels.now g 0))) }
+pub fn write_winds(base: usize, u: Counted, winds: &mut [f64])
+    requires { let n = length u.velocity.now in
+        (length u.valid.now ≡ n) × (length u.folds.now ≡ n) × (length u.labels.now ≡ n) × (base + n ≤ length winds.old) }
+    ensures { let v = counted_in u.entry in
+        winds.new ≡ put winds.old base (tabulate (length v.vel)
+        (λ g. unfolded_at v.nyquist (get_or v.vel g nan) (get_or v.mask g 0) (get_or v.counts g (pos 0)) (get_or v.labels g 0))) }
 {
-    let end = base + velocity.len();
-    sweep::velocity::unfold_gates(
-        nyquist,
-        velocity,
-        valid,
-        folds,
-        labels,
-        &mut winds[base..end],
-    );
+    let end = base + u.velocity.len();
+    sweep::velocity::unfold_gates(u, &mut winds[base..end]);
 }
 
-// The picture and its marks.
+// The picture and its marks: where a gate shows no wind, 0 and mark 1.
 pub fn draw(
     winds: &[f64],
     shown: &[u8],
@@ -73,11 +48,9 @@ pub fn draw(
     ensures { (picture.new ≡ tabulate n (λ g. median (winds_from winds.now shown.now n g first held)))
         × (marks.new ≡ tabulate n (λ g. mark (winds_from winds.now shown.now n g first held))) }
 {
-    let mut g = 0;
-    while g < n {
-        let s = crate::median::drawn_at(winds, shown, n, g, first, held);
-        picture[g] = s.wind;
-        marks[g] = s.mark;
-        g += 1;
+    for g in 0..n {
+        let wind = crate::median::drawn_at(winds, shown, n, g, first, held);
+        picture[g] = wind.unwrap_or(0.0);
+        marks[g] = u8::from(wind.is_none());
     }
 }

@@ -1,9 +1,8 @@
 -- What the contracts on limits ask, and what is known of limits.
-use Rattle.std.specs.Prelude.{ℕ, suc, ◌<◌, ◌≤◌, false, T, List, ◌++◌, length, drop, pos, negsuc, slice_index_or, Float}
+use Rattle.std.specs.Prelude.{ℕ, suc, ◌<◌, ◌≤◌, false, T, List, ◌++◌, length, drop, pos, negsuc, slice_index_or, Float, Option, Some, None}
 use Rattle.std.specs.Float.{nan, fin, binary64}
 use Rattle.std.specs.Float.Ieee.{le, fits}
 use Rattle.arithmetic.specs.declared.intervals.Extremes.{Extremes}
-use Rattle.arithmetic.specs.declared.intervals.Extremes.TheVariants.{Both, NoneValid}
 use Rattle.arithmetic.specs.Intervals.{velocity_in_range}
 
 -- questions 5 and 6, of Nyquist and splits
@@ -14,14 +13,14 @@ pub record Asked (nyq : Float) (splits : ℕ) : Type 0 where
   pub few : splits ≤ 9999
 
 -- question 7, of the least and the greatest
-abbrev pub ExtremesInRange : Extremes → Type 0
-ExtremesInRange NoneValid = Unit {0}
-ExtremesInRange (Both lo hi) = T (velocity_in_range lo) × T (velocity_in_range hi)
+abbrev pub ExtremesInRange : Option Extremes → Type 0
+ExtremesInRange None = Unit {0}
+ExtremesInRange (Some e) = T (velocity_in_range e.least) × T (velocity_in_range e.greatest)
 
 -- what an f64 can hold
-abbrev pub Held : Extremes → Type 0
-Held NoneValid = Unit {0}
-Held (Both lo hi) = T (fits binary64 lo) × T (fits binary64 hi)
+abbrev pub Held : Option Extremes → Type 0
+Held None = Unit {0}
+Held (Some e) = T (fits binary64 e.least) × T (fits binary64 e.greatest)
 
 -- limits that never fall
 abbrev pub Rising : List Float → Type 0

@@ -1,14 +1,13 @@
 -- Both channels in one work memory. A run leaves labels, sizes, counts, marks and log before its tables of edges and nodes, which begin at word 13n
 -- (Layout, of the crate memory). Vertical works behind that place; so it leaves what horizontal left as it is.
-use Rattle.std.specs.Prelude.{ℕ, ◌-◌, ◌*◌, ◌≤◌, ◌≡◌, Bool, true, false, List, [], pos, length, take, drop, replicate, Float}
+use Rattle.std.specs.Prelude.{ℕ, ◌-◌, ◌*◌, ◌≤◌, ◌≡◌, List, [], pos, length, take, drop, replicate, Float}
 use Rattle.arithmetic.specs.Rounding.{real}
 use Rattle.arithmetic.specs.declared.intervals.Plan.{Plan}
-use Rattle.network.specs.Inside.Find.{regions_by, network_for, Finds, Leaves}
+use Rattle.network.specs.Inside.Find.{Finding, regions_by, network_for, Finds, Leaves}
 use Rattle.network.specs.declared.options.Options.{Options}
-use Rattle.network.specs.declared.find.Finding.{Finding}
-use Rattle.network.specs.declared.find.Finding.TheVariants.{Regions, Refused}
 use Rattle.sweep.specs.Inside.Finish.{WritesFound}
 use Rattle.sweep.specs.Sweep.{Sweep}
+use Rattle.sweep.specs.declared.input.Sweep.{Sweep as Lent}
 use Rattle.sweep.specs.Inside.Planning.{plan_for}
 use Rattle.channels.specs.Call.{shared_range, Channel, TwoMemory, two_memory_of}
 use Rattle.channels.specs.declared.both.Findings.{Findings}
@@ -17,25 +16,21 @@ use Rattle.channels.specs.declared.both.Findings.{Findings}
 abbrev pub behind : ℕ → List ℕ → List ℕ
 behind n w = take (length w - 13 * n) (drop (13 * n) w)
 
--- what finding both asks, each with its part of the words
-pub record FindsBoth (o : Options) (p : Plan) (hVel : List Float) (hMask : List ℕ) (vVel : List Float) (vMask w : List ℕ) (d : List Float) : Type 0 where
-  pub horizontal : Finds o p hVel hMask w d
-  pub vertical : Finds o p vVel vMask (behind (length hVel) w) d
-  pub same : length vVel ≡ length hVel
+-- what finding both asks, each with its part of the words, and one set of options
+pub record FindsBoth (h v : Lent) (p : Plan) (w : List ℕ) (d : List Float) : Type 0 where
+  pub horizontal : Finds h.options p h.velocity.now h.valid.now w d
+  pub vertical : Finds v.options p v.velocity.now v.valid.now (behind (length h.velocity.now) w) d
+  pub same : length v.velocity.now ≡ length h.velocity.now
+  pub options : v.options ≡ h.options
 
 -- what is left of one channel's regions in its words
 abbrev pub LeavesOf : Options → Plan → List Float → List ℕ → List ℕ → Finding → Type 0
 LeavesOf o p vel mask w f = Leaves (regions_by o p vel mask) (network_for o (regions_by o p vel mask) vel) (length vel) w f
 
 -- and of both
-pub record LeavesBoth (o : Options) (p : Plan) (hVel : List Float) (hMask : List ℕ) (vVel : List Float) (vMask w : List ℕ) (f : Findings) : Type 0 where
-  pub horizontal : LeavesOf o p hVel hMask w f.horizontal
-  pub vertical : LeavesOf o p vVel vMask (behind (length hVel) w) f.vertical
-
--- whether question 9 refused
-abbrev pub is_refused : Finding → Bool
-is_refused (Regions r) = false
-is_refused Refused = true
+pub record LeavesBoth (h v : Lent) (p : Plan) (w : List ℕ) (f : Findings) : Type 0 where
+  pub horizontal : LeavesOf h.options p h.velocity.now h.valid.now w f.horizontal
+  pub vertical : LeavesOf v.options p v.velocity.now v.valid.now (behind (length h.velocity.now) w) f.vertical
 
 -- how long a channel's counts, marks and pair are
 pub record Lengths : Type 0 where

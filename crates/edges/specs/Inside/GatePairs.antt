@@ -1,6 +1,6 @@
 -- The pairs as gates, those alone whose first label is the greater, in the places that Layout gives them: each gate as twice its number,
--- with 1 added where the pair's look was bridged.
-use Rattle.std.specs.Prelude.{◌≡◌, ℕ, ◌+◌, ◌-◌, ◌*◌, ◌^◌, ◌<◌, ◌≤◌, Bool, cond, List, [], ◌∷◌, map, length, get_or, ◌==◌, nat_lt, slice_index, slice_index_or, Float}
+-- with 1 added where the pair's look was bridged. A `GatePair` is the code's own: a gate, the gate that it sees, and whether the look was bridged.
+use Rattle.std.specs.Prelude.{◌≡◌, ℕ, ◌+◌, ◌-◌, ◌*◌, ◌/◌, ◌%◌, ◌^◌, ◌<◌, ◌≤◌, max, Bool, false, cond, List, [], ◌∷◌, map, length, get_or, ◌==◌, nat_lt, slice_index, slice_index_or, Float}
 use Rattle.std.proofs.Math.Option.{Option, none, some}
 use Rattle.std.specs.Float.{nan}
 use Rattle.lists.specs.Seq.{upto, each}
@@ -8,19 +8,22 @@ use Rattle.edges.specs.Edges.{Shape, Direction, Left, Right, Top, Bottom, sees, 
 use Rattle.lists.specs.Inside.Seg.{put}
 use Rattle.memory.specs.Inside.Layout.{gate_at, far_at, order_at}
 use Rattle.edges.specs.declared.edges.Shape.{Shape}
-
--- a gate, the gate that it sees, and whether the look was bridged
-pub record GatePair : Type 0 where
-  pub gate : ℕ
-  pub far : ℕ
-  pub bridged : Bool
+pub use Rattle.edges.specs.declared.pairs.GatePair.{GatePair}
 
 abbrev pub both : ℕ → ℕ → Bool → GatePair
 both g h b = record { gate = g; far = h; bridged = b }
 
+-- the pair of gates that two words stand for
+abbrev pub gates_by : ℕ → ℕ → GatePair
+gates_by x y = both (x / 2) (y / 2) (y % 2 == 1)
+
 unfoldable pub gate_pair_to : List ℕ → ℕ → Bool → Option ℕ → List GatePair
 gate_pair_to labels g b none = []
 gate_pair_to labels g b (some h) = cond (nat_lt (slice_index labels h) (slice_index labels g)) (both g h b ∷ []) []
+
+-- the pair of two gates beside each other in the words, if they lie on one ray
+unfoldable pub gate_pair_along : ℕ → List ℕ → ℕ → ℕ → List GatePair
+gate_pair_along gates labels g h = cond (max g h % gates == 0) [] (gate_pair_to labels g false (some h))
 
 -- the pairs of gate g one way
 abbrev pub gate_pairs_of : Shape → List ℕ → ℕ → Direction → List GatePair
@@ -106,3 +109,8 @@ pub record Amid (w : List ℕ) (n gates g : ℕ) : Type 0 where
   pub right : get_or w (g + gates) 0 ≡ 0 → ⊥
   pub top : get_or w (g - 1) 0 ≡ 0 → ⊥
   pub bottom : get_or w (g + 1) 0 ≡ 0 → ⊥
+
+-- both: a labelled gate amid labelled ones, and room for k more pairs
+pub record LabelledAmid (f : Shape) (n : ℕ) (w : List ℕ) (g c k : ℕ) : Type 0 where
+  pub gate : LabelledGate f n w g c k
+  pub amid : Amid w n f.gates g

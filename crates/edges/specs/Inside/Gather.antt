@@ -1,26 +1,20 @@
 -- Sorted pairs read back, and runs of them gathered as c edges into the tables from t on, where Layout puts them.
-use Rattle.std.specs.Prelude.{◌≡◌, ℕ, ◌+◌, ◌-◌, ◌*◌, ◌/◌, ◌%◌, ◌^◌, ◌<◌, ◌≤◌, true, false, List, map, length, ◌==◌, slice_index, slice_set, Float}
+use Rattle.std.specs.Prelude.{◌≡◌, ℕ, ◌+◌, ◌-◌, ◌*◌, ◌/◌, ◌^◌, ◌<◌, ◌≤◌, List, map, length, slice_index, slice_set, Float}
 use Rattle.lists.specs.Seq.{upto}
 use Rattle.lists.specs.Inside.Seg.{seg, put}
-use Rattle.edges.specs.Edges.{Pair, begun, plus, difference}
-use Rattle.edges.specs.Inside.GatePairs.{GatePair, both, pair_of}
+use Rattle.edges.specs.Edges.{Pair, difference}
+use Rattle.edges.specs.Inside.GatePairs.{GatePair, gates_by, pair_of}
 use Rattle.memory.specs.Inside.Layout.{gate_at, far_at, order_at, first_at, second_at, bridged_at, enext_at}
-use Rattle.edges.specs.Inside.Order.{alike, runs}
-use Rattle.edges.specs.declared.edges.Raw.{Raw}
-use Rattle.edges.specs.declared.edges.Gathering.{Gathering}
-use Rattle.edges.specs.declared.edges.Labels.{Labels}
+use Rattle.edges.specs.Inside.Order.{runs}
 use Rattle.edges.specs.declared.edges.EdgeRecord.{EdgeRecord}
 
-abbrev pub pair_is : Raw → Pair
-pair_is p = record { one = p.one; two = p.two; vel1 = p.vel1; vel2 = p.vel2; bridged = p.bridged }
+-- the i-th of the sorted pairs, as gates
+unfoldable pub sorted_at : List ℕ → ℕ → ℕ → GatePair
+sorted_at w n i = let x = slice_index w (order_at n + i) in gates_by (slice_index w (gate_at n + x)) (slice_index w (far_at n + x))
 
--- the pair of gates that two words stand for
-abbrev pub gates_by : ℕ → ℕ → GatePair
-gates_by x y = both (x / 2) (y / 2) (y % 2 == 1)
-
--- the i-th of the sorted pairs
+-- as a pair
 unfoldable pub pair_at : List ℕ → List Float → ℕ → ℕ → Pair
-pair_at w vel n i = pair_of (seg w 0 n) vel (gates_by (slice_index w (gate_at n + slice_index w (order_at n + i))) (slice_index w (far_at n + slice_index w (order_at n + i))))
+pair_at w vel n i = pair_of (seg w 0 n) vel (sorted_at w n i)
 
 -- those from i on
 unfoldable pub later : List ℕ → List Float → ℕ → ℕ → ℕ → List Pair
@@ -42,8 +36,8 @@ abbrev pub Legible : List ℕ → ℕ → ℕ → Type 0
 Legible w n m = (vel : List Float) × ReadsPairs w vel n m
 
 -- the labels of the i-th of them
-abbrev pub LabelsAt : List ℕ → ℕ → ℕ → Labels → Type 0
-LabelsAt w n i r = (vel : List Float) → (r.one ≡ (pair_at w vel n i).one) × (r.two ≡ (pair_at w vel n i).two)
+abbrev pub LabelsAt : List ℕ → ℕ → ℕ → (ℕ × ℕ) → Type 0
+LabelsAt w n i r = (vel : List Float) → (r.0 ≡ (pair_at w vel n i).one) × (r.1 ≡ (pair_at w vel n i).two)
 
 -- edge e written
 unfoldable pub written : List ℕ → ℕ → ℕ → ℕ → EdgeRecord → List ℕ
@@ -54,20 +48,6 @@ unfoldable pub tables : List ℕ → ℕ → ℕ → List EdgeRecord → List �
 tables w t c rs =
     put (put (put (put w t (map (λ r. r.count) rs)) (t + first_at c) (map (λ r. r.one) rs)) (t + second_at c) (map (λ r. r.two) rs))
     (t + bridged_at c) (map (λ r. r.bridged) rs)
-
--- room for edge e
-pub record Slot (w : List ℕ) (d : List Float) (n m t c e : ℕ) : Type 0 where
-  pub above : order_at n + m ≤ t
-  pub words : t + enext_at c ≤ length w
-  pub diffs : c ≤ length d
-  pub place : e < c
-
--- one turn, at pair p: the record goes on, or is written and another begun
-pub record GathersPair (two_nyquist : Float) (t c : ℕ) (p : Pair) (s r : Gathering) (w v : List ℕ) (d b : List Float) : Type 0 where
-  pub on : alike s.«record» p ≡ true → (v ≡ w) × (b ≡ d) × (r.«record» ≡ plus s.«record» p) × (r.edges ≡ s.edges)
-  pub off : alike s.«record» p ≡ false
-      → (v ≡ written w t c s.edges s.«record») × (b ≡ slice_set d s.edges (difference two_nyquist s.«record»))
-      × (r.«record» ≡ begun p) × (r.edges ≡ s.edges + 1)
 
 -- what gathering asks: room for all runs
 pub record Gathers (w : List ℕ) (d vel : List Float) (n m t c : ℕ) : Type 0 where

@@ -1,21 +1,18 @@
 -- The code's values as the definition's.
-use Rattle.std.specs.Prelude.{◌≡◌, ℕ, ◌*◌, ◌^◌, ◌<◌, Bool, true, false, List, length}
-use Rattle.std.proofs.Math.Option.{Option, none, some}
-use Rattle.edges.specs.declared.edges.Seen.{Seen}
-use Rattle.edges.specs.declared.edges.Seen.TheVariants.{At, Nothing}
+use Rattle.std.specs.Prelude.{◌≡◌, ℕ, ◌*◌, ◌^◌, ◌<◌, Bool, List, length, Option, Some, None}
+use Rattle.std.proofs.Math.Option as Math
 use Rattle.edges.specs.declared.edges.Sight.{Sight}
-use Rattle.edges.specs.declared.edges.Sight.TheVariants.{Near, Bridged, Unseen}
 use Rattle.edges.specs.declared.edges.Shape.{Shape}
 
-abbrev pub answer : Seen → Option ℕ
-answer (At g) = some g
-answer Nothing = none
+-- a step's answer
+abbrev pub answer : Option ℕ → Math.Option ℕ
+answer (Some g) = Math.some g
+answer None = Math.none
 
 -- a look's answer: the gate seen, in one step or over a gap
-abbrev pub sighted : Bool → Option ℕ → Sight
-sighted b none = Unseen
-sighted false (some h) = Near h
-sighted true (some h) = Bridged h
+abbrev pub sighted : Bool → Math.Option ℕ → Option Sight
+sighted b Math.none = None
+sighted b (Math.some h) = Some (record { gate = h; bridged = b })
 
 -- gate g is in the sweep, and the sweep not too large
 pub record Inside (f : Shape) (g : ℕ) : Type 0 where

@@ -1,5 +1,5 @@
 -- One lent slice of three parts: bands and then labels in the first n words, the union-find in the next n, and the counters of the bands after that.
-use Rattle.std.specs.Prelude.{◌≡◌, ℕ, ◌+◌, ◌-◌, ◌*◌, ◌^◌, ◌<◌, ◌≤◌, List, length, drop, Float}
+use Rattle.std.specs.Prelude.{◌≡◌, ℕ, ◌+◌, ◌*◌, ◌^◌, ◌<◌, List, length, drop, Float}
 use Rattle.lists.specs.Inside.Seg.{seg}
 use Rattle.arithmetic.specs.Inside.Asked.{Rising}
 
@@ -15,33 +15,14 @@ words_of u n = seg u n n
 abbrev pub counts_of : List ℕ → ℕ → List ℕ
 counts_of u n = drop (n + n) u
 
--- one velocity and one mask byte for each of n gates
-pub record Same (n : ℕ) (velocity : List Float) (valid : List ℕ) : Type 0 where
+-- what a sweep's n gates and its limits are: a velocity and a mask byte for each gate, gates to a ray where there are gates, limits that never fall
+pub record IsSound (n gates : ℕ) (velocity : List Float) (valid : List ℕ) (limits : List Float) : Type 0 where
   pub velocities : length velocity ≡ n
   pub masks : length valid ≡ n
   pub small : n + 1 < 2 ^ 32
-
--- limits that never fall, gates to a ray where there are gates, and a slice of two words a gate and one an interval
-pub record Fitting (gates : ℕ) (limits : List Float) (u : List ℕ) (n : ℕ) : Type 0 where
   pub some_gates : 0 < n → 0 < gates
   pub rising : Rising limits
   pub few_limits : length limits < 2 ^ 32
-  pub long : length u ≡ n + n + (length limits - 1)
-
--- the same for one block of intervals, after n words of labels
-pub record Block (gates : ℕ) (limits : List Float) (u : List ℕ) (n : ℕ) : Type 0 where
-  pub some_gates : 0 < n → 0 < gates
-  pub rising : Rising limits
-  pub few_limits : length limits < 2 ^ 32
-  pub some_limits : 0 < length limits
-  pub long : n + n + n + (length limits - 1) ≤ length u
-
--- three words a gate and 64 more
-pub record Ample (gates : ℕ) (limits : List Float) (u : List ℕ) (n : ℕ) : Type 0 where
-  pub some_gates : 0 < n → 0 < gates
-  pub rising : Rising limits
-  pub few_limits : length limits < 2 ^ 32
-  pub long : length u ≡ n + n + n + 64
 
 -- what a sweep's gates and limits are to be, and the words lent for them: a label for each of n gates, and 2n + 64 more
 pub record FindsRegions (gates : ℕ) (velocity : List Float) (valid : List ℕ) (limits : List Float) (u : List ℕ) : Type 0 where

@@ -4,6 +4,17 @@ use Rattle.std.specs.Prelude.{◌≡◌, cond, List, ℕ, zero, suc, ◌+◌, �
 unfoldable pub pick : ℕ → ℕ → ℕ → ℕ → ℕ
 pick a b i j = cond (ltb b a) i (cond (ltb a b) j (cond (ltb i j) i j))
 
+-- the winner at place k: the better of those at its two children
+unfoldable pub winner : ℕ → List ℕ → ℕ → ℕ
+winner m w k = pick (get_or w (get_or w (m + 2 * k) 0) 0) (get_or w (get_or w (m + 2 * k + 1) 0) 0) (get_or w (m + 2 * k) 0) (get_or w (m + 2 * k + 1) 0)
+
+-- what a game at place k asks: the place, its children and their weights lie in w
+pub record Game (m : ℕ) (w : List ℕ) (k : ℕ) : Type 0 where
+  pub left_in : m + 2 * k + 1 < length w
+  pub i_lt : get_or w (m + 2 * k) 0 < length w
+  pub j_lt : get_or w (m + 2 * k + 1) 0 < length w
+  pub k_in : m + k < length w
+
 -- the place t levels above x
 unfoldable pub up : ℕ → ℕ → ℕ
 up zero x = x

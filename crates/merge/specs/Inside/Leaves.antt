@@ -1,7 +1,8 @@
 -- What a function that changes the tables leaves.
-use Rattle.std.specs.Prelude.{◌≡◌, ℕ, ◌+◌, ◌*◌, ◌^◌, ◌<◌, ◌≤◌, Bool, true, false, List, slice_index, slice_index_or, Float}
+use Rattle.std.specs.Prelude.{◌≡◌, ℕ, ◌+◌, ◌*◌, ◌^◌, ◌<◌, ◌≤◌, List, slice_index, slice_index_or, Float, Some, Result, IsOk, IsErr}
 use Rattle.std.proofs.Math.Option.{Option, none, some}
 use Rattle.memory.specs.Inside.Tree.{Tree}
+use Rattle.merge.specs.declared.merge.MergeRefused.{MergeRefused}
 use Rattle.merge.specs.Inside.Tables.{Tables, view}
 use Rattle.merge.specs.Inside.Table.{size, elen, rlen}
 use Rattle.merge.specs.Inside.Steps.{mate}
@@ -12,9 +13,9 @@ pub record LeavesTables (m n : ℕ) (w : List ℕ) (d : List Float) (s : Tables)
   pub tree : Tree m w
 
 -- the same, or a refusal
-unfoldable pub Raised : ℕ → ℕ → List ℕ → List Float → Option Tables → Bool → Type 0
-Raised m n w d none r = r ≡ false
-Raised m n w d (some s) r = (r ≡ true) × LeavesTables m n w d s
+unfoldable pub Raised : ℕ → ℕ → List ℕ → List Float → Option Tables → Result (Unit {0}) MergeRefused → Type 0
+Raised m n w d none r = IsErr r
+Raised m n w d (some s) r = IsOk r × LeavesTables m n w d s
 
 -- the same, and the last slot kept
 pub record Passes (m n : ℕ) (w : List ℕ) (d : List Float) (s : Tables) (q r : ℕ) : Type 0 where
@@ -39,7 +40,7 @@ pub record Joins (m n b : ℕ) (s : Tables) (f c : ℕ) : Type 0 where
   pub f_in : f < m
   pub b_in : b < n
   pub c_in : c < n
-  pub other : mate m b s c ≡ f → ⊥
+  pub other : mate m b s c ≡ Some f → ⊥
 
 -- base, moved node and gain
 pub record Gains (n b v g : ℕ) : Type 0 where

@@ -1,5 +1,7 @@
 -- What each function of the merging code does to the tables, step by step as the code goes.
-use Rattle.std.specs.Prelude.{ℕ, zero, suc, ◌+◌, ◌-◌, ◌*◌, ◌/◌, Bool, true, false, cond, ◌&&◌, List, [], ◌∷◌, ℤ, pos, negsuc, ◌+ℤ◌, ◌==◌, nat_le, nat_lt, slice_index, slice_index_or, slice_set, Float}
+use Rattle.std.specs.Prelude.{ℕ, zero, suc, ◌+◌, ◌-◌, ◌*◌, ◌/◌, Bool, true, false, cond, ◌&&◌, List, [], ◌∷◌, ℤ, pos, negsuc, ◌+ℤ◌, ◌==◌, nat_le, nat_lt, Float}
+use Rattle.std.specs.Prelude.{slice_index, slice_index_or, slice_set, Some, None}
+use Rattle.std.specs.Prelude as Prelude
 use Rattle.std.proofs.Math.Option.{Option, none, some}
 use Rattle.std.specs.Float.{nan, binary32}
 use Rattle.std.specs.Float.Ieee.{neg, add}
@@ -11,11 +13,6 @@ use Rattle.arithmetic.specs.Rounding.{scale}
 -- numbers from -1000 to 1000 are kept as words from 0 to 2000
 unfoldable pub unbias : ℕ → ℤ
 unbias g = pos g +ℤ negsuc 999
-
--- the word of a whole number, or 2001 where question 9 says no
-unfoldable pub number_of : ℤ → ℕ
-number_of (pos k) = cond (nat_le k 1000) (k + 1000) 2001
-number_of (negsuc k) = cond (nat_lt k 1000) (999 - k) 2001
 
 -- edge f turned
 unfoldable pub turn_at : Tables → ℕ → Tables
@@ -63,17 +60,17 @@ joins_at m b c s f =
     (cond (slice_index (s.at first) f == c) (slice_index (s.at second) f == b) false)))
     false
 
--- the first edge that joins b and c among those of the next k slots from slot x on, or m
-unfoldable pub seek : ℕ → ℕ → ℕ → ℕ → Tables → ℕ → ℕ
-seek zero m b c s x = m
-seek (suc k) m b c s x = cond (joins_at m b c s (x / 2)) (x / 2) (seek k m b c s (slice_index (s.at enext) x))
+-- the first edge that joins b and c among those of the next k slots from slot x on
+unfoldable pub seek : ℕ → ℕ → ℕ → ℕ → Tables → ℕ → Prelude.Option ℕ
+seek zero m b c s x = None
+seek (suc k) m b c s x = cond (joins_at m b c s (x / 2)) (Some (x / 2)) (seek k m b c s (slice_index (s.at enext) x))
 
 -- the same along the whole of node h's chain
-unfoldable pub seek_all : ℕ → ℕ → ℕ → Tables → ℕ → ℕ
+unfoldable pub seek_all : ℕ → ℕ → ℕ → Tables → ℕ → Prelude.Option ℕ
 seek_all m b c s h = seek (slice_index (s.at elen) h - 1) m b c s (slice_index (s.at enext) (2 * m + h))
 
--- the number of the base's live edge to c, or m: looked for along the shorter of their chains
-unfoldable pub mate : ℕ → ℕ → Tables → ℕ → ℕ
+-- the base's live edge to c, looked for along the shorter of their chains
+unfoldable pub mate : ℕ → ℕ → Tables → ℕ → Prelude.Option ℕ
 mate m b s c = cond (nat_lt (slice_index (s.at elen) b) (slice_index (s.at elen) c)) (seek_all m b c s b) (seek_all m b c s c)
 
 -- what edge f has in a table goes to edge q
@@ -88,8 +85,9 @@ absorb_at s q f x = hand_over weight (hand_over bridged (diff_set s q (add binar
 unfoldable pub attach_at : ℕ → Tables → ℕ → ℕ → Float → Tables
 attach_at b s f c x = diff_set (store second (store first s f b) f c) f x
 
+-- edge f, to c, goes into the edge that the base has to c, or becomes it
 unfoldable pub join_edge : ℕ → ℕ → Tables → ℕ → ℕ → Float → Tables
-join_edge m b s f c x = cond (nat_lt (mate m b s c) m) (absorb_at (face_at s (mate m b s c)) (mate m b s c) f x) (attach_at b s f c x)
+join_edge m b s f c x = elim (mate m b s c) [ Some q ↦ absorb_at (face_at s q) q f x | None ↦ attach_at b s f c x ]
 
 -- a difference that follows a gain
 unfoldable pub shift : Bool → ℕ → ℕ → Float → Float

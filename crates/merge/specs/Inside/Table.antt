@@ -1,6 +1,6 @@
 -- The tables of the merging code by name: where each lies in the lent words, and how long it is. m edges, n nodes.
 --
--- A further table: its place in Layout, one line in `tables` here, and its name.
+-- A further table: its place in Layout, one line in `tables` here, its name, and a method of Places.
 use Rattle.std.specs.Prelude.{ℕ, ◌+◌, ◌*◌, Bool, List, [], ◌∷◌, ◌==◌, slice_index_or}
 use Rattle.memory.specs.Inside.Layout.{Part, part, weight_at, first_at, second_at, bridged_at, enext_at, rnext_at, stamp_at, node_size_at, elen_at, rlen_at, node_count_at, node_mark_at, log_at}
 

@@ -1,5 +1,5 @@
 -- The tables before the first merge, from edges and sizes alone.
-use Rattle.std.specs.Prelude.{◌≡◌, cond, List, map, ℕ, zero, suc, ◌+◌, ◌*◌, ◌≤◌, ◌<◌, ◌^◌, T, pos, Float, length, get_or}
+use Rattle.std.specs.Prelude.{◌≡◌, cond, List, map, ℕ, zero, suc, ◌+◌, ◌*◌, ◌≤◌, ◌<◌, ◌^◌, T, pos, Float, length, get_or, Result}
 use Rattle.std.specs.Float.{nan, binary32}
 use Rattle.std.specs.Float.Ieee.{fits}
 use Rattle.network.specs.Network.{Region, State, gates_of}
@@ -9,7 +9,7 @@ use Rattle.merge.specs.Inside.Table.{is, weight, first, second, bridged, enext, 
 use Rattle.memory.specs.Inside.Layout.{table_words}
 use Rattle.network.specs.Inside.Net.{edge_of}
 use Rattle.network.specs.Inside.Rep.{Rep}
-use Rattle.network.specs.declared.network.Ran.{Ran}
+use Rattle.merge.specs.declared.merge.MergeRefused.{MergeRefused}
 use Rattle.network.specs.Inside.TurnIs.{gates_in, first_of, Unmarked, RunIs}
 use Rattle.network.specs.Inside.Simple.{Simple}
 
@@ -72,5 +72,5 @@ pub record Linkable (m n j : ℕ) (s : Tables) : Type 0 where
   pub lengths : (a : ℕ) → a < n → get_or (s.at elen) a 0 ≤ 1 + 2 * j
 
 -- what all merges come to, from the tables of edges and sizes
-unfoldable pub AllIs : ℕ → ℕ → Tables → List ℕ → List Float → Ran → Type 0
+unfoldable pub AllIs : ℕ → ℕ → Tables → List ℕ → List Float → Result ℕ MergeRefused → Type 0
 AllIs m n s w d r = RunIs m n (gates_in s) (raw_net m n s) w d r

@@ -1,5 +1,5 @@
 -- Finding, from the limits of a plan to merged regions: what it asks, and what it leaves.
-use Rattle.std.specs.Prelude.{ℕ, ◌+◌, ◌*◌, ◌≤◌, ◌<◌, ◌≡◌, not, List, T, length, get_or, Float}
+use Rattle.std.specs.Prelude.{ℕ, ◌+◌, ◌*◌, ◌≤◌, ◌<◌, ◌≡◌, not, List, T, length, get_or, Float, Result, Ok, Err}
 use Rattle.std.specs.Float.Ieee.{is_nan}
 use Rattle.memory.specs.Size.{gates_of_largest}
 use Rattle.arithmetic.specs.Inside.Asked.{Rising}
@@ -13,10 +13,8 @@ use Rattle.network.specs.Network.{State, merges, network_by}
 use Rattle.network.specs.Inside.Reduce.{TablesLeft}
 use Rattle.network.specs.Inside.Settle.{outcome, ran_of}
 use Rattle.network.specs.declared.options.Options.{Options}
-use Rattle.network.specs.declared.network.Ran.{Ran}
-use Rattle.network.specs.declared.network.Ran.TheVariants.{Settled, Refused as RunRefused}
-use Rattle.network.specs.declared.find.Finding.{Finding}
-use Rattle.network.specs.declared.find.Finding.TheVariants.{Regions, Refused}
+use Rattle.merge.specs.declared.merge.MergeRefused.{MergeRefused}
+use Rattle.network.specs.declared.find.Run.{Run}
 
 -- what looks go by
 abbrev pub shape_of : Options → Shape
@@ -81,10 +79,14 @@ pub record Finds (o : Options) (p : Plan) (vel : List Float) (mask w : List ℕ)
   pub words : 77 * length vel + 64 ≤ length w
   pub floats : 16 * length vel + 16 ≤ length d
 
+-- the regions found and merged, or the refusal by question 9
+abbrev pub Finding : Type 0
+Finding = Result Run MergeRefused
+
 -- the answer of finding k regions by the run's
-abbrev pub finding_of : ℕ → Ran → Finding
-finding_of k (Settled j) = Regions (record { regions = k; merges = j })
-finding_of k RunRefused = Refused
+abbrev pub finding_of : ℕ → Result ℕ MergeRefused → Finding
+finding_of k (Ok j) = Ok (record { regions = k; merges = j })
+finding_of k (Err e) = Err e
 
 -- the answer and what is left of the regions f of n gates, t being their network
 pub record Leaves (f : Found) (t : State) (n : ℕ) (v : List ℕ) (r : Finding) : Type 0 where

@@ -1,5 +1,5 @@
 -- From labels to the counts and marks of all regions and the log of merges: what it asks, and what it leaves.
-use Rattle.std.specs.Prelude.{ℕ, ◌+◌, ◌*◌, ◌-◌, ◌≤◌, ◌<◌, ◌≡◌, true, List, length, get_or, set, Float}
+use Rattle.std.specs.Prelude.{ℕ, ◌+◌, ◌*◌, ◌-◌, ◌≤◌, ◌<◌, ◌≡◌, true, List, length, get_or, set, Float, Result}
 use Rattle.lists.specs.Seq.{tabulate}
 use Rattle.lists.specs.Inside.Seg.{seg, put}
 use Rattle.network.specs.Network.{State, size_in, merges, merges_in_range, replay, trace, count_of, mark_of}
@@ -9,7 +9,7 @@ use Rattle.merge.specs.Inside.Steps.{unbias}
 use Rattle.memory.specs.Inside.Layout.{sizes_at, counts_at, marks_at, book_at}
 use Rattle.memory.specs.Size.{gates_of_largest}
 use Rattle.edges.specs.declared.edges.Shape.{Shape}
-use Rattle.network.specs.declared.network.Ran.{Ran}
+use Rattle.merge.specs.declared.merge.MergeRefused.{MergeRefused}
 use Rattle.network.specs.Inside.Settle.{outcome, ran_of}
 
 -- what is asked of the sweep and of the memory
@@ -54,6 +54,6 @@ pub record TablesLeft (t : State) (n k : ℕ) (L v : List ℕ) : Type 0 where
   pub labels : seg v 0 n ≡ L
 
 -- the answer and what is left, t being the network
-pub record Reduced (t : State) (n k : ℕ) (w v : List ℕ) (r : Ran) : Type 0 where
+pub record Reduced (t : State) (n k : ℕ) (w v : List ℕ) (r : Result ℕ MergeRefused) : Type 0 where
   pub answer : r ≡ ran_of (outcome t (merges t) 0)
   pub tables : TablesLeft t n k (seg w 0 n) v

@@ -1,5 +1,5 @@
 -- What a turn and a run of the code come to.
-use Rattle.std.specs.Prelude.{◌≡◌, Bool, true, cond, List, map, ℕ, ◌+◌, ◌≤◌, ◌<◌, Float, get_or}
+use Rattle.std.specs.Prelude.{◌≡◌, Bool, true, cond, List, map, ℕ, ◌+◌, ◌≤◌, ◌<◌, Float, get_or, Result, Ok}
 use Rattle.std.proofs.Math.Option.{Option, none, some}
 use Rattle.lists.specs.Seq.{upto}
 use Rattle.arithmetic.specs.Doubtful.{doubtful}
@@ -8,12 +8,11 @@ use Rattle.network.specs.Inside.Log.{Entries, Logging, log_in}
 use Rattle.network.specs.Network.{Edge, State, Event, event, step, choose, quotient, quot, marks, marked, in_range, trace, run}
 use Rattle.memory.specs.Inside.Tree.{Tree}
 use Rattle.network.specs.declared.network.Turned.{Turned}
-use Rattle.network.specs.declared.network.Ran.{Ran}
+use Rattle.merge.specs.declared.merge.MergeRefused.{MergeRefused}
 use Rattle.merge.specs.Inside.Tables.{Tables, view}
 use Rattle.merge.specs.Inside.Table.{weight, size, count, mark}
-use Rattle.merge.specs.Inside.Steps.{number_of}
 use Rattle.network.specs.Inside.Net.{edge_now, region_of, state_of}
-use Rattle.network.specs.Inside.Settle.{Done, settle, ran_of, merged_by, turned_by}
+use Rattle.network.specs.Inside.Settle.{Done, settle, number_by, ran_of, merged_by, turned_by}
 use Rattle.network.specs.Inside.Rep.{Rep}
 
 -- what the code may start from, k merges done
@@ -37,30 +36,29 @@ TurnLeaves m n gates k s t none w d = view m n w d ≡ s
 TurnLeaves m n gates k s t (some e) w d = in_range (event t e.num) ≡ true → MergeLeaves m n gates k s t e.num w d
 
 -- one turn from the network t
-pub record TurnIs (m n : ℕ) (gates : ℕ → ℕ) (k : ℕ) (s : Tables) (t : State) (w : List ℕ) (d : List Float) (r : Turned) : Type 0 where
+pub record TurnIs (m n : ℕ) (gates : ℕ → ℕ) (k : ℕ) (s : Tables) (t : State) (w : List ℕ) (d : List Float) (r : Result Turned MergeRefused) : Type 0 where
   pub answer : r ≡ turned_by t (choose t.edges)
   pub leaves : TurnLeaves m n gates k s t (choose t.edges) w d
 
--- edge e is live and stands from p to q, g is its number as a word, and z says whether it is doubtful
+-- edge e is live and stands from p to q, g is its number as a word, which question 9 lets pass, and z says whether it is doubtful
 pub record Chosen (m : ℕ) (s : Tables) (e p q g : ℕ) (z : Bool) : Type 0 where
   pub e_in : e < m
   pub live : get_or (s.at weight) e 0 ≡ 0 → ⊥
   pub first : p ≡ (edge_now s e).first
   pub second : q ≡ (edge_now s e).second
-  pub number : g ≡ number_of (quot (edge_now s e).link.diff (get_or (s.at weight) e 0))
-  pub most : g ≤ 2000
+  pub number : Ok g ≡ number_by (quot (edge_now s e).link.diff (get_or (s.at weight) e 0))
   pub doubt : z ≡ doubtful (quotient (edge_now s e).link.diff (get_or (s.at weight) e 0))
 
 -- the merge of edge e from the network t
-pub record PickIs (m n : ℕ) (gates : ℕ → ℕ) (k : ℕ) (s : Tables) (t : State) (e : ℕ) (w : List ℕ) (d : List Float) (r : Turned) : Type 0 where
+pub record PickIs (m n : ℕ) (gates : ℕ → ℕ) (k : ℕ) (s : Tables) (t : State) (e : ℕ) (w : List ℕ) (d : List Float) (r : Result Turned MergeRefused) : Type 0 where
   pub answer : r ≡ merged_by (in_range (event t e))
   pub leaves : in_range (event t e) ≡ true → MergeLeaves m n gates k s t e w d
 
 -- the same from whatever network the tables stand for
-abbrev pub AnyPick : ℕ → ℕ → ℕ → Tables → ℕ → List ℕ → List Float → Turned → Type 0
+abbrev pub AnyPick : ℕ → ℕ → ℕ → Tables → ℕ → List ℕ → List Float → Result Turned MergeRefused → Type 0
 AnyPick m n k s e w d r = (gates : ℕ → ℕ) (t : State) → Rep m n gates k s t → PickIs m n gates k s t e w d r
 
-abbrev pub AnyTurn : ℕ → ℕ → ℕ → Tables → List ℕ → List Float → Turned → Type 0
+abbrev pub AnyTurn : ℕ → ℕ → ℕ → Tables → List ℕ → List Float → Result Turned MergeRefused → Type 0
 AnyTurn m n k s w d r = (gates : ℕ → ℕ) (t : State) → Rep m n gates k s t → TurnIs m n gates k s t w d r
 
 -- the tables of a network before its first merge: each region a node of its own, its gates in the table of sizes
@@ -88,10 +86,10 @@ RunLeaves m n gates vs bs none w d = Unit {0}
 RunLeaves m n gates vs bs (some o) w d = EndLeaves m n gates vs bs o w d
 
 -- the whole run
-pub record RanIs (m n : ℕ) (gates : ℕ → ℕ) (vs : List Event) (bs : List Entry) (o : Option Done) (w : List ℕ) (d : List Float) (r : Ran) : Type 0 where
+pub record RanIs (m n : ℕ) (gates : ℕ → ℕ) (vs : List Event) (bs : List Entry) (o : Option Done) (w : List ℕ) (d : List Float) (r : Result ℕ MergeRefused) : Type 0 where
   pub answer : r ≡ ran_of o
   pub leaves : RunLeaves m n gates vs bs o w d
 
 -- the whole run from the network t
-abbrev pub RunIs : ℕ → ℕ → (ℕ → ℕ) → State → List ℕ → List Float → Ran → Type 0
+abbrev pub RunIs : ℕ → ℕ → (ℕ → ℕ) → State → List ℕ → List Float → Result ℕ MergeRefused → Type 0
 RunIs m n gates t w d r = RanIs m n gates (trace t (run m t)) (book t (run m t)) (settle m t 0) w d r

@@ -1,22 +1,18 @@
--- A book as the code holds it, six numbers an entry: its sums and its text, and what an answer leaves of one.
-use Rattle.std.specs.Prelude.{ℕ, ◌+◌, ◌*◌, List, [], ◌∷◌, ◌++◌, get_or, ℤ, pos, nat_abs}
-use Rattle.lists.specs.Seq.{tabulate, sum}
+-- A book as the code holds it, six numbers an entry: its text, and what an answer leaves of one.
+use Rattle.std.specs.Prelude.{ℕ, List, [], ◌∷◌, ◌++◌, length, get_or, ℤ, pos, nat_abs, sum_by}
+use Rattle.lists.specs.Seq.{each}
 use Rattle.network.specs.Book.{Entry}
 use Rattle.sweep.specs.Questions.{Outcome, refused, accepted}
 use Rattle.sweep_book.specs.Book.{over}
-use Rattle.printout.specs.Text.{line, ray_lines}
+use Rattle.printout.specs.Text.{line}
 
--- number k of each of the first n entries, without its sign, summed
-unfoldable pub column : ℕ → ℕ → List ℤ → ℕ
-column k n b = sum (tabulate n (λ j. nat_abs (get_or b (6 * j + k) (pos 0))))
+-- number k of each entry, without its sign, summed
+abbrev pub column : ℕ → List (List ℤ) → ℕ
+column k rows = sum_by (λ (r : List ℤ). nat_abs (get_or r k (pos 0))) rows
 
--- how many there are, all weights and all gates
-unfoldable pub totals_line : ℕ → ℕ → ℕ → List ℕ
-totals_line entries weights gates = line (pos entries ∷ pos weights ∷ pos gates ∷ [])
-
--- the text of the first n entries
-unfoldable pub book_lines : ℕ → List ℤ → List ℕ
-book_lines n b = ray_lines n 6 b ++ totals_line n (column 2 n b) (column 5 n b)
+-- a line an entry, and a last line with how many there are, all weights and all gates
+unfoldable pub rows_text : List (List ℤ) → List ℕ
+rows_text rows = each line rows ++ line (pos (length rows) ∷ pos (column 2 rows) ∷ pos (column 5 rows) ∷ [])
 
 -- a number, how many entries, and a book
 pub record Booked : Type 0 where

@@ -1,9 +1,11 @@
--- An answer's number and what it leaves of the counts, and the text of an accepted sweep.
-use Rattle.std.specs.Prelude.{ℕ, Bool, true, false, List, ℤ}
+-- An answer's number and what it leaves of the counts, and what a text or a refusal prints.
+use Rattle.std.specs.Prelude.{ℕ, ◌*◌, ◌≡◌, ◌≤◌, List, [], ℤ, Result, Ok, Err}
+use Rattle.arrayvec.specs.ArrayString.{ArrayString}
 use Rattle.sweep.specs.Questions.{Outcome, refused, accepted}
+use Rattle.sweep.specs.declared.refusal.Refusal.{Refusal}
+use Rattle.sweep.specs.Refusal.{number_of}
 use Rattle.files.specs.Format.{u16_at}
-use Rattle.printout.specs.Text.{ray_lines}
-use Rattle.printout.specs.Book.{book_text, file_book}
+use Rattle.printout.specs.Unfold.{Printed, printed_by}
 
 -- a number and counts
 pub record Folds : Type 0 where
@@ -19,12 +21,14 @@ unfoldable pub folds_of : Outcome → List ℤ → Folds
 folds_of (refused k) lent = folds_by k lent
 folds_of (accepted counts doubtful regions merges) lent = folds_by 0 counts
 
--- the text of an accepted sweep of a file, by whether its book is asked for
-abbrev pub text_for : Bool → List ℕ → List ℤ → List ℕ
-text_for true f counts = book_text (file_book f)
-text_for false f counts = ray_lines (u16_at f 3) (u16_at f 5) counts
+-- the number and the text of an answer of the code
+abbrev pub printed_in : Result ArrayString Refusal → Printed
+printed_in (Ok text) = printed_by 0 text.bytes
+printed_in (Err refusal) = printed_by (number_of refusal) []
 
--- and the room that it takes at most
-abbrev pub room_for : Bool → ℕ
-room_for true = 9334
-room_for false = 2256
+-- rays and gates are those of a file's sweep, which has at most 720 rays and 128 gates
+pub record Shape (f : List ℕ) (rays gates : ℕ) : Type 0 where
+  pub rays_are : rays ≡ u16_at f 3
+  pub gates_are : gates ≡ u16_at f 5
+  pub rays_few : rays ≤ 720
+  pub gates_few : rays * gates ≤ 128

@@ -1,12 +1,11 @@
 -- The start of a recorded sweep: the setting that fifteen numbers say, and what a read of them gives.
-use Rattle.std.specs.Prelude.{ℕ, List, get_or}
+use Rattle.std.specs.Prelude.{ℕ, List, Option, Some, None, Result, Ok, Err, get_or}
 use Rattle.std.specs.Float.{binary32}
 use Rattle.std.specs.Float.Ieee.{of_bits}
+use Rattle.replay.specs.declared.words.Malformed.{Malformed}
 use Rattle.replay.specs.declared.words.Got.{Got}
-use Rattle.replay.specs.declared.words.Got.TheVariants.{Numbers, End, Malformed}
+use Rattle.replay.specs.declared.words.Got.TheVariants.{Numbers, End}
 use Rattle.replay.specs.declared.gates.Setting.{Setting}
-use Rattle.replay.specs.declared.gates.Start.{Start}
-use Rattle.replay.specs.declared.gates.Start.TheVariants.{Sweep, End as NoSweep, Malformed as NoStart}
 
 -- the setting of fifteen numbers, in the order of the record
 unfoldable pub setting_of : List ℕ → Setting
@@ -28,8 +27,8 @@ setting_of l = record {
   more = get_or l 14 0;
 }
 
--- the start by what was got
-unfoldable pub start_by : Got → List ℕ → Start
-start_by Numbers l = Sweep (setting_of l)
-start_by End l = NoSweep
-start_by Malformed l = NoStart
+-- the start by what was got: a setting, none at the end, or malformed
+unfoldable pub start_by : Result Got Malformed → List ℕ → Result (Option Setting) Malformed
+start_by (Ok Numbers) l = Ok (Some (setting_of l))
+start_by (Ok End) l = Ok None
+start_by (Err e) l = Err e

@@ -1,5 +1,5 @@
 -- The offset, and the counts and marks of all gates, from the tables of the work memory.
-use Rattle.std.specs.Prelude.{◌≡◌, ℕ, ◌+◌, ◌*◌, ◌^◌, ◌<◌, ◌≤◌, cond, List, [], length, replicate, ℤ, pos, ◌==◌, slice_index}
+use Rattle.std.specs.Prelude.{◌≡◌, Ok, Err, ℕ, ◌+◌, ◌*◌, ◌^◌, ◌<◌, ◌≤◌, cond, List, [], length, replicate, ℤ, pos, ◌==◌, slice_index}
 use Rattle.std.proofs.Math.IntN.{sub_ℕ}
 use Rattle.std.specs.Float.{binary64}
 use Rattle.std.specs.Float.Ieee.{div}
@@ -8,8 +8,7 @@ use Rattle.arithmetic.specs.Rounding.{round_even, real}
 use Rattle.merge.specs.Inside.Steps.{unbias}
 use Rattle.memory.specs.Inside.Layout.{counts_at, marks_at}
 use Rattle.network.specs.declared.find.Run.{Run}
-use Rattle.network.specs.declared.find.Finding.{Finding}
-use Rattle.network.specs.declared.find.Finding.TheVariants.{Regions, Refused}
+use Rattle.network.specs.Inside.Find.{Finding}
 use Rattle.sweep.specs.Sweep.{or_zero, gate_count}
 use Rattle.sweep.specs.Questions.{Outcome, refused, accepted}
 use Rattle.sweep.specs.Call.{Memory, memory_of}
@@ -51,14 +50,14 @@ lent cs ds p = record { counts = cs; doubtful = ds; pair = p; words = []; floats
 
 -- what was found in these words: counts, marks and pair, or the refusal by question 9
 abbrev pub outcome_by : Finding → List ℕ → List ℕ → ℕ → Outcome
-outcome_by (Regions r) w mask centred = accepted (counts_by w (length mask) r.regions mask centred) (marks_by w (length mask) r.regions) r.regions r.merges
-outcome_by Refused w mask centred = refused 9
+outcome_by (Ok r) w mask centred = accepted (counts_by w (length mask) r.regions mask centred) (marks_by w (length mask) r.regions) r.regions r.merges
+outcome_by (Err e) w mask centred = refused 9
 
 -- what writing asks
 pub record WritesFound (f : Finding) (w mask : List ℕ) (long bytes two : ℕ) : Type 0 where
-  pub tables : (r : Run) → f ≡ Regions r → Finishes w (length mask) r.regions mask long
-  pub marks : (r : Run) → f ≡ Regions r → WritesMarks w (length mask) r.regions bytes
-  pub few : (r : Run) → f ≡ Regions r → (r.regions < 2 ^ 32) × (r.merges < 2 ^ 32)
+  pub tables : (r : Run) → f ≡ Ok r → Finishes w (length mask) r.regions mask long
+  pub marks : (r : Run) → f ≡ Ok r → WritesMarks w (length mask) r.regions bytes
+  pub few : (r : Run) → f ≡ Ok r → (r.regions < 2 ^ 32) × (r.merges < 2 ^ 32)
   pub pair : two ≡ 2
 
 -- both work memories all zero

@@ -1,6 +1,5 @@
--- Questions 1 to 8 as the code puts them: the plan of the limits, or the first no.
-use Rattle.std.specs.Prelude.{ℕ, ◌≤◌, Float}
-use Rattle.std.proofs.Math.Option.{Option, none, some}
+-- The plan of the limits, which questions 1 to 8 give as the code puts them.
+use Rattle.std.specs.Prelude.{Option, ℕ, ◌≤◌, Float}
 use Rattle.arithmetic.specs.Inside.Asked.{Rising}
 use Rattle.arithmetic.specs.Intervals.{adds, plan_of, at_least0}
 use Rattle.arithmetic.specs.declared.intervals.Extremes.{Extremes}
@@ -9,21 +8,14 @@ use Rattle.network.specs.Inside.Find.{limits_by}
 use Rattle.network.specs.declared.options.Options.{Options}
 use Rattle.sweep.specs.Sweep.{Sweep}
 use Rattle.sweep.specs.Questions.{range_of}
-use Rattle.sweep.specs.declared.entry.Planning.{Planning}
-use Rattle.sweep.specs.declared.entry.Planning.TheVariants.{Limits, Missed}
 
 -- the plan of the limits for a least and a greatest velocity
-abbrev pub plan_for : Float → ℕ → Extremes → Plan
+abbrev pub plan_for : Float → ℕ → Option Extremes → Plan
 plan_for nyq splits e = plan_of splits (adds nyq splits e)
 
 -- the plan of a sweep's own limits
 abbrev pub own_plan : Sweep → Plan
 own_plan s = plan_for s.nyquist s.splits (range_of s)
-
--- the answer by the first no
-abbrev pub planning_by : Option ℕ → Plan → Planning
-planning_by none p = Limits p
-planning_by (some k) p = Missed k
 
 -- a plan of at most 10,000 limits that never fall
 pub record Fit (o : Options) (p : Plan) : Type 0 where

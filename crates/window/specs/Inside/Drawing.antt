@@ -1,10 +1,9 @@
--- The picture's structs as functions of lists, and what drawing asks of the window's memory.
-use Rattle.std.specs.Prelude.{ℕ, ◌*◌, ◌≤◌, ◌<◌, ◌≡◌, true, cond, List, eqb, length, get_or, Float}
+-- What drawing keeps and answers as functions of lists, and what drawing asks of the window's memory.
+use Rattle.std.specs.Prelude.{ℕ, ◌*◌, ◌≤◌, ◌<◌, ◌≡◌, true, cond, List, [], ◌∷◌, eqb, length, get_or, Float, Option, Some, None}
 use Rattle.std.specs.Float.{inf}
 use Rattle.memory.specs.Size.{gates_of_largest}
 use Rattle.window.specs.declared.median.Four.{Four}
-use Rattle.window.specs.declared.median.Drawn.{Drawn}
-use Rattle.window.specs.Median.{infinity, median, mark}
+use Rattle.window.specs.Median.{infinity, middle, median}
 
 -- the first four of values that never fall; infinity where there are fewer
 abbrev pub four_of : List Float → Four
@@ -14,9 +13,15 @@ four_of l = record { a = get_or l 0 infinity; b = get_or l 1 infinity; c = get_o
 unfoldable pub floor_of : ℕ → Float
 floor_of b = cond (eqb b 1) (inf true) infinity
 
--- a gate of the picture and its mark, from the winds that it shows
-abbrev pub drawn_of : List Float → Drawn
-drawn_of vs = record { wind = median vs; mark = mark vs }
+-- the middle one of values that never fall, if there are any
+abbrev pub middle_of : List Float → Option Float
+middle_of [] = None
+middle_of (v ∷ vs) = Some (middle (v ∷ vs))
+
+-- the median of the winds that a gate shows, if it shows any: where it shows none, the picture has the median of none and the mark of none
+abbrev pub drawn_of : List Float → Option Float
+drawn_of [] = None
+drawn_of (v ∷ vs) = Some (median (v ∷ vs))
 
 -- eight places of n winds and n bytes, and at most eight sweeps from one of them on
 pub record Held (ws : List Float) (bs : List ℕ) (n first held : ℕ) : Type 0 where

@@ -1,31 +1,35 @@
 -- `arithmetic::intervals::least_and_greatest` meets its contract. Assumes nothing.
-use Rattle.arithmetic.proofs.IntervalLaws.{turn_yes, turn_no}
-use Rattle.std.proofs.Common.{◌≡◌, ◌<◌, length, sym, ◌∙◌, arith, rules}
-use Rattle.arithmetic.proofs.IntervalLaws.{up_none, up_all}
-use Rattle.arithmetic.proofs.intervals.least_and_greatest.Goals.{then-valid-i-eq1, else-valid-i-eq1}
+use Rattle.std.proofs.Common.{◌≡◌, length, min, sym, ap, ◌∙◌, arith, length-append, rules}
+use Rattle.std.proofs.lemmas.Slice.Zip.{zip_turn, zip_end}
+use lib.Ieee.{nan}
+use Rattle.arithmetic.proofs.IntervalLaws.{up_to, up_none, up_all, turn_yes, turn_no}
 use Rattle.arithmetic.proofs.intervals.least_and_greatest.Goals as goal
 
-pub loop-i-init : goal.loop-i-init
-loop-i-init c = (search rules, sym (up_none c.args.velocity.now c.args.valid.now))
+pub loop-v-init : goal.loop-v-init
+loop-v-init c = sym (up_none c.args.velocity.now c.args.valid.now)
 
-pub bounds-valid-i : goal.bounds-valid-i
-bounds-valid-i c = omega (arith, c.requires)
-
-pub loop-i-preserved : goal.loop-i-preserved
-loop-i-preserved c =
-    let l = c.loop-i in
+pub loop-v-preserved-then-m-eq1 : goal.loop-v-preserved-then-m-eq1
+loop-v-preserved-then-m-eq1 c =
     let vs = c.args.velocity.now in
     let ms = c.args.valid.now in
-    let h : l.i < length vs = search rules in (
-      search rules,
-      elim c.if-valid-i-eq1.branch [
-        | then-valid-i-eq1 w ↦ turn_yes vs ms l.i l.e c.if-valid-i-eq1.e w.f32_to_f64_with_nan-v.result h c.requires w.if-valid-i-eq1.true l.invariant.1 w.f32_to_f64_with_nan-v.ensures (w.e-is ∙ w.widen-e.ensures)
-        | else-valid-i-eq1 w ↦ w.e-is ∙ turn_no vs ms l.i l.e h c.requires w.if-valid-i-eq1.false l.invariant.1
-      ],
-    )
+    let xs = c.loop-v.yielded in
+    let t = zip_turn vs ms xs c.into_iter-v-iterator.result c.loop-v.v-iterator c.next.new.self _ (search rules) (search rules) c.loop-v.yielded_by _ c.in-Some.is c.next.ensures.steps in
+    turn_yes vs ms (length xs) c.loop-v.e _ c.f32_to_f64_with_nan-v.result t.0 c.requires (sym (t.3 0) ∙ c.if-m-eq1.true) c.loop-v.invariant (c.f32_to_f64_with_nan-v.ensures ∙ t.2 nan) c.widen.ensures
+    ∙ ap (up_to vs ms) (sym (length-append xs _))
+
+pub loop-v-preserved : goal.loop-v-preserved
+loop-v-preserved c =
+    let vs = c.args.velocity.now in
+    let ms = c.args.valid.now in
+    let xs = c.loop-v.yielded in
+    let t = zip_turn vs ms xs c.into_iter-v-iterator.result c.loop-v.v-iterator c.next.new.self _ (search rules) (search rules) c.loop-v.yielded_by _ c.in-Some.is c.next.ensures.steps in
+    turn_no vs ms (length xs) c.loop-v.e t.0 c.requires (λ e. c.if-m-eq1.false (t.3 0 ∙ e)) c.loop-v.invariant
+    ∙ ap (up_to vs ms) (sym (length-append xs _))
 
 pub returns : goal.returns
 returns c =
-    let l = c.loop-i in
-    let n : l.i ≡ length c.args.velocity.now = omega arith in
-    l.invariant.1 ∙ up_all c.args.velocity.now c.args.valid.now l.i n c.requires
+    let vs = c.args.velocity.now in
+    let ms = c.args.valid.now in
+    let xs = c.loop-v.yielded in
+    let n : length xs ≡ min (length vs) (length ms) = zip_end vs ms xs c.into_iter-v-iterator.result c.loop-v.v-iterator c.next.new.self _ (search rules) (search rules) c.loop-v.yielded_by c.in-None.is c.next.ensures.steps in
+    c.loop-v.invariant ∙ up_all vs ms (length xs) (omega arith) c.requires

@@ -1,5 +1,5 @@
 -- `arithmetic::intervals::linspace` meets its contract. Assumes nothing.
-use Rattle.std.proofs.Common.{◌≡◌, ℕ, suc, ◌-◌, ◌^◌, ◌<◌, ◌≤◌, T, length, pos, refl, le_trans, arith, lit≤, le→leb, length-set, rules}
+use Rattle.std.proofs.Common.{◌≡◌, ℕ, suc, ◌-◌, ◌^◌, ◌<◌, ◌≤◌, T, length, pos, le_trans, arith, lit≤, le→leb}
 use lib.Ieee.{in_float, binary64}
 use Rattle.arithmetic.proofs.IntervalLaws.{lin_none, lin_more, lin_last, lin_one, lin_nil}
 use Rattle.arithmetic.specs.Intervals.{limit_at, step_of}
@@ -16,22 +16,16 @@ returns-then-n-eq0 c = lin_nil c.args.start c.args.end c.args.out.now c.args.n c
 pub returns-then-n-eq1 : goal.returns-then-n-eq1
 returns-then-n-eq1 c = lin_one c.args.start c.args.end c.args.out.now c.args.n c.if-n-eq1.true c.requires.0
 
-pub int_to_float-step : goal.int_to_float-step
-int_to_float-step c = small (c.args.n - 1) (omega arith)
-
 pub loop-i-init : goal.loop-i-init
 unfolding step_of real
-loop-i-init c = (search rules, (lin_none c.args.start (step_of c.args.start c.args.end (c.args.n - 1)) c.args.out.now, refl))
-
-pub int_to_float-out : goal.int_to_float-out
-int_to_float-out c = small c.loop-i.i (omega arith)
+loop-i-init c = lin_none c.args.start (step_of c.args.start c.args.end (c.args.n - 1)) c.args.out.now
 
 pub loop-i-preserved : goal.loop-i-preserved
 unfolding limit_at step_of real
 loop-i-preserved c =
     let l = c.loop-i in
     let h : l.i < length c.args.out.now = omega arith in
-    (omega arith, (lin_more c.args.start (step_of c.args.start c.args.end (c.args.n - 1)) c.args.out.now l.out l.i h l.invariant.1.0, simp length-set l.invariant.1.1))
+    lin_more c.args.start (step_of c.args.start c.args.end (c.args.n - 1)) c.args.out.now l.out l.i h l.invariant
 
 pub returns : goal.returns
 unfolding step_of real
@@ -40,4 +34,4 @@ returns c =
     let i : l.i ≡ c.args.n - 1 = omega arith in
     let n : c.args.n ≡ suc (c.args.n - 1) = omega arith in
     let some : 0 < c.args.n - 1 = omega arith in
-    lin_last c.args.start c.args.end c.args.out.now l.out l.i (c.args.n - 1) c.args.n c.requires.0 i n some l.invariant.1.0
+    lin_last c.args.start c.args.end c.args.out.now l.out l.i (c.args.n - 1) c.args.n c.requires.0 i n some l.invariant

@@ -1,63 +1,37 @@
 -- `edges::edges::gather` meets its contract. Assumes nothing.
-use Rattle.std.proofs.Common.{refl, ap, ◌∙◌, arith}
+use Rattle.std.proofs.Common.{ap, sym, ◌∙◌, arith}
 use Rattle.edges.specs.Edges.{begun}
-use Rattle.edges.proofs.Going.{going_begin, going_ready, going_slot, going_on, going_end, none_gathered}
+use Rattle.edges.specs.Inside.Order.{alike}
+use Rattle.edges.proofs.Going.{going_begin, going_ready, going_place, going_on, going_off, going_end, none_gathered}
+use Rattle.edges.proofs.edges.gather.Goals.{then-eq, else-eq}
 use Rattle.edges.proofs.edges.gather.Goals as goal
 
 pub returns-then-m-eq0 : goal.returns-then-m-eq0
-returns-then-m-eq0 c = let a = c.args in none_gathered a.two_nyquist a.w.now a.d.now a.vel.now a.n a.m a.t a.c c.if-m-eq0.true
-
-pub pair_at-p-requires : goal.pair_at-p-requires
-pair_at-p-requires c = record { reads_pairs = c.requires.ready; i_lt_m = omega (arith, c.if-m-eq0.false) }
+returns-then-m-eq0 c = none_gathered c.args.vel.now c.args.n c.if-m-eq0.true
 
 pub loop-i-init : goal.loop-i-init
-loop-i-init c =
-    let i = c.if-m-eq0 in
-    let a = c.args in
-    (omega (arith, i.false), going_begin a.two_nyquist a.w.now a.d.now a.vel.now a.n a.m a.t a.c c.requires (record { «record» = c.begin.result; edges = 0 }) (omega (arith, i.false)) (c.begin.ensures ∙ ap begun c.pair_at-p.ensures) refl)
+loop-i-init c = going_begin (omega (arith, c.if-m-eq0.false)) (c.begun-s.ensures ∙ ap begun c.pair_at.ensures)
 
-pub gather_one-s-requires : goal.gather_one-s-requires
-gather_one-s-requires c =
-    let p = c.requires in
-    let a = c.args in let l = c.loop-i in record { reads_pairs = going_ready a.two_nyquist a.w.now a.d.now a.vel.now a.n a.m a.t a.c (p) l.w l.d l.s l.i l.invariant.1; slot = going_slot a.two_nyquist a.w.now a.d.now a.vel.now a.n a.m a.t a.c (p) l.w l.d l.s l.i l.invariant.1; i_lt_m = (c.loop-i-test.true, omega (arith, l.invariant.1.few, c.loop-i-test.true, p.ready.small), l.invariant.1.spans) }
+pub pair_at-p-requires-clause-reads_pairs : goal.pair_at-p-requires-clause-reads_pairs
+pair_at-p-requires-clause-reads_pairs c = going_ready c.requires c.loop-i.invariant
 
-pub overflow_add-i : goal.overflow_add-i
-overflow_add-i c = omega (arith, c.loop-i-test.true, c.requires.ready.small)
-
-pub loop-i-smaller : goal.loop-i-smaller
-loop-i-smaller c = omega (arith, c.loop-i-test.true)
+pub put_edge-requires-clause-place : goal.put_edge-requires-clause-place
+put_edge-requires-clause-place c = going_place c.requires c.loop-i.invariant
 
 pub loop-i-preserved : goal.loop-i-preserved
+unfolding alike
 loop-i-preserved c =
-    let g = c.gather_one-s in
-    let l' = c.loop-i-test in
-    let a = c.args in
-    let l = c.loop-i in (
-      omega (arith, l'.true),
-      going_on a.two_nyquist a.w.now a.d.now a.vel.now a.n a.m a.t a.c
-          c.requires l.w l.d l.s l.i l.invariant.1
-          g.new.w g.new.d g.result l'.true g.ensures,
-    )
+    let g = c.loop-i.invariant in
+    let h = c.loop-i-test.true in
+    elim c.if-eq.branch [
+      | then-eq w ↦ rw (w.w-is, w.d-is, w.s-is, w.e-is) (going_on c.requires g h c.pair_at-p.ensures (sym w.if-eq.ensures) w.plus-s.ensures)
+      | else-eq w ↦
+          rw (w.w-is, w.d-is, w.s-is, w.e-is)
+          (going_off c.requires g h c.pair_at-p.ensures (sym w.if-eq.ensures) w.put_edge.ensures.w_after w.put_edge.ensures.d_after w.begun-s-else-eq.ensures)
+    ]
 
-pub put_edge-requires : goal.put_edge-requires
-put_edge-requires c =
-    let a = c.args in let l = c.loop-i in
-    let z = going_slot a.two_nyquist a.w.now a.d.now a.vel.now a.n a.m a.t a.c
-    c.requires l.w l.d l.s l.i l.invariant.1 in (z.words, z.diffs, z.place)
-
-pub overflow_add-result : goal.overflow_add-result
-overflow_add-result c =
-    let a = c.args in
-    let l = c.loop-i in
-    let z = going_slot a.two_nyquist a.w.now a.d.now a.vel.now a.n a.m a.t a.c
-    c.requires l.w l.d l.s l.i
-    l.invariant.1 in omega (arith, z.place, c.ranges.c)
+pub put_edge-requires-2-clause-place : goal.put_edge-requires-2-clause-place
+put_edge-requires-2-clause-place c = going_place c.requires c.loop-i.invariant
 
 pub returns : goal.returns
-returns c =
-    let p = c.put_edge in
-    let a = c.args in
-    let l = c.loop-i in
-    going_end a.two_nyquist a.w.now a.d.now a.vel.now a.n a.m a.t a.c
-    c.requires l.w l.d l.s l.i
-    l.invariant.1 p.new.w p.new.d c.loop-i-test.false p.ensures.w_after p.ensures.d_after
+returns c = going_end c.requires c.loop-i.invariant c.loop-i-test.false c.put_edge-2.ensures.w_after c.put_edge-2.ensures.d_after

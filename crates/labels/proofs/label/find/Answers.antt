@@ -25,15 +25,6 @@ start_in c =
     let s = c.requires.some in
     omega (arith, s.forest.long, in_length s.inside c.args.start (gate_in s.inside c.args.w.now s.rs s.forest c.args.start c.requires.gate))
 
-pub overflow_cast-p : goal.overflow_cast-p
-overflow_cast-p c = omega (arith, start_in c)
-
-pub offset_bounds-w-x : goal.offset_bounds-w-x
-offset_bounds-w-x c = omega (arith, start_in c)
-
-pub bounds-w-x : goal.bounds-w-x
-bounds-w-x c = start_in (goal.at.bounds-w-x c).Start
-
 pub loop-p-init : goal.loop-p-init
 loop-p-init c = (refl, λ inside rs F. record { forest = F; in_x = gate_in inside c.args.w.now rs F c.args.start c.requires.gate; same = refl })
 
@@ -43,32 +34,14 @@ overflow_add-x c = omega (arith, at c, tight c)
 pub overflow_sub-q : goal.overflow_sub-q
 overflow_sub-q c = omega (arith, at (goal.at.overflow_sub-q c).At-loop-p)
 
-pub overflow_cast-q : goal.overflow_cast-q
-overflow_cast-q c = omega (arith, at (goal.at.overflow_cast-q c).At-loop-p, tight (goal.at.overflow_cast-q c).At-loop-p)
-
-pub offset_bounds-w-p : goal.offset_bounds-w-p
-offset_bounds-w-p c = omega (arith, at (goal.at.offset_bounds-w-p c).At-loop-p, tight (goal.at.offset_bounds-w-p c).At-loop-p)
-
 pub bounds-w-p : goal.bounds-w-p
 bounds-w-p c = (at (goal.at.bounds-w-p c).At-loop-p).p_in
-
-pub overflow_cast-w : goal.overflow_cast-w
-overflow_cast-w c = omega (arith, at (goal.at.overflow_cast-w c).At-loop-p, tight (goal.at.overflow_cast-w c).At-loop-p)
-
-pub offset_bounds-w-x-in-loop-p : goal.offset_bounds-w-x-in-loop-p
-offset_bounds-w-x-in-loop-p c = omega (arith, at (goal.at.offset_bounds-w-x-in-loop-p c).At-loop-p, tight (goal.at.offset_bounds-w-x-in-loop-p c).At-loop-p)
 
 pub bounds-w-x-in-loop-p : goal.bounds-w-x-in-loop-p
 bounds-w-x-in-loop-p c = (at (goal.at.bounds-w-x-in-loop-p c).At-loop-p).x_in
 
 pub overflow_sub-x : goal.overflow_sub-x
 overflow_sub-x c = (at (goal.at.overflow_sub-x c).At-loop-p).q_some
-
-pub overflow_cast-p-in-loop-p : goal.overflow_cast-p-in-loop-p
-overflow_cast-p-in-loop-p c = omega (arith, at (goal.at.overflow_cast-p-in-loop-p c).At-loop-p, tight (goal.at.overflow_cast-p-in-loop-p c).At-loop-p)
-
-pub offset_bounds-w-x-in-loop-p-2 : goal.offset_bounds-w-x-in-loop-p-2
-offset_bounds-w-x-in-loop-p-2 c = omega (arith, at (goal.at.offset_bounds-w-x-in-loop-p-2 c).At-loop-p, tight (goal.at.offset_bounds-w-x-in-loop-p-2 c).At-loop-p)
 
 pub bounds-w-x-in-loop-p-2 : goal.bounds-w-x-in-loop-p-2
 bounds-w-x-in-loop-p-2 c = simp length-set (omega (arith, at (goal.at.bounds-w-x-in-loop-p-2 c).At-loop-p))

@@ -1,6 +1,6 @@
 -- `labels::label::label_gate` meets its contract. Assumes nothing.
 use Rattle.labels.proofs.GateLaws.{ahead_here, next_some, next_in, next_fits, next_less, none_labelled, first_labelled, later_labelled, first_words, later_words}
-use Rattle.std.proofs.Common.{◌≡◌, ◌+◌, ◌-◌, ◌<◌, ◌≤◌, length, get_or, refl, arith, length-set}
+use Rattle.std.proofs.Common.{◌≡◌, ◌+◌, ◌-◌, ◌<◌, ◌≤◌, length, get_or, refl, arith}
 use Rattle.labels.specs.Locals.{NoArray}
 use Rattle.labels.proofs.label.label_gate.Code.Mir.{function}
 use Rattle.labels.proofs.label.label_gate.Goals.{Start}
@@ -10,41 +10,26 @@ no_array : NoArray function
 no_array = refl
 
 gate : (c : Start) → c.args.g < c.args.n
-gate c = ahead_here c.args.u.now c.args.n c.requires.n_in_bounds c.args.g c.requires.ahead
+gate c = ahead_here c.args.u.now c.args.n c.requires.in_bounds c.args.g c.requires.ahead
 
 -- the band of a gate with a word, the place of its counter, and its parent
 some : (c : Start) → (get_or c.args.u.now (c.args.n + c.args.g) 0 ≡ 0 → ⊥) → 1 ≤ get_or c.args.u.now c.args.g 0
-some c = next_some c.args.u.now c.args.n c.requires.n_in_bounds c.args.g c.requires.ahead
+some c = next_some c.args.u.now c.args.n c.requires.in_bounds c.args.g c.requires.ahead
 
 place : (c : Start) → (get_or c.args.u.now (c.args.n + c.args.g) 0 ≡ 0 → ⊥) → c.args.n + c.args.n + (get_or c.args.u.now c.args.g 0 - 1) < length c.args.u.now
-place c = next_in c.args.u.now c.args.n c.requires.n_in_bounds c.args.g c.requires.ahead
+place c = next_in c.args.u.now c.args.n c.requires.in_bounds c.args.g c.requires.ahead
 
 less : (c : Start) → (get_or c.args.u.now (c.args.n + c.args.g) 0 ≡ 0 → ⊥) → (get_or c.args.u.now (c.args.n + c.args.g) 0 - 1 ≡ c.args.g → ⊥) → get_or c.args.u.now (c.args.n + c.args.g) 0 - 1 < c.args.g
-less c = next_less c.args.u.now c.args.n c.requires.n_in_bounds c.args.g c.requires.ahead
+less c = next_less c.args.u.now c.args.n c.requires.in_bounds c.args.g c.requires.ahead
 
 pub bounds-u-n : goal.bounds-u-n
 bounds-u-n c = omega (arith, gate (goal.at.bounds-u-n c).Start)
 
 pub returns-then-v-eq0 : goal.returns-then-v-eq0
-returns-then-v-eq0 c = let a = c.args in record { labels_gate = λ iv rs c₀ F N. none_labelled a.u.now a.n c.requires.n_in_bounds a.g c.requires.ahead iv rs c₀ F N c.if-v-eq0.true; n_unchanged = refl }
-
-pub overflow_cast-p : goal.overflow_cast-p
-overflow_cast-p c = omega (arith, c.slice_known-1.given (c.args.n + c.args.g))
-
-pub bounds-u-g : goal.bounds-u-g
-bounds-u-g c = omega (arith, gate (goal.at.bounds-u-g c).Start, c.requires.n_in_bounds)
+returns-then-v-eq0 c = let a = c.args in record { labels_gate = λ iv rs c₀ F N. none_labelled a.u.now a.n c.requires.in_bounds a.g c.requires.ahead iv rs c₀ F N c.if-v-eq0.true; words_unchanged = refl }
 
 pub overflow_sub-b : goal.overflow_sub-b
 overflow_sub-b c = some (goal.at.overflow_sub-b c).Start c.if-v-eq0.false
-
-pub overflow_cast-b : goal.overflow_cast-b
-overflow_cast-b c = omega (arith, place (goal.at.overflow_cast-b c).Start c.if-v-eq0.false)
-
-pub overflow_add-at-then-p-g : goal.overflow_add-at-then-p-g
-overflow_add-at-then-p-g c = omega (arith, place (goal.at.overflow_add-at-then-p-g c).Start c.if-v-eq0.false)
-
-pub offset_bounds-u-at : goal.offset_bounds-u-at
-offset_bounds-u-at c = omega (arith, place (goal.at.offset_bounds-u-at c).Start c.if-v-eq0.false)
 
 pub bounds-u-at : goal.bounds-u-at
 bounds-u-at c = place (goal.at.bounds-u-at c).Start c.if-v-eq0.false
@@ -52,30 +37,16 @@ bounds-u-at c = place (goal.at.bounds-u-at c).Start c.if-v-eq0.false
 pub overflow_add-k : goal.overflow_add-k
 overflow_add-k c =
     let a = c.args in
-    omega (arith, next_fits a.u.now a.n c.requires.n_in_bounds a.g c.requires.ahead c.if-v-eq0.false)
-
-pub offset_bounds-u-at-then-p-g : goal.offset_bounds-u-at-then-p-g
-offset_bounds-u-at-then-p-g c = omega (arith, place (goal.at.offset_bounds-u-at-then-p-g c).Start c.if-v-eq0.false)
+    omega (arith, next_fits a.u.now a.n c.requires.in_bounds a.g c.requires.ahead c.if-v-eq0.false)
 
 pub bounds-u-at-then-p-g : goal.bounds-u-at-then-p-g
 bounds-u-at-then-p-g c = place (goal.at.bounds-u-at-then-p-g c).Start c.if-v-eq0.false
 
-pub bounds-u-g-then-p-g : goal.bounds-u-g-then-p-g
-bounds-u-g-then-p-g c =
-    let a = c.args in
-    omega (arith, gate (goal.at.bounds-u-g-then-p-g c).Start, c.requires.n_in_bounds, length-set a.u.now (a.n + a.n + (get_or a.u.now a.g 0 - 1)) (get_or a.u.now (a.n + a.n + (get_or a.u.now a.g 0 - 1)) 0 + 1))
-
 pub returns-then-p-g : goal.returns-then-p-g
-returns-then-p-g c = let a = c.args in record { labels_gate = λ iv rs c₀ F N. first_labelled a.u.now a.n c.requires.n_in_bounds a.g c.requires.ahead iv rs c₀ F N c.if-v-eq0.false c.if-p-g.true; n_unchanged = first_words a.u.now a.n c.requires.n_in_bounds a.g c.requires.ahead (get_or a.u.now (a.n + a.n + (get_or a.u.now a.g 0 - 1)) 0 + 1) }
-
-pub offset_bounds-u-p : goal.offset_bounds-u-p
-offset_bounds-u-p c = omega (arith, gate (goal.at.offset_bounds-u-p c).Start, less (goal.at.offset_bounds-u-p c).Start c.if-v-eq0.false c.if-p-g.false)
+returns-then-p-g c = let a = c.args in record { labels_gate = λ iv rs c₀ F N. first_labelled a.u.now a.n c.requires.in_bounds a.g c.requires.ahead iv rs c₀ F N c.if-v-eq0.false c.if-p-g.true; words_unchanged = first_words a.u.now a.n c.requires.in_bounds a.g c.requires.ahead (get_or a.u.now (a.n + a.n + (get_or a.u.now a.g 0 - 1)) 0 + 1) }
 
 pub bounds-u-p : goal.bounds-u-p
-bounds-u-p c = omega (arith, gate (goal.at.bounds-u-p c).Start, c.requires.n_in_bounds, less (goal.at.bounds-u-p c).Start c.if-v-eq0.false c.if-p-g.false)
-
-pub bounds-u-g-2 : goal.bounds-u-g-2
-bounds-u-g-2 c = omega (arith, gate (goal.at.bounds-u-g-2 c).Start, c.requires.n_in_bounds)
+bounds-u-p c = omega (arith, gate (goal.at.bounds-u-p c).Start, c.requires.in_bounds, less (goal.at.bounds-u-p c).Start c.if-v-eq0.false c.if-p-g.false)
 
 pub returns : goal.returns
-returns c = let a = c.args in record { labels_gate = λ iv rs c₀ F N. later_labelled a.u.now a.n c.requires.n_in_bounds a.g c.requires.ahead iv rs c₀ F N c.if-v-eq0.false c.if-p-g.false; n_unchanged = later_words a.u.now a.n c.requires.n_in_bounds a.g c.requires.ahead (get_or a.u.now (get_or a.u.now (a.n + a.g) 0 - 1) 0) }
+returns c = let a = c.args in record { labels_gate = λ iv rs c₀ F N. later_labelled a.u.now a.n c.requires.in_bounds a.g c.requires.ahead iv rs c₀ F N c.if-v-eq0.false c.if-p-g.false; words_unchanged = later_words a.u.now a.n c.requires.in_bounds a.g c.requires.ahead (get_or a.u.now (get_or a.u.now (a.n + a.g) 0 - 1) 0) }

@@ -2,15 +2,14 @@
 use Rattle.labels.specs.Inside.Numbering.{Numbering}
 use Rattle.labels.specs.Inside.Bands.{marks}
 use Rattle.labels.specs.Inside.Forest.{Forest}
-use Rattle.lists.specs.Inside.Seg.{seg}
-use Rattle.std.proofs.Common.{◌≡◌, ℕ, suc, ◌+◌, ◌-◌, ◌≤◌, List, length, get_or, drop}
+use Rattle.labels.specs.Inside.Sheet.{bands_of, words_of, counts_of}
+use Rattle.std.proofs.Common.{◌≡◌, ℕ, suc, List, get_or}
 use Rattle.labels.proofs.label.number.Given as goal
 
 abbrev pub invariant-loop-g : goal.invariant-loop-g
-invariant-loop-g l =
-    (l.g ≤ l.n) × (length l.u ≡ length l.initial.u) × (seg l.u l.n l.n ≡ seg l.initial.u l.n l.n)
-    × ((rs : List ℕ) → Forest (marks (seg l.initial.u 0 l.n)) (seg l.initial.u l.n l.n) rs → ((i r : ℕ) → get_or rs i 0 ≡ suc r → get_or (seg l.initial.u 0 l.n) r 0 ≡ get_or (seg l.initial.u 0 l.n) i 0)
-    → Numbering (seg l.initial.u 0 l.n) rs (drop (l.n + l.n) l.initial.u) (seg l.u 0 l.n) (drop (l.n + l.n) l.u) l.g)
-
-abbrev pub decreases-loop-g : goal.decreases-loop-g
-decreases-loop-g l = l.n - l.g
+invariant-loop-g l = record {
+  words : words_of l.u l.n ≡ words_of l.initial.u l.n;
+  numbering : (rs : List ℕ) → Forest (marks (bands_of l.initial.u l.n)) (words_of l.initial.u l.n) rs
+      → ((i r : ℕ) → get_or rs i 0 ≡ suc r → get_or (bands_of l.initial.u l.n) r 0 ≡ get_or (bands_of l.initial.u l.n) i 0)
+      → Numbering (bands_of l.initial.u l.n) rs (counts_of l.initial.u l.n) (bands_of l.u l.n) (counts_of l.u l.n) l.g;
+}

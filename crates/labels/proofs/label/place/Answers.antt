@@ -10,13 +10,13 @@ use Rattle.labels.proofs.label.place.Goals as goal
 no_array : NoArray function
 no_array = refl
 
-pub returns-then-b-eq0 : goal.returns-then-b-eq0
-returns-then-b-eq0 c =
-    let a = c.args in
-    placed_out a.gates a.u.now a.n a.g a.b c.requires.next c.if-b-eq0.true
+pub returns-then-x-eq0 : goal.returns-then-x-eq0
+returns-then-x-eq0 c =
+    let a = c.args in let x = a.x in
+    placed_out x.gates a.u.now x.n x.g x.b c.requires.next c.if-x-eq0.true
 
 pub beside-requires : goal.beside-requires
 beside-requires c =
-    let a = c.args in
-    let some : 0 < a.b = omega (arith, c.if-b-eq0.false) in
-    let before : band_before a.gates (seg a.u.now 0 a.g) a.g ≡ a.b = sym c.requires.before_value ∙ sym c.if-b-before.true in record { next = c.requires.next; b_nonzero = (some, before); word_value = c.requires.word_value (later a.gates a.u.now a.n a.g a.b c.requires.next some before) }
+    let a = c.args in let x = a.x in
+    let some : 0 < x.b = omega (arith, c.if-x-eq0.false) in
+    let before : band_before x.gates (seg a.u.now 0 x.g) x.g ≡ x.b = sym c.requires.before_value ∙ sym c.if-x-before.true in record { next = c.requires.next; some = some; goes_on = before; word_value = c.requires.word_value (later x.gates a.u.now x.n x.g x.b c.requires.next some before) }

@@ -4,14 +4,14 @@ use Rattle.labels.specs.Inside.Forest.{Root}
 use Rattle.labels.proofs.ForestLaws.{some_after, gate_after, r_below, s_below, united_left, united_right, two_left, two_right}
 use Rattle.labels.specs.Locals.{NoArray}
 use Rattle.labels.proofs.label.unite.Code.Mir.{function}
-use Rattle.labels.proofs.label.unite.Goals.{After-find-r, After-find-s}
+use Rattle.labels.proofs.label.unite.Goals.{After-find-s}
 use Rattle.labels.proofs.label.unite.Goals as goal
 
 no_array : NoArray function
 no_array = refl
 
 -- the two roots, for the forest that is there
-one : (c : After-find-r) → Root c.requires.some.inside c.find-r.new.w c.requires.some.rs c.args.a c.find-r.result
+one : (c : After-find-s) → Root c.requires.some.inside c.find-r.new.w c.requires.some.rs c.args.a c.find-r.result
 one c =
     let s = c.requires.some in
     c.find-r.ensures s.inside s.rs s.forest
@@ -19,10 +19,10 @@ one c =
 two : (c : After-find-s) → Root c.requires.some.inside c.find-s.new.w c.requires.some.rs c.args.b c.find-s.result
 two c =
     let s = c.requires.some in
-    c.find-s.ensures s.inside s.rs (one c.before.before.before.before).forest
+    c.find-s.ensures s.inside s.rs (one c).forest
 
 record Bounds (w : List ℕ) (r s : ℕ) : Type 0 where
-  r-in : r < length w
+  r_in : r < length w
   s_in : s < length w
   small : length w + 1 < 2 ^ 32
 
@@ -30,32 +30,26 @@ bounds : (c : After-find-s) → Bounds c.find-s.new.w c.find-r.result c.find-s.r
 bounds c =
     let s = c.requires.some in
     let a = c.args in
-    let t = two c in
     record {
-      r-in = r_below s.inside c.find-r.new.w c.find-s.new.w s.rs a.a a.b c.find-r.result c.find-s.result (one c.before.before.before.before) t;
-      s_in = s_below s.inside c.find-r.new.w c.find-s.new.w s.rs a.a a.b c.find-r.result c.find-s.result (one c.before.before.before.before) t;
-      small = omega (arith, s.small, s.forest.long, t.forest.long);
+      r_in = r_below s.inside c.find-r.new.w c.find-s.new.w s.rs a.a a.b c.find-r.result c.find-s.result (one c) (two c);
+      s_in = s_below s.inside c.find-r.new.w c.find-s.new.w s.rs a.a a.b c.find-r.result c.find-s.result (one c) (two c);
+      small = omega (arith, s.small, s.forest.long, (two c).forest.long);
     }
-
-pub find-r-requires : goal.find-r-requires
-find-r-requires c = record { some = c.requires.some; gate = c.requires.gate.0 }
 
 pub find-s-requires : goal.find-s-requires
 find-s-requires c =
     let s = c.requires.some in
-    let F = (one (goal.at.find-s-requires c).After-find-r).forest in record { some = some_after c.args.w.now c.find-r.new.w s s.rs F; gate = gate_after s.inside c.args.w.now s.rs c.find-r.new.w s.rs s.forest F c.args.b c.requires.gate.1 }
-
-pub overflow_add-w : goal.overflow_add-w
-overflow_add-w c = omega (arith, bounds (goal.at.overflow_add-w c).After-find-s)
-
-pub overflow_cast-w : goal.overflow_cast-w
-overflow_cast-w c = omega (arith, bounds (goal.at.overflow_cast-w c).After-find-s)
-
-pub offset_bounds-w-s : goal.offset_bounds-w-s
-offset_bounds-w-s c = omega (arith, bounds (goal.at.offset_bounds-w-s c).After-find-s)
+    let F = (c.find-r.ensures s.inside s.rs s.forest).forest in
+    record { some = some_after c.args.w.now c.find-r.new.w s s.rs F; gate = gate_after s.inside c.args.w.now s.rs c.find-r.new.w s.rs s.forest F c.args.b c.requires.gate.1 }
 
 pub bounds-w-s : goal.bounds-w-s
 bounds-w-s c = (bounds (goal.at.bounds-w-s c).After-find-s).s_in
+
+pub overflow_add-w-2 : goal.overflow_add-w-2
+overflow_add-w-2 c = omega (arith, bounds (goal.at.overflow_add-w-2 c).After-find-s)
+
+pub bounds-w-r : goal.bounds-w-r
+bounds-w-r c = (bounds (goal.at.bounds-w-r c).After-find-s).r_in
 
 pub returns-then-r-s : goal.returns-then-r-s
 returns-then-r-s c =
@@ -69,18 +63,6 @@ returns-then-r-s c =
           let R = f.ensures inside rs F in
           united_left inside f.new.w k.new.w rs a.a a.b f.result k.result R (k.ensures inside rs R.forest) c.if-r-s.true;
     }
-
-pub overflow_add-w-2 : goal.overflow_add-w-2
-overflow_add-w-2 c = omega (arith, bounds (goal.at.overflow_add-w-2 c).After-find-s)
-
-pub overflow_cast-w-2 : goal.overflow_cast-w-2
-overflow_cast-w-2 c = omega (arith, bounds (goal.at.overflow_cast-w-2 c).After-find-s)
-
-pub offset_bounds-w-r : goal.offset_bounds-w-r
-offset_bounds-w-r c = omega (arith, bounds (goal.at.offset_bounds-w-r c).After-find-s)
-
-pub bounds-w-r : goal.bounds-w-r
-bounds-w-r c = (bounds (goal.at.bounds-w-r c).After-find-s).r-in
 
 pub returns : goal.returns
 returns c =

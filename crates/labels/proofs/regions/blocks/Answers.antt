@@ -1,50 +1,52 @@
--- `labels::regions::blocks` meets its contract. The invariant: labels and number are those of the intervals up to limit i. Assumes nothing.
-use Rattle.labels.proofs.PartLaws.{grow_begin, block_asks, grow_next, grow_end}
-use Rattle.std.proofs.Common.{refl, ◌∙◌, arith}
+-- `labels::regions::blocks` meets its contract. The invariant: labels and number are those of the intervals before i. Assumes nothing.
+use Rattle.labels.proofs.PartLaws.{Growing, grow_begin, part_sound, part_number, grow_next, grow_end}
+use Rattle.std.proofs.Common.{◌≡◌, ◌+◌, min, length, refl, subst, arith}
 use Rattle.labels.specs.Locals.{NoArray}
 use Rattle.labels.proofs.regions.blocks.Code.Mir.{function}
+use Rattle.labels.proofs.regions.blocks.Goals.{In-loop-i}
 use Rattle.labels.proofs.regions.blocks.Goals as goal
 
 no_array : NoArray function
 no_array = refl
 
-pub fill-requires : goal.fill-requires
-fill-requires c = omega (arith, c.requires.ample.long)
+-- i is a limit where a block begins
+grown : (c : In-loop-i) → Growing c.args.s.per_ray c.args.s.velocity.now c.args.s.valid.now c.args.s.limits.now (length c.args.s.velocity.now) c.loop-i.u c.loop-i.k c.loop-i.i
+grown c =
+    let s = c.args.s in
+    let e : min c.loop-i.i c.saturating_sub-intervals.result ≡ c.loop-i.i = omega arith in
+    subst (Growing s.per_ray s.velocity.now s.valid.now s.limits.now (length s.velocity.now) c.loop-i.u c.loop-i.k) e c.loop-i.invariant
 
 pub loop-i-init : goal.loop-i-init
 loop-i-init c =
-    let a = c.args in let f = c.fill in
-    (omega arith, refl, grow_begin a.gates a.velocity.now a.valid.now a.limits.now a.n c.requires.same c.requires.ample.rising a.u.now f.new.w (omega (arith, c.requires.ample.long)) f.ensures)
+    let s = c.args.s in
+    let e : 0 ≡ min 0 c.saturating_sub-intervals.result = omega arith in
+    subst (Growing s.per_ray s.velocity.now s.valid.now s.limits.now (length s.velocity.now) c.fill.new.w 0) e
+    (grow_begin s.per_ray s.velocity.now s.valid.now s.limits.now (length s.velocity.now) s.sound c.args.u.now c.fill.new.w (omega arith) c.fill.ensures)
 
-pub overflow_add-e : goal.overflow_add-e
-overflow_add-e c = omega (arith, c.block_end-j.ensures)
+pub invariant_of-block : goal.invariant_of-block
+invariant_of-block c =
+    let s = c.args.s in
+    let l = c.loop-i in
+    record { sound = part_sound s.per_ray s.velocity.now s.valid.now s.limits.now (length s.velocity.now) s.sound l.u l.k l.i c.min-e.result (grown (goal.at.invariant_of-block c).In-loop-i) (omega arith) (omega arith) }
 
-pub offset_bounds-limits-i : goal.offset_bounds-limits-i
-offset_bounds-limits-i c = omega (arith, c.block_end-j.ensures)
-
-pub slice_bounds-block-count : goal.slice_bounds-block-count
-slice_bounds-block-count c = omega (arith, c.block_end-j.ensures)
-
-pub slice_bounds-block-start : goal.slice_bounds-block-start
-slice_bounds-block-start c = omega (arith, c.block_end-j.ensures)
-
-pub slice_bounds-block-end : goal.slice_bounds-block-end
-slice_bounds-block-end c = omega (arith, c.block_end-j.ensures)
-
-pub block-k-requires : goal.block-k-requires
-block-k-requires c =
-    let a = c.args in let l = c.loop-i in let b = c.block_end-j in
-    let h = block_asks a.gates a.velocity.now a.valid.now a.limits.now a.n c.requires.same c.requires.ample.rising l.u l.k l.i b.result l.invariant.2 b.ensures.0 b.ensures.1 b.ensures.2 c.requires.ample.some_gates c.requires.ample.few_limits (l.invariant.1 ∙ c.fill.auto.w ∙ c.requires.ample.long) in record { same = c.requires.same; block = h.0; limits_bound = h.1 }
-
-pub loop-i-smaller : goal.loop-i-smaller
-loop-i-smaller c = omega (arith, c.block_end-j.ensures)
+pub block-k-requires-clause-number_bound : goal.block-k-requires-clause-number_bound
+block-k-requires-clause-number_bound c =
+    let s = c.args.s in
+    let l = c.loop-i in
+    part_number s.per_ray s.velocity.now s.valid.now s.limits.now (length s.velocity.now) s.sound l.u l.k l.i c.min-e.result (grown (goal.at.block-k-requires-clause-number_bound c).In-loop-i) (omega arith) (omega arith)
 
 pub loop-i-preserved : goal.loop-i-preserved
 loop-i-preserved c =
-    let a = c.args in let l = c.loop-i in let b = c.block_end-j in let f = c.block-k in
-    (omega (arith, b.ensures.1), f.auto.u ∙ l.invariant.1, grow_next a.gates a.velocity.now a.valid.now a.limits.now a.n c.requires.same c.requires.ample.rising l.u l.k l.i b.result l.invariant.2 b.ensures.0 b.ensures.1 f.new.u f.result f.ensures)
+    let s = c.args.s in
+    let l = c.loop-i in
+    let e : c.min-e.result ≡ min (l.i + 64) c.saturating_sub-intervals.result = omega arith in
+    subst (Growing s.per_ray s.velocity.now s.valid.now s.limits.now (length s.velocity.now) c.block-k.new.u c.block-k.result) e
+    (grow_next s.per_ray s.velocity.now s.valid.now s.limits.now (length s.velocity.now) s.sound l.u l.k l.i c.min-e.result (grown (goal.at.loop-i-preserved c).In-loop-i) (omega arith) (omega arith) c.block-k.new.u c.block-k.result c.block-k.ensures)
 
-pub returns : goal.returns
-returns c =
-    let a = c.args in let l = c.loop-i in
-    grow_end a.gates a.velocity.now a.valid.now a.limits.now a.n c.requires.same c.requires.ample.rising l.u l.k l.i l.invariant.2 (omega arith)
+pub returns-2 : goal.returns-2
+returns-2 c =
+    let s = c.args.s in
+    let l = c.loop-i in
+    grow_end s.per_ray s.velocity.now s.valid.now s.limits.now (length s.velocity.now) s.sound c.block-k.new.u c.block-k.result c.min-e.result
+    (grow_next s.per_ray s.velocity.now s.valid.now s.limits.now (length s.velocity.now) s.sound l.u l.k l.i c.min-e.result (grown (goal.at.returns-2 c).In-loop-i) (omega arith) (omega arith) c.block-k.new.u c.block-k.result c.block-k.ensures)
+    (omega arith)

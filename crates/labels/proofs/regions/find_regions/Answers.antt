@@ -9,12 +9,6 @@ use Rattle.labels.proofs.regions.find_regions.Goals as goal
 no_array : NoArray function
 no_array = refl
 
-pub label_gates-r-requires : goal.label_gates-r-requires
-label_gates-r-requires c = c.requires
-
-pub fill-requires : goal.fill-requires
-fill-requires c = omega (arith, c.requires.long, c.label_gates-r.auto.u)
-
 pub returns : goal.returns
 returns c =
     let a = c.args in let f = c.label_gates-r in let z = c.fill in

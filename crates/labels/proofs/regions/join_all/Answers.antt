@@ -1,82 +1,37 @@
 -- `labels::regions::join_all` meets its contract. The invariant: the gates before g are placed. Assumes nothing.
-use Rattle.labels.proofs.ScanLaws.{scan_begin, along_in, next, scan_next, scan_end}
-use Rattle.labels.proofs.WholeLaws.{still_fits}
-use Rattle.labels.specs.Inside.Sheet.{Fitting}
-use Rattle.std.proofs.Common.{◌+◌, ◌-◌, length, set, refl, ◌∙◌, arith, length-set}
+use Rattle.labels.proofs.ScanLaws.{scan_begin, scan_next, scan_end}
+use Rattle.std.proofs.Common.{◌≡◌, ◌+◌, ◌-◌, length, refl, arith}
 use Rattle.labels.specs.Locals.{NoArray}
 use Rattle.labels.proofs.regions.join_all.Code.Mir.{function}
-use Rattle.labels.proofs.regions.join_all.Goals.{At-loop-g}
+use Rattle.labels.proofs.regions.join_all.Goals.{then-b-ne0, else-b-ne0, then-along-gates, else-along-gates, then-along-eq0, else-along-eq0}
 use Rattle.labels.proofs.regions.join_all.Goals as goal
 
 no_array : NoArray function
 no_array = refl
 
--- the slice keeps its length
-fits : (c : At-loop-g) → Fitting c.args.gates c.args.limits.now c.loop-g.u c.args.n
-fits c =
-    still_fits c.args.gates c.args.limits.now c.args.u.now c.loop-g.u c.args.n c.loop-g.invariant.1 c.requires.fitting
-
 pub loop-g-init : goal.loop-g-init
 loop-g-init c =
-    let a = c.args in
-    (omega arith, refl, scan_begin a.gates a.limits.now a.velocity.now a.valid.now a.n a.u.now (length a.limits.now - 1) c.requires.n_value)
-
-pub bounds-velocity-g : goal.bounds-velocity-g
-bounds-velocity-g c =
-    let a = c.args in
-    omega (arith, c.requires.same.velocities)
-
-pub bounds-valid-g : goal.bounds-valid-g
-bounds-valid-g c =
-    let a = c.args in
-    omega (arith, c.requires.same.masks)
-
-pub near-b-requires : goal.near-b-requires
-near-b-requires c =
-    let a = c.args in
-    let l = c.loop-g in record { rising = c.requires.fitting.rising; limits_len_bound = (c.requires.fitting.few_limits, l.invariant.2.last_small) }
-
-pub place-word-requires : goal.place-word-requires
-place-word-requires c =
-    let a = c.args in
-    let l = c.loop-g in
-    let f = c.near-b in record { next = next a.gates a.limits.now a.velocity.now a.valid.now a.n l.u l.last l.before l.word l.along l.g l.invariant.2 c.requires.same (fits (goal.at.place-word-requires c).At-loop-g) c.loop-g-test.true f.result f.ensures; before_value = l.invariant.2.before_is; word_value = l.invariant.2.word_is }
-
-pub bounds-u-g : goal.bounds-u-g
-bounds-u-g c =
-    let a = c.args in
-    let l = c.loop-g in
-    omega (arith, c.place-word.auto.u, l.invariant.1, c.requires.fitting.long)
-
-pub bounds-u-n : goal.bounds-u-n
-bounds-u-n c =
-    let a = c.args in
-    let l = c.loop-g in
-    let f = c.place-word in
-    omega (arith, length-set f.new.u l.g c.near-b.result, f.auto.u, l.invariant.1, c.requires.fitting.long)
-
-pub next_along-along-requires : goal.next_along-along-requires
-next_along-along-requires c =
-    let a = c.args in
-    let l = c.loop-g in
-    along_in a.gates a.limits.now a.velocity.now a.valid.now a.n l.u l.last l.before l.word l.along l.g l.invariant.2 c.requires.same (fits (goal.at.next_along-along-requires c).At-loop-g) c.loop-g-test.true
+    let s = c.args.s in
+    scan_begin s.per_ray s.limits.now s.velocity.now s.valid.now (length s.velocity.now) c.args.u.now (length s.limits.now - 1) c.requires.zeros
 
 pub loop-g-preserved : goal.loop-g-preserved
 loop-g-preserved c =
-    let a = c.args in
+    let s = c.args.s in
     let l = c.loop-g in
     let f = c.near-b in
     let p = c.place-word in
-    let v = p.new.u in (
-      omega (arith, c.loop-g-test.true),
-      length-set (set v l.g f.result) (a.n + l.g) p.result ∙ length-set v l.g f.result ∙ p.auto.u ∙ l.invariant.1,
-      scan_next a.gates a.limits.now a.velocity.now a.valid.now a.n l.u l.last l.before l.word l.along l.g l.invariant.2 c.requires.same (fits (goal.at.loop-g-preserved c).At-loop-g) c.loop-g-test.true
-          f.result f.ensures v p.auto.u p.result p.ensures c.kept-last.result c.next_along-along.result c.on_ray-before.result c.kept-last.ensures c.next_along-along.ensures c.on_ray-before.ensures,
-    )
+    let last : (f.result ≡ 0 → c.if-b-ne0.last ≡ l.last) × ((f.result ≡ 0 → ⊥) → c.if-b-ne0.last ≡ f.result) =
+    elim c.if-b-ne0.branch [ then-b-ne0 w ↦ (λ z. absurd (w.if-b-ne0.true z), λ n. w.last-is) | else-b-ne0 w ↦ (λ z. w.last-is, λ n. absurd (n w.if-b-ne0.false)) ] in
+    let along : (l.along + 1 ≡ s.per_ray → c.if-along-gates.along ≡ 0) × ((l.along + 1 ≡ s.per_ray → ⊥) → c.if-along-gates.along ≡ l.along + 1) =
+    elim c.if-along-gates.branch [ then-along-gates w ↦ (λ z. w.along-is, λ n. absurd (n w.if-along-gates.true)) | else-along-gates w ↦ (λ z. absurd (w.if-along-gates.false z), λ n. w.along-is) ] in
+    let before : (c.if-along-gates.along ≡ 0 → c.if-along-eq0.before ≡ 0) × ((c.if-along-gates.along ≡ 0 → ⊥) → c.if-along-eq0.before ≡ f.result) =
+    elim c.if-along-eq0.branch [ then-along-eq0 w ↦ (λ z. w.before-is, λ n. absurd (n w.if-along-eq0.true)) | else-along-eq0 w ↦ (λ z. absurd (w.if-along-eq0.false z), λ n. w.before-is) ] in
+    scan_next s.per_ray s.limits.now s.velocity.now s.valid.now (length s.velocity.now) l.u l.last l.before l.word l.along l.g l.invariant s.sound (omega arith) c.loop-g-test.true
+    f.result f.ensures p.new.u p.auto.u p.result p.ensures c.if-b-ne0.last c.if-along-gates.along c.if-along-eq0.before last along before
 
 pub returns : goal.returns
 returns c =
-    let a = c.args in
+    let s = c.args.s in
     let l = c.loop-g in
-    let h = scan_end a.gates a.limits.now a.velocity.now a.valid.now a.n l.u l.last l.before l.word l.along l.g l.invariant.2 (omega arith) c.requires.same (fits (goal.at.returns c).At-loop-g) in
+    let h = scan_end s.per_ray s.limits.now s.velocity.now s.valid.now (length s.velocity.now) l.u l.last l.before l.word l.along l.g l.invariant (omega arith) s.sound (omega arith) in
     record { bands = h.0; areas_of = h.1 }

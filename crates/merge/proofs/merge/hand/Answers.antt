@@ -1,47 +1,21 @@
 -- `merge::merge::hand` meets its contract. Assumes nothing.
-use Rattle.merge.proofs.MergeDoes.{hand_walk, hand_splice, hand_grow, hand_does}
+use Rattle.merge.proofs.MergeDoes.{hand_walk, hand_grow, hand_does}
 use Rattle.merge.proofs.merge.hand.Goals as goal
 
-pub walk_moved-requires : goal.walk_moved-requires
-walk_moved-requires c =
-    let a = c.args in
+pub walk_moved-requires-clause-sound : goal.walk_moved-requires-clause-sound
+walk_moved-requires-clause-sound c =
+    let a = c.args in let u = a.step in
     let p = c.requires in let j = c.prune in
-    let h = hand_walk a.m a.n a.b a.v a.g a.w.now a.d.now p.holds_tables p.sound p.gains p.fit j.new.w j.new.d j.auto.w j.auto.d j.ensures in
-    record { holds_tables = h.0; sound = h.1.0; gains = h.1.1 }
+    hand_walk a.at.edges a.at.nodes u.base u.moved u.gain a.w.now a.d.now p.gains j.new.w j.new.d j.ensures p.sound
 
-pub splice-requires : goal.splice-requires
-splice-requires c =
-    let a = c.args in
-    let p = c.requires in
-    let j = c.prune in
-    let k = c.walk_moved in
-    let h = hand_splice a.m a.n a.b a.v a.g a.w.now a.d.now p.holds_tables p.sound p.gains p.fit j.new.w j.new.d j.auto.w j.auto.d j.ensures
-    k.new.w k.new.d k.auto.w k.auto.d k.ensures in
-    record { holds_tables = h.0; b_lt_n = h.1 }
-
-pub grow-requires : goal.grow-requires
-grow-requires c =
-    let a = c.args
-    in
-    let p = c.requires
-    in
-    let j = c.prune in
-    let k = c.walk_moved in
-    let u = c.splice in
-    let h = hand_grow a.m a.n a.b a.v a.g a.w.now a.d.now p.holds_tables p.sound p.gains p.fit j.new.w j.new.d j.auto.w j.auto.d j.ensures
-    k.new.w k.new.d k.auto.w k.auto.d k.ensures u.new.w u.new.d u.auto.w u.auto.d u.ensures in
-    record { holds_tables = h.0; fit = h.1 }
+pub grow-requires-clause-fit : goal.grow-requires-clause-fit
+grow-requires-clause-fit c =
+    let a = c.args in let u = a.step in
+    let p = c.requires in let j = c.prune in let k = c.walk_moved in let z = c.splice in
+    hand_grow a.at.edges a.at.nodes u.base u.moved u.gain a.w.now a.d.now p.gains j.new.w j.new.d j.ensures k.new.w k.new.d k.ensures z.new.w z.new.d z.ensures p.fit
 
 pub returns : goal.returns
 returns c =
-    let a = c.args
-    in
-    let p = c.requires
-    in
-    let j = c.prune
-    in
-    let k = c.walk_moved in
-    let u = c.splice in
-    hand_does a.m a.n a.b a.v a.g a.w.now a.d.now p.holds_tables p.sound p.gains p.fit j.new.w j.new.d j.auto.w j.auto.d j.ensures
-    k.new.w k.new.d k.auto.w k.auto.d k.ensures u.new.w u.new.d u.auto.w u.auto.d u.ensures _ _
-    c.grow.ensures
+    let a = c.args in let u = a.step in
+    let j = c.prune in let k = c.walk_moved in let z = c.splice in
+    hand_does a.at.edges a.at.nodes u.base u.moved u.gain a.w.now a.d.now c.requires.gains j.new.w j.new.d j.ensures k.new.w k.new.d k.ensures z.new.w z.new.d z.ensures _ _ c.grow.ensures

@@ -1,35 +1,33 @@
 -- `merge::merge::join_edge` meets its contract. Assumes nothing.
 use Rattle.merge.specs.Inside.Tables.{view}
-use Rattle.merge.proofs.JoinDoes.{join_apart, join_attaches, face_room, join_faced}
+use Rattle.merge.proofs.Mates.{mate_is}
+use Rattle.merge.proofs.JoinDoes.{join_apart, join_attaches, faced_sound, join_faced}
+use Rattle.std.proofs.Common.{sym}
 use Rattle.merge.proofs.merge.join_edge.Goals as goal
 
-pub mate-q-requires : goal.mate-q-requires
-mate-q-requires c = let p = c.requires in record { holds_tables = p.holds_tables; sound = p.sound; b_lt_n = (p.joins.b_in, p.joins.c_in) }
+pub face-requires-clause-edge_in : goal.face-requires-clause-edge_in
+face-requires-clause-edge_in c = let a = c.args in (mate_is a.at.edges a.b a.c (view a.at.edges a.at.nodes a.w.now a.d.now) c.in-Some.q (sym c.in-Some.ensures)).q_in
 
-pub face-requires : goal.face-requires
-face-requires c = let p = c.requires in record { holds_tables = p.holds_tables; sound = p.sound; f_lt_m = c.if-q-m.true }
-
-pub absorb-requires : goal.absorb-requires
-absorb-requires c =
-    let i = c.if-q-m in
+pub absorb-requires-clause-sound : goal.absorb-requires-clause-sound
+absorb-requires-clause-sound c =
     let a = c.args in
-    let p = c.requires in
-    let y = c.mate-q in let z = c.face in
-    let u = face_room a.m a.n a.w.now a.d.now y.result z.new.w z.new.d p.holds_tables p.sound i.true z.auto.w z.auto.d z.ensures in record { holds_tables = u.0; sound = u.1; other_edge = join_apart a.m a.n a.b (view a.m a.n a.w.now a.d.now) a.f a.c y.result p.joins y.ensures i.true; t = p.t }
-
-pub returns-then-q-m : goal.returns-then-q-m
-returns-then-q-m c =
-    let a = c.args in
-    let y = c.mate-q in
     let z = c.face in
-    join_faced a.m a.n a.b a.w.now a.d.now a.f a.c y.result a.x z.new.w z.new.d _ _ y.ensures
-    c.if-q-m.true z.ensures
-    c.absorb.ensures
+    let p = c.requires in
+    let q_in = (mate_is a.at.edges a.b a.c (view a.at.edges a.at.nodes a.w.now a.d.now) c.in-Some.q (sym c.in-Some.ensures)).q_in in
+    faced_sound a.at.edges a.at.nodes a.w.now a.d.now c.in-Some.q z.new.w z.new.d p.sound q_in z.ensures
 
-pub attach-requires : goal.attach-requires
-attach-requires c = let p = c.requires in record { holds_tables = p.holds_tables; f_lt_m = p.joins.f_in }
+pub absorb-requires-clause-other_edge : goal.absorb-requires-clause-other_edge
+absorb-requires-clause-other_edge c =
+    let a = c.args in
+    join_apart a.at.edges a.at.nodes a.b (view a.at.edges a.at.nodes a.w.now a.d.now) a.f a.c c.in-Some.q c.requires.joins (sym c.in-Some.ensures)
 
-pub returns : goal.returns
-returns c =
-    let m' = c.mate-q in
-    let a = c.args in join_attaches a.m a.n a.b (view a.m a.n a.w.now a.d.now) a.f a.c m'.result a.x _ _ m'.ensures c.if-q-m.false c.attach.ensures
+pub returns-in-Some : goal.returns-in-Some
+returns-in-Some c =
+    let a = c.args in
+    let z = c.face in
+    join_faced a.at.edges a.at.nodes a.b a.w.now a.d.now a.f a.c c.in-Some.q a.x z.new.w z.new.d _ _ (sym c.in-Some.ensures) z.ensures c.absorb.ensures
+
+pub returns-in-None : goal.returns-in-None
+returns-in-None c =
+    let a = c.args in
+    join_attaches a.at.edges a.at.nodes a.b (view a.at.edges a.at.nodes a.w.now a.d.now) a.f a.c a.x _ _ (sym c.in-None.ensures) c.attach.ensures

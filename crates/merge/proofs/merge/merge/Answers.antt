@@ -1,59 +1,40 @@
 -- `merge::merge::merge` meets its contract. Assumes nothing.
-use Rattle.merge.proofs.MergeDoes.{merge_stamp, merge_raise, merge_refused, merge_hand, merge_done}
+use Rattle.merge.proofs.MergeDoes.{merge_raise, merge_refused, merge_hand, merge_fit, merge_done}
+use Rattle.merge.proofs.Leaf.{room_of}
+use Rattle.std.proofs.Common.{◌∙◌}
+use Rattle.std.proofs.lemmas.Result.{err_from_is_err_and}
 use Rattle.merge.proofs.merge.merge.Goals as goal
 
-pub stamp-requires : goal.stamp-requires
-stamp-requires c =
-    let a = c.args in let p = c.requires in
-    let y = c.weigh in
-    let h = merge_stamp a.m a.n a.b a.v a.g a.k a.e a.w.now a.d.now p.holds_tables p.sound p.gains p.fit
-    p.e_lt_m y.new.w y.ensures in
-    record { holds_tables = h.0; b_lt_n = h.1 }
+pub walk_raise-requires-clause-sound : goal.walk_raise-requires-clause-sound
+walk_raise-requires-clause-sound c =
+    let a = c.args in let u = a.step in let p = c.requires in let y = c.weigh in let z = c.stamp in
+    merge_raise a.at.edges a.at.nodes u.base u.moved u.gain a.k a.e a.w.now a.d.now p.holds_tables p.sound p.gains p.edge_in y.new.w y.ensures z.new.w z.new.d z.ensures
 
-pub walk_raise-ok-requires : goal.walk_raise-ok-requires
-walk_raise-ok-requires c =
-    let a = c.args in
-    let p = c.requires in
-    let y = c.weigh in let u = c.stamp in
-    let h = merge_raise a.m a.n a.b a.v a.g a.k a.e a.w.now a.d.now p.holds_tables p.sound p.gains p.fit p.e_lt_m y.new.w y.ensures u.new.w
-    u.new.d u.auto.w u.auto.d u.ensures in
-    record { holds_tables = h.0; sound = h.1.0; v_lt_n = h.1.1 }
+pub returns-in_err-walk_raise : goal.returns-in_err-walk_raise
+returns-in_err-walk_raise c =
+    let a = c.args in let u = a.step in let p = c.requires in let y = c.weigh in let z = c.stamp in let k = c.walk_raise in
+    let f = err_from_is_err_and c.from_residual.result c.from_residual.ensures.1 in
+    rw f.1
+    (merge_refused a.at.edges a.at.nodes u.base u.moved u.gain a.k a.e a.w.now a.d.now p.holds_tables p.sound p.gains p.edge_in y.new.w y.ensures z.new.w z.new.d z.ensures k.new.w k.new.d f.0 c.in_err-walk_raise.ensures)
 
-pub returns-then-not-ok : goal.returns-then-not-ok
-returns-then-not-ok c =
-    let a = c.args in
-    let p = c.requires in
-    let y = c.weigh in
-    let u = c.stamp in
-    let z = c.walk_raise-ok in
-    merge_refused a.m a.n a.b a.v a.g a.k a.e a.w.now a.d.now p.holds_tables p.sound p.gains p.fit p.e_lt_m y.new.w y.ensures
-    u.new.w u.new.d u.auto.w u.auto.d u.ensures z.new.w z.new.d z.auto.w z.auto.d z.result z.ensures c.if-not-ok.true
-    _ _
+pub hand-requires-clause-holds_tables : goal.hand-requires-clause-holds_tables
+hand-requires-clause-holds_tables c =
+    let a = c.args in let u = a.step in let p = c.requires in let y = c.weigh in let z = c.stamp in let k = c.walk_raise in
+    room_of a.at.edges a.at.nodes a.w.now k.new.w a.d.now k.new.d p.holds_tables (k.auto.w ∙ z.auto.w ∙ y.auto.w) (k.auto.d ∙ z.auto.d)
+    (merge_hand a.at.edges a.at.nodes u.base u.moved u.gain a.k a.e a.w.now a.d.now p.holds_tables p.sound p.gains p.edge_in y.new.w y.ensures z.new.w z.new.d z.ensures k.new.w k.new.d c.in_ok-walk_raise.ensures).0
 
-pub hand-requires : goal.hand-requires
-hand-requires c =
-    let a = c.args
-    in
-    let p = c.requires
-    in
-    let y = c.weigh in
-    let u = c.stamp in
-    let z = c.walk_raise-ok in
-    let h = merge_hand a.m a.n a.b a.v a.g a.k a.e a.w.now a.d.now p.holds_tables p.sound p.gains p.fit p.e_lt_m y.new.w y.ensures u.new.w
-    u.new.d u.auto.w u.auto.d u.ensures z.new.w z.new.d z.auto.w z.auto.d z.result z.ensures
-    c.if-not-ok.false in
-    record { holds_tables = h.0; sound = h.1.0; gains = h.1.1.0; fit = h.1.1.1 }
+pub hand-requires-clause-sound : goal.hand-requires-clause-sound
+hand-requires-clause-sound c =
+    let a = c.args in let u = a.step in let p = c.requires in let y = c.weigh in let z = c.stamp in let k = c.walk_raise in
+    (merge_hand a.at.edges a.at.nodes u.base u.moved u.gain a.k a.e a.w.now a.d.now p.holds_tables p.sound p.gains p.edge_in y.new.w y.ensures z.new.w z.new.d z.ensures k.new.w k.new.d c.in_ok-walk_raise.ensures).1
+
+pub hand-requires-clause-fit : goal.hand-requires-clause-fit
+hand-requires-clause-fit c =
+    let a = c.args in let u = a.step in let p = c.requires in let y = c.weigh in let z = c.stamp in let k = c.walk_raise in
+    merge_fit a.at.edges a.at.nodes u.base u.moved u.gain a.k a.e a.w.now a.d.now p.holds_tables p.sound p.gains p.edge_in y.new.w y.ensures z.new.w z.new.d z.ensures k.new.w k.new.d c.in_ok-walk_raise.ensures p.fit
 
 pub returns : goal.returns
 returns c =
-    let a = c.args
-    in
-    let p = c.requires
-    in
-    let y = c.weigh
-    in
-    let u = c.stamp in
-    let z = c.walk_raise-ok in
-    merge_done a.m a.n a.b a.v a.g a.k a.e a.w.now a.d.now p.holds_tables p.sound p.gains p.fit p.e_lt_m y.new.w y.ensures u.new.w
-    u.new.d u.auto.w u.auto.d u.ensures z.new.w z.new.d z.auto.w z.auto.d z.result z.ensures
-    c.if-not-ok.false _ _ c.hand.ensures
+    let a = c.args in let u = a.step in let p = c.requires in let y = c.weigh in let z = c.stamp in let k = c.walk_raise in
+    merge_done a.at.edges a.at.nodes u.base u.moved u.gain a.k a.e a.w.now a.d.now p.holds_tables p.sound p.gains p.edge_in y.new.w y.ensures z.new.w z.new.d z.ensures k.new.w k.new.d c.in_ok-walk_raise.ensures
+    _ _ c.hand.ensures

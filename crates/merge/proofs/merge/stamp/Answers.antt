@@ -1,6 +1,8 @@
 -- `merge::merge::stamp` meets its contract. Assumes nothing.
-use Rattle.merge.proofs.Leaf.{stamp_does}
+use Rattle.merge.specs.Inside.Table.{stamp}
+use Rattle.merge.proofs.Stores.{holding, stored, leaves}
+use Rattle.std.proofs.Common.{refl}
 use Rattle.merge.proofs.merge.stamp.Goals as goal
 
 pub returns : goal.returns
-returns c = let a = c.args in stamp_does a.m a.n a.w.now a.d.now c.requires.holds_tables a.b a.k c.requires.b_lt_n
+returns c = rw c.stamp.ensures (leaves (stored (holding c.requires.holds_tables) stamp refl c.args.b c.args.k c.args.k c.requires.node_in refl))

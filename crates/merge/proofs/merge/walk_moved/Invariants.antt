@@ -1,12 +1,10 @@
 -- `merge::merge::walk_moved` meets its contract. Assumes nothing.
-use Rattle.merge.proofs.Walks.{Walk, along_moved}
+use Rattle.merge.proofs.Walks.{Walk}
 use Rattle.merge.specs.Inside.Steps.{moved_all}
 use Rattle.merge.specs.Inside.Tables.{view}
-use Rattle.std.proofs.Common.{◌-◌}
 use Rattle.merge.proofs.merge.walk_moved.Given as goal
 
-abbrev pub invariant-loop-i : goal.invariant-loop-i
-invariant-loop-i l = Walk l.m l.n (along_moved l.m l.b l.v l.g) l.initial.w l.initial.d l.w l.d l.l l.x l.i (moved_all l.m l.b l.v l.g (view l.m l.n l.initial.w l.initial.d))
-
-abbrev pub decreases-loop-i : goal.decreases-loop-i
-decreases-loop-i l = l.l - l.i
+abbrev pub invariant-loop : goal.invariant-loop
+invariant-loop l =
+    let p = l.step in
+    Walk l.at.edges l.at.nodes p.base p.moved p.gain l.w l.d l.l l.x l.counter (moved_all l.at.edges p.base p.moved p.gain (view l.at.edges l.at.nodes l.initial.w l.initial.d))

@@ -3,11 +3,10 @@ use Rattle.merge.proofs.Walks.{Raise}
 use Rattle.merge.specs.Inside.Steps.{walk_raise}
 use Rattle.merge.specs.Inside.Tables.{view}
 use Rattle.merge.specs.Inside.Table.{rlen}
-use Rattle.std.proofs.Common.{◌-◌, get_or}
+use Rattle.std.proofs.Common.{get_or}
 use Rattle.merge.proofs.merge.walk_raise.Given as goal
 
-abbrev pub invariant-loop-i : goal.invariant-loop-i
-invariant-loop-i l = Raise l.m l.n l.g l.initial.w l.w l.d l.l l.x l.i (walk_raise (get_or ((view l.m l.n l.initial.w l.d).at rlen) l.v 0) l.g (view l.m l.n l.initial.w l.d) l.v)
-
-abbrev pub decreases-loop-i : goal.decreases-loop-i
-decreases-loop-i l = l.l - l.i
+abbrev pub invariant-loop : goal.invariant-loop
+invariant-loop l =
+    let s = view l.at.edges l.at.nodes l.initial.w l.d in
+    Raise l.at.edges l.at.nodes l.g l.w l.d l.l l.x l.counter (walk_raise (get_or (s.at rlen) l.v 0) l.g s l.v)

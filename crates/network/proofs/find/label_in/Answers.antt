@@ -1,15 +1,6 @@
 -- `network::find::label_in` meets its contract. Assumes nothing.
-use Rattle.network.proofs.LimitLaws.{limits_room, regions_ask, regions_left}
+use Rattle.network.proofs.LimitLaws.{regions_ask, regions_left}
 use Rattle.network.proofs.find.label_in.Goals as goal
-
-pub limits-m-requires : goal.limits-m-requires
-limits-m-requires c = record { planned = c.requires.limited.planned; in_bounds = c.requires.in_bounds }
-
-pub slice_bounds-label_gates-end : goal.slice_bounds-label_gates-end
-slice_bounds-label_gates-end c =
-    let a = c.args in
-    let l = c.limits-m in
-    limits_room a.o a.p a.velocity.now a.valid.now a.work.now c.requires.limited a.out.now l.new.out l.result l.ensures.value l.ensures.out_after c.requires.in_bounds
 
 pub label_gates-requires : goal.label_gates-requires
 label_gates-requires c =

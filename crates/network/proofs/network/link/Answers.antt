@@ -1,12 +1,23 @@
 -- `network::network::link` meets its contract. Assumes nothing.
-use Rattle.merge.specs.Inside.Table.{elen}
-use Rattle.merge.proofs.View.{read}
-use Rattle.network.proofs.BeginDoes.{link_does}
-use native.Mathlib.Omega.{arith}
+use Rattle.merge.specs.Inside.Table.{enext, elen}
+use Rattle.merge.specs.Inside.Tables.{store}
+use Rattle.network.specs.Inside.Begin.{link_at}
+use Rattle.merge.proofs.Stores.{holding, word, stored, swapped, leaves}
+use Rattle.std.proofs.Common.{ℕ, ◌+◌, ◌*◌, refl, ap, arith}
 use Rattle.network.proofs.network.link.Goals as goal
 
-pub overflow_add-w-4 : goal.overflow_add-w-4
-overflow_add-w-4 c = let a = c.args in omega (arith, c.requires.a_bound, read elen a.m a.n a.w.now a.d.now a.a c.requires.a_lt_n.0)
+pub overflow_add-w : goal.overflow_add-w
+unfolding store
+overflow_add-w c =
+    let a = c.args in
+    let p = c.requires in
+    let h = swapped (holding p.holds_tables) enext refl (2 * a.at.edges + a.a) a.i (omega arith) (omega arith) in
+    rw (c.swap.ensures.after, c.head.ensures, c.slot.ensures, c.slot_length.ensures) (omega (arith, p.length_fits, word h elen a.a p.node_in))
 
 pub returns : goal.returns
-returns c = let a = c.args in link_does a.m a.n a.w.now a.d.now c.requires.holds_tables a.a a.i c.requires.a_lt_n.0 c.requires.a_lt_n.1
+unfolding link_at store
+returns c =
+    let a = c.args in
+    let p = c.requires in
+    let h = swapped (holding p.holds_tables) enext refl (2 * a.at.edges + a.a) a.i (omega arith) (omega arith) in
+    rw (c.swap.ensures.after, c.head.ensures, c.slot.ensures, c.slot_length.ensures) (leaves (stored h elen refl a.a _ _ p.node_in (ap (λ (y : ℕ). y + 1) (word h elen a.a p.node_in))))

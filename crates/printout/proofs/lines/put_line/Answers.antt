@@ -1,37 +1,28 @@
--- `printout::lines::put_line` meets its contract. The invariant: the first i counts are stored, and `end` is the place after them. Assumes nothing.
-use native.Mathlib.Omega.{arith}
-use mathlib.Core.Path.{subst, refl, ◌∙◌}
-use lib.IntN.{ℤ, pos}
-use lib.ListN.{get_or}
-use mir.ValLaws.{to_z-of_z}
-use mir.Val.{SFits}
-use mir.Syntax.{w32}
-use Rattle.printout.specs.Text.{count_text}
-use Rattle.printout.proofs.TextLaws.{Written, no_counts, gap_room, count_turn, line_end}
-use Rattle.printout.proofs.CountLaws.{count_room}
+-- `printout::lines::put_line` meets its contract, by whether a number is the first. Assumes nothing.
+use Rattle.std.proofs.Common.{◌≡◌, [], ◌∷◌, ◌++◌, length, ap, ◌∙◌, arith, length-append}
+use Rattle.arrayvec.specs.ArrayString.{ArrayString}
+use Rattle.printout.proofs.LineLaws.{no_numbers, first_number, next_number, line_whole}
+use Rattle.printout.proofs.lines.put_line.Goals.{then-later, else-later}
 use Rattle.printout.proofs.lines.put_line.Goals as goal
 
 pub loop-i-init : goal.loop-i-init
-loop-i-init c = let s = c.args in (omega arith, no_counts s.text.now s.at s.counts.now, omega arith, refl)
-
-pub put_count-end-requires : goal.put_count-end-requires
-put_count-end-requires c =
-    let l = c.loop-i in let g = c.put_gap-from in
-    omega (arith, g.auto.text, g.ensures.1, gap_room l.i, l.invariant.2, l.invariant.3, c.requires)
+loop-i-init g c = record { appended = no_numbers g.N.Number.as_text c.args.numbers.now c.args.text.now.bytes; short = omega arith }
 
 pub loop-i-preserved : goal.loop-i-preserved
-loop-i-preserved c =
-    let s = c.args in let l = c.loop-i in let g = c.put_gap-from in let n = c.put_count-end in
-    let z : ℤ = get_or s.counts.now l.i (pos 0) in
-    let f : SFits w32 z = record { sfits = c.put_count-arg-in-loop-i-1.given } in
-    let e : Written g.new.text g.result (count_text z) n.new.text n.result = subst (λ (y : ℤ). Written g.new.text g.result (count_text y) n.new.text n.result) (to_z-of_z w32 z f) n.ensures in (
-      omega arith,
-      count_turn s.text.now l.text g.new.text n.new.text s.at l.end g.result n.result s.counts.now l.i (pos 0) c.loop-i-test.true l.invariant.1 g.ensures e,
-      omega (arith, e.1, g.ensures.1, gap_room l.i, count_room z f, l.invariant.2),
-      n.auto.text ∙ g.auto.text ∙ l.invariant.3,
-    )
+loop-i-preserved g c =
+    let s = c.args in let l = c.loop-i in let x = c.index-numbers-i in
+    elim c.if-later.branch [
+      | then-later w ↦
+          let a : c.if-later.text.bytes ≡ l.text.bytes ++ (32 ∷ []) = ap (λ (t : ArrayString). t.bytes) w.text-is ∙ w.push.ensures.ascii (omega arith) in
+          let e = next_number g.N.Number.as_text s.numbers.now s.text.now.bytes l.i x.result c.loop-i-test.true x.is w.if-later.true in
+          record { appended = cc; short = omega (arith, simp length-append at (ap length a)) }
+      | else-later w ↦
+          let a : c.if-later.text.bytes ≡ l.text.bytes = ap (λ (t : ArrayString). t.bytes) w.text-is in
+          let e = first_number g.N.Number.as_text s.numbers.now s.text.now.bytes l.i x.result c.loop-i-test.true x.is w.if-later.false in
+          record { appended = cc; short = omega (arith, ap length a) }
+    ]
 
-pub returns : goal.returns
-returns c =
-    let s = c.args in let l = c.loop-i in
-    let w = line_end s.text.now l.text s.at l.end s.counts.now l.i (omega arith) l.invariant.1 in (w.0, w.1, omega (arith, l.invariant.0, l.invariant.2))
+pub returns-clause-appended : goal.returns-clause-appended
+returns-clause-appended g c =
+    let a = c.push-2.ensures.ascii (omega arith) in
+    let e = line_whole g.N.Number.as_text c.args.numbers.now c.args.text.now.bytes c.loop-i.i c.loop-i-test.false in cc

@@ -1,9 +1,18 @@
 -- `replay::raise::is_near` meets its contract. Assumes nothing.
-use Rattle.replay.proofs.RecordLaws.{near_above, near_below}
+use Rattle.std.proofs.Common.{◌≡◌, ◌&&◌, ◌∙◌, ℤ, pos, negsuc, arith}
+use Rattle.std.proofs.lemmas.Bool.Decides.{nat_tests}
+use Rattle.std.proofs.lemmas.Int.{to_z-of_z}
+use Rattle.std.specs.Int.{w32}
+use Rattle.std.specs.Ordering.{int_cmp, as_partial_cmp, partial_le}
+use Rattle.network.specs.Network.{bounded}
+use Rattle.replay.specs.Record.{is_near}
 use Rattle.replay.proofs.raise.is_near.Goals as goal
 
-pub returns-then-count-geminus100000 : goal.returns-then-count-geminus100000
-returns-then-count-geminus100000 c = near_above c.args.count c.ranges.count c.if-count-geminus100000.true
+-- the range, from both its ends
+near_range : (z : ℤ) → (partial_le (as_partial_cmp int_cmp) (negsuc 99999) z && partial_le (as_partial_cmp int_cmp) z (pos 100000)) ≡ is_near z
+unfolding is_near bounded
+near_range (pos n) = grind (arith, nat_tests)
+near_range (negsuc n) = grind (arith, nat_tests)
 
-pub returns-else-count-geminus100000 : goal.returns-else-count-geminus100000
-returns-else-count-geminus100000 c = near_below c.args.count c.ranges.count c.if-count-geminus100000.false
+pub returns : goal.returns
+returns c = c.contains.ensures.value ∙ rw (to_z-of_z w32 c.args.count c.ranges.count, c.new.ensures.start, c.new.ensures.end, c.new.ensures.exhausted) (near_range c.args.count)

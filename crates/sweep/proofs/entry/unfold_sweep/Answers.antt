@@ -1,22 +1,21 @@
 -- `sweep::entry::unfold_sweep` meets its contract. Assumes nothing.
-use borrow.Rule.Slice.PartMut.{Post-is}
-use Rattle.std.proofs.Common.{◌+◌, ◌-◌, ◌*◌, ◌≤◌, length, take, arith}
+use Rattle.std.proofs.Common.{◌+◌, ◌*◌, ◌≤◌, length, take, sym, refl, arith}
 use Rattle.memory.specs.Size.{gates_of_largest}
 use Rattle.sweep.proofs.WorkLaws.{length_taken}
 use Rattle.sweep.proofs.EndLaws.{small, words_room, floats_room, finds_ask, outputs, solved_ends}
-use Rattle.sweep.specs.Entry.{sweep_by}
+use Rattle.sweep.specs.Entry.{sweep_in}
 use Rattle.sweep.specs.Call.{memory_of}
 use Rattle.sweep.proofs.entry.unfold_sweep.Goals.{Start}
 use Rattle.sweep.proofs.entry.unfold_sweep.Goals as goal
 
-few : (c : Start) → length c.args.velocity.now ≤ gates_of_largest
-few c = small (sweep_by c.args.o c.args.velocity.now c.args.valid.now) (memory_of c.args.folds.now c.args.doubtful.now c.args.pair.now c.args.words.now c.args.floats.now) c.requires.floats_value
+few : (c : Start) → length c.args.s.velocity.now ≤ gates_of_largest
+few c = small (sweep_in c.args.s) (memory_of c.args.folds.now c.args.doubtful.now c.args.pair.now c.args.words.now c.args.floats.now) c.requires.seven_yes
 
-words_are : (c : Start) → 96 * length c.args.velocity.now + 64 ≤ length c.args.words.now
-words_are c = words_room (sweep_by c.args.o c.args.velocity.now c.args.valid.now) (memory_of c.args.folds.now c.args.doubtful.now c.args.pair.now c.args.words.now c.args.floats.now) c.requires.floats_value
+words_are : (c : Start) → 96 * length c.args.s.velocity.now + 64 ≤ length c.args.words.now
+words_are c = words_room (sweep_in c.args.s) (memory_of c.args.folds.now c.args.doubtful.now c.args.pair.now c.args.words.now c.args.floats.now) c.requires.seven_yes
 
-floats_are : (c : Start) → 16 * length c.args.velocity.now + 16 ≤ length c.args.floats.now
-floats_are c = floats_room (sweep_by c.args.o c.args.velocity.now c.args.valid.now) (memory_of c.args.folds.now c.args.doubtful.now c.args.pair.now c.args.words.now c.args.floats.now) c.requires.floats_value
+floats_are : (c : Start) → 16 * length c.args.s.velocity.now + 16 ≤ length c.args.floats.now
+floats_are c = floats_room (sweep_in c.args.s) (memory_of c.args.folds.now c.args.doubtful.now c.args.pair.now c.args.words.now c.args.floats.now) c.requires.seven_yes
 
 pub overflow_mul-w : goal.overflow_mul-w
 overflow_mul-w c = record { fits = omega (arith, few (goal.at.overflow_mul-w c).Start) }
@@ -34,17 +33,23 @@ pub slice_bounds-solve-end : goal.slice_bounds-solve-end
 slice_bounds-solve-end c = words_are (goal.at.slice_bounds-solve-end c).Start
 
 pub slice_bounds-solve-end-2 : goal.slice_bounds-solve-end-2
-slice_bounds-solve-end-2 c = floats_are (goal.at.slice_bounds-solve-end-2 c).Start
+slice_bounds-solve-end-2 c = sym (length_taken _ c.args.words.now (words_are (goal.at.slice_bounds-solve-end-2 c).Start))
+
+pub slice_bounds-solve-end-3 : goal.slice_bounds-solve-end-3
+slice_bounds-solve-end-3 c = floats_are (goal.at.slice_bounds-solve-end-3 c).Start
+
+pub slice_bounds-solve-end-4 : goal.slice_bounds-solve-end-4
+slice_bounds-solve-end-4 c = sym (length_taken _ c.args.floats.now (floats_are (goal.at.slice_bounds-solve-end-4 c).Start))
 
 pub solve-requires : goal.solve-requires
 solve-requires c =
     let m = memory_of c.args.folds.now c.args.doubtful.now c.args.pair.now c.args.words.now c.args.floats.now in
-    let a = c.args in record { finds = finds_ask a.o a.p a.velocity.now a.valid.now m c.requires.floats_value c.requires.fit _ _ (length_taken _ a.words.now (words_are (goal.at.solve-requires c).Start)) (length_taken _ a.floats.now (floats_are (goal.at.solve-requires c).Start)); folds_len = outputs a.o a.p a.velocity.now a.valid.now m c.requires.floats_value }
+    let a = c.args in record { finds = finds_ask a.s.options a.p a.s.velocity.now a.s.valid.now m c.requires.seven_yes c.requires.fit _ _ (length_taken _ a.words.now (words_are (goal.at.solve-requires c).Start)) (length_taken _ a.floats.now (floats_are (goal.at.solve-requires c).Start)); long = outputs a.s.options a.p a.s.velocity.now a.s.valid.now m c.requires.seven_yes }
 
 pub returns : goal.returns
 returns c =
     let u = c.solve in
     let a = c.args in
-    solved_ends a.o a.p a.velocity.now a.valid.now (memory_of c.args.folds.now c.args.doubtful.now c.args.pair.now c.args.words.now c.args.floats.now) c.requires.floats_value _ (take (96 * length a.velocity.now + 64 - 0) a.words.now)
-    (take (16 * length a.velocity.now + 16 - 0) a.floats.now) (length_taken _ a.words.now (words_are (goal.at.returns c).Start)) (length_taken _ a.floats.now (floats_are (goal.at.returns c).Start)) _ u.ensures _ _
-    (Post-is 0 (96 * length a.velocity.now + 64) a.words.now (omega arith)) (Post-is 0 (16 * length a.velocity.now + 16) a.floats.now (omega arith))
+    solved_ends a.s.options a.p a.s.velocity.now a.s.valid.now (memory_of c.args.folds.now c.args.doubtful.now c.args.pair.now c.args.words.now c.args.floats.now) c.requires.seven_yes _ (take (96 * length a.s.velocity.now + 64) a.words.now)
+    (take (16 * length a.s.velocity.now + 16) a.floats.now) (length_taken _ a.words.now (words_are (goal.at.returns c).Start)) (length_taken _ a.floats.now (floats_are (goal.at.returns c).Start)) _ u.ensures _ _
+    refl refl

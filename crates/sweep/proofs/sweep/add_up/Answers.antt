@@ -1,15 +1,15 @@
 -- `sweep::sweep::add_up` meets its contract. Assumes nothing.
 use Rattle.sweep.proofs.SumLaws.{Turn, turn, sums_begin, sums_end}
 use Rattle.sweep.specs.Inside.Mean.{size_at, held_at}
-use Rattle.std.proofs.Common.{◌∙◌, arith}
+use Rattle.std.proofs.Common.{◌≡◌, ◌∙◌, arith}
 use Rattle.sweep.proofs.sweep.add_up.Goals.{In-loop-l}
 use Rattle.sweep.proofs.sweep.add_up.Goals as goal
 
 at : (c : In-loop-l) → Turn c.args.w.now c.args.n c.args.k c.requires c.loop-l.gates c.loop-l.held c.loop-l.l
-at c = let a = c.args in let i = c.loop-l in turn a.w.now a.n a.k c.requires i.gates i.held i.l c.loop-l-test.true i.invariant.0 i.invariant.1.0 i.invariant.1.1
+at c = let a = c.args in let i = c.loop-l in turn a.w.now a.n a.k c.requires i.gates i.held i.l c.loop-l-test.true c.loop-l.invariant.few i.invariant.gates i.invariant.held
 
 pub loop-l-init : goal.loop-l-init
-loop-l-init c = let a = c.args in (omega arith, (sums_begin a.w.now a.n a.k c.requires (size_at a.w.now a.n), sums_begin a.w.now a.n a.k c.requires (held_at a.w.now a.n a.k)))
+loop-l-init c = let a = c.args in record { some = omega arith; few = omega arith; gates = sums_begin a.w.now a.n a.k c.requires (size_at a.w.now a.n); held = sums_begin a.w.now a.n a.k c.requires (held_at a.w.now a.n a.k) }
 
 pub overflow_add-s : goal.overflow_add-s
 overflow_add-s c = omega (arith, at (c))
@@ -50,14 +50,14 @@ overflow_mul-held c = omega (arith, at (goal.at.overflow_mul-held c).In-loop-l)
 pub overflow_add-held : goal.overflow_add-held
 overflow_add-held c = omega (arith, at (goal.at.overflow_add-held c).In-loop-l)
 
-pub overflow_sub-l : goal.overflow_sub-l
-overflow_sub-l c = omega (arith, c.loop-l-test.true)
-
-pub loop-l-smaller : goal.loop-l-smaller
-loop-l-smaller c = omega (arith, c.loop-l-test.true)
-
 pub loop-l-preserved : goal.loop-l-preserved
-loop-l-preserved c = (omega (arith, c.loop-l.invariant.0), ((at (goal.at.loop-l-preserved c).In-loop-l).gates_next, (at (goal.at.loop-l-preserved c).In-loop-l).held_next))
+loop-l-preserved c = let t = at (goal.at.loop-l-preserved c).In-loop-l in record { some = omega (arith, c.loop-l-test.true); few = omega (arith, c.loop-l.invariant.few); gates = t.gates_next; held = t.held_next }
 
 pub returns : goal.returns
-returns c = let a = c.args in let i = c.loop-l in (i.invariant.1.0 ∙ sums_end a.w.now a.n a.k c.requires (size_at a.w.now a.n) i.l (omega (arith, c.loop-l-test.false)), i.invariant.1.1 ∙ sums_end a.w.now a.n a.k c.requires (held_at a.w.now a.n a.k) i.l (omega (arith, c.loop-l-test.false)))
+returns c =
+    let a = c.args in
+    let i = c.loop-l in
+    let e : i.l ≡ 1 = omega (arith, i.invariant.some, c.loop-l-test.false) in (
+      i.invariant.gates ∙ sums_end a.w.now a.n a.k c.requires (size_at a.w.now a.n) i.l e,
+      i.invariant.held ∙ sums_end a.w.now a.n a.k c.requires (held_at a.w.now a.n a.k) i.l e,
+    )

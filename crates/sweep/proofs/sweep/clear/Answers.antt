@@ -1,7 +1,9 @@
 -- `sweep::sweep::clear` meets its contract. Assumes nothing.
-use Rattle.std.proofs.Common.{refl, ◌∙◌}
-use Rattle.sweep.proofs.FillLaws.{put_all}
+use Rattle.std.proofs.Common.{rules}
+use lib.Ieee.{of_int, of_bits}
+use Rattle.arithmetic.specs.Rounding.{real}
 use Rattle.sweep.proofs.sweep.clear.Goals as goal
 
 pub returns : goal.returns
-returns c = record { words_after = c.fill.ensures ∙ put_all c.args.words.now 0 _ refl; floats_after = c.clear_floats.ensures }
+unfolding real of_int of_bits
+returns c = record { words_after = search rules; floats_after = c.fill-2.ensures.after (λ y e. e) }

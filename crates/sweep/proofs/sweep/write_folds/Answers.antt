@@ -46,12 +46,6 @@ fold_of-requires c =
 pub bounds-folds-g : goal.bounds-folds-g
 bounds-folds-g c = omega (arith, c.loop-g-test.true, c.requires.counts, c.loop-g.invariant.1.1)
 
-pub overflow_add-g : goal.overflow_add-g
-overflow_add-g c = omega (arith, c.loop-g-test.true, c.requires.room)
-
-pub loop-g-smaller : goal.loop-g-smaller
-loop-g-smaller c = omega (arith, c.loop-g-test.true)
-
 pub loop-g-preserved : goal.loop-g-preserved
 unfolding counts_at
 loop-g-preserved c =

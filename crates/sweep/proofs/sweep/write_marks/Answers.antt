@@ -44,12 +44,6 @@ overflow_cast-doubtful c =
 pub bounds-doubtful-g : goal.bounds-doubtful-g
 bounds-doubtful-g c = omega (arith, c.loop-g-test.true, c.requires.bytes, c.loop-g.invariant.1.1)
 
-pub overflow_add-g : goal.overflow_add-g
-overflow_add-g c = omega (arith, c.loop-g-test.true, c.requires.room)
-
-pub loop-g-smaller : goal.loop-g-smaller
-loop-g-smaller c = omega (arith, c.loop-g-test.true)
-
 pub loop-g-preserved : goal.loop-g-preserved
 unfolding marks_at
 loop-g-preserved c =

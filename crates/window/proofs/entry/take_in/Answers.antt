@@ -1,5 +1,5 @@
 -- `window::entry::take_in` meets its contract. Assumes nothing.
-use Rattle.sweep.specs.Velocity.{counted}
+use Rattle.sweep.specs.Velocity.{counted_in}
 use Rattle.window.specs.Window.{window_of}
 use Rattle.window.proofs.RingNumbers.{after_below, more_few}
 use Rattle.window.proofs.TakeLaws.{Ready, ready, held_now, taken_in}
@@ -10,20 +10,14 @@ use Rattle.window.proofs.entry.take_in.Goals.{Start}
 use Rattle.window.proofs.entry.take_in.Goals as goal
 
 -- what the questions gave
-at : (c : Start) → Ready (counted c.args.rays c.args.gates c.args.nyquist c.args.velocity.now c.args.valid.now c.args.folds.now c.args.labels.now) (window_of c.args.window.now c.args.winds.now c.args.shown.now c.args.picture.now c.args.marks.now)
-at c = ready (counted c.args.rays c.args.gates c.args.nyquist c.args.velocity.now c.args.valid.now c.args.folds.now c.args.labels.now) (window_of c.args.window.now c.args.winds.now c.args.shown.now c.args.picture.now c.args.marks.now) c.requires
+at : (c : Start) → Ready (counted_in c.args.u) (window_of c.args.window.now c.args.winds.now c.args.shown.now c.args.picture.now c.args.marks.now)
+at c = ready (counted_in c.args.u) (window_of c.args.window.now c.args.winds.now c.args.shown.now c.args.picture.now c.args.marks.now) c.requires
 
 pub bounds-window-3 : goal.bounds-window-3
 bounds-window-3 c = omega (arith, (at (goal.at.bounds-window-3 c).Start).words)
 
-pub overflow_cast-p : goal.overflow_cast-p
-overflow_cast-p c = record { fits = omega (arith, (at (goal.at.overflow_cast-p c).Start).next) }
-
 pub bounds-window-2 : goal.bounds-window-2
 bounds-window-2 c = omega (arith, (at (goal.at.bounds-window-2 c).Start).words)
-
-pub overflow_cast-window : goal.overflow_cast-window
-overflow_cast-window c = record { fits = omega (arith, (at (goal.at.overflow_cast-window c).Start).held) }
 
 pub more-held-requires : goal.more-held-requires
 more-held-requires c = (at (goal.at.more-held-requires c).Start).held
@@ -46,7 +40,7 @@ write_shown-requires c = ((at (goal.at.write_shown-requires c).Start).labels ∙
 pub draw-requires : goal.draw-requires
 draw-requires c =
     let w = window_of c.args.window.now c.args.winds.now c.args.shown.now c.args.picture.now c.args.marks.now in
-    let u = counted c.args.rays c.args.gates c.args.nyquist c.args.velocity.now c.args.valid.now c.args.folds.now c.args.labels.now in
+    let u = counted_in c.args.u in
     (held_now u w c.requires _ _ _ _ _ c.more-held.ensures c.after-next.ensures c.oldest-first.ensures c.write_winds.ensures c.write_shown.ensures, (at (goal.at.draw-requires c).Start).picture, (at (goal.at.draw-requires c).Start).marks)
 
 pub overflow_cast-window-2 : goal.overflow_cast-window-2
@@ -64,5 +58,5 @@ bounds-window-3-2 c = omega (arith, (at (goal.at.bounds-window-3-2 c).Start).wor
 pub returns : goal.returns
 returns c =
     let w = window_of c.args.window.now c.args.winds.now c.args.shown.now c.args.picture.now c.args.marks.now in
-    let u = counted c.args.rays c.args.gates c.args.nyquist c.args.velocity.now c.args.valid.now c.args.folds.now c.args.labels.now in
+    let u = counted_in c.args.u in
     taken_in u w c.requires _ _ _ _ _ c.more-held.ensures c.after-next.ensures c.oldest-first.ensures c.write_winds.ensures c.write_shown.ensures _ _ c.draw.ensures.0 c.draw.ensures.1

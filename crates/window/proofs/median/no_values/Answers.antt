@@ -1,8 +1,8 @@
 -- `window::median::no_values` meets its contract. Assumes nothing.
-use lib.Ieee.{of_bits, div}
+use lib.Ieee.{of_bits}
 use mathlib.Core.Path.{refl}
 use Rattle.window.proofs.median.no_values.Goals as goal
 
 pub returns : goal.returns
-unfolding of_bits div
+unfolding of_bits
 returns c = refl

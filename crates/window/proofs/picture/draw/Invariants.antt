@@ -6,8 +6,7 @@ use Rattle.window.specs.Window.{winds_from}
 use Rattle.window.specs.Median.{median, mark}
 use mathlib.Core.Path.{◌≡◌}
 use mathlib.Core.List.{List}
-use Prim.Native.Nat.{ℕ, ◌-◌, ◌≤◌}
-use lib.ListN.{length}
+use Prim.Native.Nat.{ℕ}
 use Rattle.window.proofs.picture.draw.Given as goal
 
 -- a gate of the picture, and its mark
@@ -18,8 +17,4 @@ abbrev pub mark_at : List Float → List ℕ → ℕ → ℕ → ℕ → ℕ →
 mark_at ws bs n first held g = mark (winds_from ws bs n g first held)
 
 abbrev pub invariant-loop-g : goal.invariant-loop-g
-invariant-loop-g l = (l.g ≤ l.n) × (l.picture ≡ put l.initial.picture 0 (tabulate l.g (median_at l.winds l.shown l.n l.first l.held))) × (l.marks ≡ put l.initial.marks 0 (tabulate l.g (mark_at l.winds l.shown l.n l.first l.held)))
-    × (length l.picture ≡ length l.initial.picture) × (length l.marks ≡ length l.initial.marks)
-
-abbrev pub decreases-loop-g : goal.decreases-loop-g
-decreases-loop-g l = l.n - l.g
+invariant-loop-g l = (l.picture ≡ put l.initial.picture 0 (tabulate l.g (median_at l.winds l.shown l.n l.first l.held))) × (l.marks ≡ put l.initial.marks 0 (tabulate l.g (mark_at l.winds l.shown l.n l.first l.held)))

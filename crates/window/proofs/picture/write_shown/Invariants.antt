@@ -5,8 +5,8 @@ use Rattle.lists.specs.Inside.Seg.{put}
 use Rattle.sweep.specs.Velocity.{shows_wind}
 use mathlib.Core.Path.{◌≡◌}
 use mathlib.Core.List.{List}
-use Prim.Native.Nat.{ℕ, ◌-◌, ◌≤◌}
-use lib.ListN.{length, get_or}
+use Prim.Native.Nat.{ℕ}
+use lib.ListN.{get_or}
 use Rattle.window.proofs.picture.write_shown.Given as goal
 
 -- a gate's byte, from the slices
@@ -14,7 +14,4 @@ abbrev pub byte_from : List ℕ → List ℕ → ℕ → ℕ
 byte_from ms ls g = cond (shows_wind (get_or ms g 0) (get_or ls g 0)) 1 0
 
 abbrev pub invariant-loop-g : goal.invariant-loop-g
-invariant-loop-g l = (l.g ≤ length l.valid) × (l.shown ≡ put l.initial.shown l.base (tabulate l.g (byte_from l.valid l.labels))) × (length l.shown ≡ length l.initial.shown)
-
-abbrev pub decreases-loop-g : goal.decreases-loop-g
-decreases-loop-g l = length l.valid - l.g
+invariant-loop-g l = l.shown ≡ put l.initial.shown l.base (tabulate l.g (byte_from l.valid l.labels))

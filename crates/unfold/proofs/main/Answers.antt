@@ -1,7 +1,0 @@
--- `unfold::main` is safe: the text that it writes is what `print_file` stored. Assumes nothing.
-use mathlib.Core.Path.{refl}
-use Rattle.lists.proofs.PartLaws.{part}
-use Rattle.unfold.proofs.main.Goals as goal
-
-pub slice_bounds-write_all-end : goal.slice_bounds-write_all-end
-slice_bounds-write_all-end c = part _ _ _ refl c.print_file-p.ensures.1
