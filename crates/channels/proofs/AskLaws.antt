@@ -11,7 +11,7 @@ use Rattle.arithmetic.specs.Rounding.{real}
 use Rattle.arithmetic.specs.declared.intervals.Plan.{Plan}
 use Rattle.network.specs.declared.options.Options.{Options}
 use Rattle.sweep.specs.Questions.{Outcome, first_no, seven_of, room, gates_in, words_for, floats_for}
-use Rattle.sweep.specs.declared.input.Sweep.{Sweep as Lent}
+use Rattle.network.specs.declared.input.Sweep.{Sweep as Lent}
 use Rattle.sweep.specs.Call.{lengths}
 use Rattle.sweep.specs.Entry.{sweep_in}
 use Rattle.sweep.specs.Inside.Planning.{Fit}

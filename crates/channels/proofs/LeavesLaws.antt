@@ -20,7 +20,7 @@ use Rattle.network.specs.Inside.Find.{Finding, shape_of, limits_by, regions_by, 
 use Rattle.network.specs.declared.options.Options.{Options}
 use Rattle.network.proofs.LogIs.{entries_same}
 use Rattle.network.proofs.BookLaws.{merges_less}
-use Rattle.sweep.specs.declared.input.Sweep.{Sweep as Lent}
+use Rattle.network.specs.declared.input.Sweep.{Sweep as Lent}
 use Rattle.channels.specs.Inside.Both.{behind, FindsBoth, LeavesOf, LeavesBoth}
 
 -- what finding asks of a sweep it asks with any words and floats that are enough

@@ -11,7 +11,7 @@ use Rattle.sweep.specs.Sweep.{unfolded}
 use Rattle.sweep.specs.Questions.{asked9}
 use Rattle.sweep.specs.Entry.{sweep_in}
 use Rattle.sweep.specs.Inside.Finish.{outcome_by}
-use Rattle.sweep.specs.declared.input.Sweep.{Sweep as Lent}
+use Rattle.network.specs.declared.input.Sweep.{Sweep as Lent}
 use Rattle.sweep.proofs.SolveLaws as S
 use Rattle.channels.specs.Inside.Both.{behind, FindsBoth, LeavesOf, LeavesBoth, Lengths, WritesBoth}
 use Rattle.channels.specs.declared.both.Findings.{Findings}

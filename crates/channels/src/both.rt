@@ -14,7 +14,7 @@ ghost use Rattle.channels.specs.Inside.Both.{behind, FindsBoth, LeavesBoth, leng
 use arithmetic::intervals::Plan;
 use memory::layout;
 use network::find::{self, Finding};
-use sweep::input::Sweep;
+use network::input::Sweep;
 use sweep::refusal::Refusal;
 use sweep::sweep::{clear, write};
 
@@ -31,8 +31,8 @@ fn find_both(h: Sweep, v: Sweep, p: Plan, words: &mut [u32], floats: &mut [f64])
     ensures { LeavesBoth h.entry v.entry p words.new result }
 {
     let at = layout::TABLES * h.velocity.len();
-    let horizontal = find::find(h.options, p, h.velocity, h.valid, words, floats);
-    let vertical = find::find(v.options, p, v.velocity, v.valid, &mut words[at..], floats);
+    let horizontal = find::find(h, p, words, floats);
+    let vertical = find::find(v, p, &mut words[at..], floats);
     Findings {
         horizontal,
         vertical,

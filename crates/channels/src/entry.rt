@@ -15,7 +15,7 @@ ghost use Rattle.channels.specs.Inside.Both.{shared_plan};
 use crate::input::Channels;
 use arithmetic::intervals::{self, Extremes, Plan};
 use memory::layout;
-use sweep::input::Sweep;
+use network::input::Sweep;
 use sweep::questions::{self, Room};
 use sweep::refusal::Refusal;
 

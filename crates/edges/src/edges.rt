@@ -24,8 +24,7 @@ pub struct EdgeRecord {
     pub bridged: u32,
 }
 
-// Rays, gates per ray, the two skips, and whether rays wrap: 1, and a number, since question 7 must see one that is neither 0 nor 1
-// (`options_in_range` of sweep: Questions).
+// Rays, gates per ray, the two skips, and whether rays wrap: 1, and a number, as `next` of specs/Edges and the options take it.
 #[derive(Clone, Copy)]
 pub struct Shape {
     pub rays: usize,
@@ -240,7 +239,7 @@ fn put_edge(
 }
 
 // The sorted pairs gathered into edges: a pair goes on with the record before it, or that is written and another begun. Gives how many.
-// The numbers stand one by one, as C hands them to crates/stages and as `Gathers` and `Gathered` take them: a struct would say no more.
+// The numbers stand one by one, as `Gathers` and `Gathered` take them: a struct would say no more.
 pub fn gather(
     w: &mut [u32],
     d: &mut [f64],

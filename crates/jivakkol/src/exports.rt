@@ -1,6 +1,6 @@
 // The entries that a host calls, under the names and in the order of include/jivakkol.h. Each hands its parameters on whole, and
 // answers by number: what C calls has no Result. The static library (crate jivakkol_c) exports them. Numbers, single slices and a function for each name stay:
-// the C interface.
+// C takes no others, and README names these.
 ghost use Rattle.std.specs.Prelude.{◌≡◌};
 ghost use Rattle.sweep.specs.Call.{call, memory_of, answer_by};
 ghost use Rattle.sweep.specs.Entry.{sweep_of};
@@ -14,8 +14,9 @@ ghost use Rattle.test_sweep.specs.Call.{slices_of, call_test, test_answer_by};
 ghost use Rattle.files.specs.Calls.{call_read, read_answer_by, call_write, written_by, call_size, size_answer_by};
 
 use channels::input::Channels;
+use network::input::Sweep;
 use network::options::Options;
-use sweep::input::{Counted, Sweep};
+use sweep::input::Counted;
 use sweep::refusal::answer;
 
 // A sweep's fold counts and the marks of its doubtful merges, with the numbers of regions and of merges.

@@ -37,7 +37,7 @@ fn holds(lower: f64, upper: f64, x: f32, m: u8) -> bool
     lower <= v && v < upper
 }
 
-// The band of a gate, by halving: 1 + the number of the interval that holds it, or 0.
+// The band of a gate, by halving: 1 + the number of the interval that holds it, or 0. A number and no Option: it is the word that a gate's band is kept in.
 fn band(limits: &[f64], x: f32, m: u8) -> u32
     requires rising { Rising limits.now }
     requires few_limits { length limits.now < 2 ^ 32 }

@@ -11,7 +11,7 @@ ghost use Rattle.map.specs.Map.{map_room, map_lent, map_memory_of, map_answer_by
 
 use arithmetic::intervals::Plan;
 use memory::layout;
-use sweep::input::Sweep;
+use network::input::Sweep;
 use sweep::questions::Room;
 use sweep::refusal::Refusal;
 
@@ -43,7 +43,7 @@ fn label_and_clear(
     ensures words_after { words.new ≡ replicate (length words.old) 0 }
     ensures floats_after { floats.new ≡ replicate (length floats.old) (real (pos 0)) }
 {
-    let k = network::find::label(s.options, p, s.velocity, s.valid, words);
+    let k = network::find::label(s, p, words);
     labels.copy_from_slice(&words[..labels.len()]);
     regions[0] = k;
     sweep::sweep::clear(words, floats);

@@ -8,6 +8,9 @@ ghost use Rattle.lists.specs.Seq.{tabulate};
 ghost use Rattle.network.specs.Network.{size_in};
 ghost use Rattle.network.specs.Inside.Find.{limits_by, regions_by, found_in, network_for, Planned, Limited, Labelled, Few, Merges, Finds, Leaves};
 
+use crate::input::Sweep;
+use crate::options::Options;
+use arithmetic::intervals::Plan;
 use edges::edges::Shape;
 use memory::layout;
 use merge::merge::MergeRefused;
@@ -23,7 +26,7 @@ pub struct Run {
 pub type Finding = Result<Run, MergeRefused>;
 
 // The limits of a plan at the front of `out`, and how many they are.
-pub fn limits(o: crate::options::Options, p: arithmetic::intervals::Plan, out: &mut [f64]) -> usize
+pub fn limits(o: Options, p: Plan, out: &mut [f64]) -> usize
     requires planned { Planned o p }
     requires in_bounds { 10000 ≤ length out.old }
     ensures value { result ≡ at_least0 p.number }
@@ -35,38 +38,31 @@ pub fn limits(o: crate::options::Options, p: arithmetic::intervals::Plan, out: &
 
 // The label of each gate, at the front of `work`, by the limits of a plan, which are written into `out`. The number of regions. Of `work` the
 // labels and 2n + 64 words after them are lent on; the rest is not touched.
-fn label_in(
-    out: &mut [f64],
-    o: crate::options::Options,
-    p: arithmetic::intervals::Plan,
-    velocity: &[f32],
-    valid: &[u8],
-    work: &mut [u32],
-) -> u32
-    requires limited { Limited o p velocity.now valid.now (length work.old) }
+fn label_in(out: &mut [f64], s: Sweep, p: Plan, work: &mut [u32]) -> u32
+    requires limited { Limited s.options p s.velocity.now s.valid.now (length work.old) }
     requires in_bounds { 10000 ≤ length out.old }
-    ensures labelled { Labelled (regions_by o p velocity.now valid.now) (length velocity.now) result work.new }
-    ensures work_unchanged { drop (3 * length velocity.now + 64) work.new ≡ drop (3 * length velocity.now + 64) work.old }
+    ensures labelled { let v = s.entry in Labelled (regions_by v.options p v.velocity.now v.valid.now) (length v.velocity.now) result work.new }
+    ensures work_unchanged { let k = 3 * length s.entry.velocity.now + 64 in drop k work.new ≡ drop k work.old }
 {
-    let m = limits(o, p, out);
-    let end = 3 * velocity.len() + layout::WORDS_MORE;
-    labels::regions::label_gates(o.gates, velocity, valid, &out[0..m], &mut work[0..end])
+    let m = limits(s.options, p, out);
+    let end = 3 * s.velocity.len() + layout::WORDS_MORE;
+    labels::regions::label_gates(
+        s.options.gates,
+        s.velocity,
+        s.valid,
+        &out[0..m],
+        &mut work[0..end],
+    )
 }
 
 // The same, with limits of its own: a sweep of few gates may have more limits than words lent.
-pub fn label(
-    o: crate::options::Options,
-    p: arithmetic::intervals::Plan,
-    velocity: &[f32],
-    valid: &[u8],
-    work: &mut [u32],
-) -> u32
-    requires { Limited o p velocity.now valid.now (length work.old) }
-    ensures labelled { Labelled (regions_by o p velocity.now valid.now) (length velocity.now) result work.new }
-    ensures work_unchanged { drop (3 * length velocity.now + 64) work.new ≡ drop (3 * length velocity.now + 64) work.old }
+pub fn label(s: Sweep, p: Plan, work: &mut [u32]) -> u32
+    requires { Limited s.options p s.velocity.now s.valid.now (length work.old) }
+    ensures labelled { let v = s.entry in Labelled (regions_by v.options p v.velocity.now v.valid.now) (length v.velocity.now) result work.new }
+    ensures work_unchanged { let k = 3 * length s.entry.velocity.now + 64 in drop k work.new ≡ drop k work.old }
 {
     let mut out = [0.0; 10000];
-    label_in(&mut out, o, p, velocity, valid, work)
+    label_in(&mut out, s, p, work)
 }
 
 // Below two regions there is nothing to merge: the sizes, every count 0, which is 1,000 in its table, and no mark.
@@ -83,18 +79,13 @@ fn leave_alone(w: &mut [u32], n: usize, k: usize)
 }
 
 // The k regions of labelled gates, merged: the labels are the first words; sizes, counts, marks and the log of merges lie behind them afterwards.
-pub fn merge_regions(
-    o: crate::options::Options,
-    velocity: &[f32],
-    words: &mut [u32],
-    floats: &mut [f64],
-    k: usize,
-) -> Finding
-    requires { Merges o velocity.now words.old floats.old k }
-    ensures { let f = found_in words.old (length velocity.now) k in
-        Leaves f (network_for o f velocity.now) (length velocity.now) words.new result }
+pub fn merge_regions(s: Sweep, words: &mut [u32], floats: &mut [f64], k: usize) -> Finding
+    requires { Merges s.options s.velocity.now words.old floats.old k }
+    ensures { let v = s.entry in
+        let f = found_in words.old (length v.velocity.now) k in
+        Leaves f (network_for v.options f v.velocity.now) (length v.velocity.now) words.new result }
 {
-    let n = velocity.len();
+    let n = s.velocity.len();
     if k < 2 {
         leave_alone(words, n, k);
         return Ok(Run {
@@ -102,24 +93,26 @@ pub fn merge_regions(
             merges: 0,
         });
     }
-    let two_nyquist = 2.0 * (o.nyquist as f64);
-    let merges = crate::reduce::reduce(words, floats, velocity, Shape::from(o), n, k, two_nyquist)?;
+    let two_nyquist = 2.0 * (s.options.nyquist as f64);
+    let merges = crate::reduce::reduce(
+        words,
+        floats,
+        s.velocity,
+        Shape::from(s.options),
+        n,
+        k,
+        two_nyquist,
+    )?;
     Ok(Run { regions: k, merges })
 }
 
 // The regions of a sweep by the limits of a plan, merged.
-pub fn find(
-    o: crate::options::Options,
-    p: arithmetic::intervals::Plan,
-    velocity: &[f32],
-    valid: &[u8],
-    words: &mut [u32],
-    floats: &mut [f64],
-) -> Finding
-    requires { Finds o p velocity.now valid.now words.old floats.old }
-    ensures { let f = regions_by o p velocity.now valid.now in
-        Leaves f (network_for o f velocity.now) (length velocity.now) words.new result }
+pub fn find(s: Sweep, p: Plan, words: &mut [u32], floats: &mut [f64]) -> Finding
+    requires { Finds s.options p s.velocity.now s.valid.now words.old floats.old }
+    ensures { let v = s.entry in
+        let f = regions_by v.options p v.velocity.now v.valid.now in
+        Leaves f (network_for v.options f v.velocity.now) (length v.velocity.now) words.new result }
 {
-    let k = label(o, p, velocity, valid, words) as usize;
-    merge_regions(o, velocity, words, floats, k)
+    let k = label(s, p, words) as usize;
+    merge_regions(s, words, floats, k)
 }

@@ -2,6 +2,7 @@
 #![tactic(auto)]
 
 pub mod find;
+pub mod input;
 pub mod network;
 pub mod options;
 pub mod reduce;

@@ -16,8 +16,8 @@ use files::bits::velocities_of;
 use files::format::read_u16;
 use files::reader;
 use memory::layout;
+use network::input::Sweep;
 use sweep::entry::dealias_sweep;
-use sweep::input::Sweep;
 use sweep::refusal::Refusal;
 use sweep_book::entry::dealias_sweep_book;
 

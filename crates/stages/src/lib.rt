@@ -31,8 +31,8 @@ ghost use Rattle.sweep.specs.Inside.Finish.{counts_by, marks_by, WritesMarks, Fi
 ghost use Rattle.stages.specs.Answers.{range_number, ran_number};
 
 use merge::places::Places;
+use network::input::Sweep;
 use network::options::Options;
-use sweep::input::Sweep;
 
 // Questions 1 to 7.
 #[unsafe(no_mangle)]

@@ -3,7 +3,7 @@ use Rattle.std.specs.Prelude.{ℕ, List, Float}
 use Rattle.std.proofs.Math.Option.{Option, none, some}
 use Rattle.network.specs.declared.options.Options.{Options}
 use Rattle.sweep.specs.Sweep.{Sweep}
-use Rattle.sweep.specs.declared.input.Sweep.{Sweep as Lent}
+use Rattle.network.specs.declared.input.Sweep.{Sweep as Lent}
 
 -- the sweep that a call's parameters are
 abbrev pub sweep_of : ℕ → ℕ → Float → ℕ → ℕ → ℕ → ℕ → ℕ → List Float → List ℕ → Sweep

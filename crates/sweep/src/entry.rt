@@ -11,11 +11,11 @@ ghost use Rattle.sweep.specs.Call.{call, ending, cleared_for, lengths, memory_of
 ghost use Rattle.sweep.specs.Entry.{sweep_in, answer_of};
 ghost use Rattle.sweep.specs.Inside.Planning.{plan_for, own_plan, Fit};
 
-use crate::input::Sweep;
 use crate::questions::{self, Room};
 use crate::refusal::Refusal;
 use arithmetic::intervals::{self, Extremes, Plan};
 use memory::layout;
+use network::input::Sweep;
 use network::options::Options;
 
 // Question 8, of a least and a greatest velocity in range: the plan of their limits. A plan that is given has at most 10,000, and they never fall.

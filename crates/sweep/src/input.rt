@@ -1,13 +1,4 @@
-// What the entries work on: a sweep with its options, and a sweep with its counts and labels. Nothing is assumed of either.
-use network::options::Options;
-
-// A sweep as a host lends it: the options of the call, and a velocity and a mask byte for each gate.
-#[derive(Clone, Copy)]
-pub struct Sweep<'a> {
-    pub options: Options,
-    pub velocity: &'a [f32],
-    pub valid: &'a [u8],
-}
+// What the second entry and the window work on, beside network's `Sweep`. Nothing is assumed of it.
 
 // A sweep with the fold counts and the labels of its gates, which the second entry and the window take.
 #[derive(Clone, Copy)]

@@ -6,12 +6,13 @@ ghost use Rattle.network.specs.Network.{bounded};
 ghost use Rattle.sweep.specs.Questions.{first_no, seven, room, at_most, words_for, floats_for, size_in_range, lengths_fit, mask_is_bits, velocities_in_range};
 ghost use Rattle.sweep.specs.Entry.{sweep_in};
 ghost use Rattle.sweep.specs.Refusal.{missed_by};
-ghost use Rattle.sweep.specs.Velocity.{counted_in, shows_wind, after_lengths, asked_velocity};
+ghost use Rattle.sweep.specs.Velocity.{counted_in, shows_wind, after_lengths, counted, asked_velocity};
 ghost use Rattle.sweep.specs.Inside.Gates.{gate_asked, gates_asked};
 
-use crate::input::{Counted, Sweep};
+use crate::input::Counted;
 use crate::refusal::Refusal;
 use memory::layout;
+use network::input::Sweep;
 
 // The ranges that the questions ask for.
 const MOST_RAYS: u32 = 720;
@@ -248,7 +249,8 @@ pub fn first_missed(s: Sweep, lent: Room) -> Result<(), Refusal>
 pub fn missed_after_lengths(u: Counted) -> Result<(), Refusal>
     requires { let n = length u.velocity.now in
         (length u.valid.now ≡ n) × (length u.folds.now ≡ n) × (length u.labels.now ≡ n) }
-    ensures { let v = counted_in u.entry in length v.vel ≡ v.rays * v.gates → missed_by result ≡ first_no (after_lengths v) }
+    ensures { let v = counted_in u.entry in (rays gates : ℕ) → length v.vel ≡ rays * gates
+        → missed_by result ≡ first_no (after_lengths (counted rays gates v.nyquist v.vel v.mask v.counts v.labels)) }
 {
     if !mask_is_bits(u.valid) {
         return Err(Refusal::Mask);

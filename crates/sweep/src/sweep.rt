@@ -17,11 +17,11 @@ ghost use Rattle.sweep.specs.Entry.{sweep_in, answer_of};
 ghost use Rattle.sweep.specs.Refusal.{missed_by};
 ghost use Rattle.sweep.specs.Inside.Finish.{offset_by, counts_by, marks_by, WritesMarks, Finishes, WritesFound, lent, outcome_by, all_zero};
 
-use crate::input::Sweep;
 use crate::refusal::Refusal;
 use arithmetic::intervals::Plan;
 use memory::layout;
 use network::find::Finding;
+use network::input::Sweep;
 
 // The gates of all regions, and their counts, with 1,000 added to each, summed over them.
 #[derive(Clone, Copy)]
@@ -166,7 +166,7 @@ pub fn solve(
         answer_by (answer_of (missed_by result)) folds.new doubtful.new pair.new words.new floats.new
         ≡ ending (asked9 (unfolded (sweep_in s.entry) (limits_by s.entry.options p))) (all_zero m) }
 {
-    let f = network::find::find(s.options, p, s.velocity, s.valid, words, floats);
+    let f = network::find::find(s, p, words, floats);
     let r = write(f, s.options.centred, s.valid, words, folds, doubtful, pair);
     clear(words, floats);
     r

@@ -14,7 +14,7 @@ ghost use Rattle.sweep_book.specs.Inside.Entering.{Lends};
 use crate::book::{book_holds, enter_found};
 use arithmetic::intervals::Plan;
 use memory::layout;
-use sweep::input::Sweep;
+use network::input::Sweep;
 use sweep::refusal::Refusal;
 
 // A sweep that passed questions 1 to 8, its limits planned: labels, question 13, merges, then counts, marks, pair and book written and all work
@@ -37,12 +37,12 @@ fn solve(
         book_answer_by (answer_by (answer_of (missed_by result)) folds.new doubtful.new pair.new words.new floats.new) book.new
         ≡ end_book (first_no (later v l (length book.old))) v l (all_zero m) book.old }
 {
-    let k = network::find::label(s.options, p, s.velocity, s.valid, words);
+    let k = network::find::label(s, p, words);
     if !book_holds(k, book.len()) {
         sweep::sweep::clear(words, floats);
         return Err(Refusal::Book);
     }
-    let f = network::find::merge_regions(s.options, s.velocity, words, floats, k as usize);
+    let f = network::find::merge_regions(s, words, floats, k as usize);
     let r = sweep::sweep::write(f, s.options.centred, s.valid, words, folds, doubtful, pair);
     enter_found(f, words, s.velocity.len(), book);
     sweep::sweep::clear(words, floats);

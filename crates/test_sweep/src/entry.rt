@@ -1,5 +1,5 @@
 // The calls that fill a test sweep: questions 1 and 2, then every gate. A refusal changes nothing lent.
-// Size and slices stay parameters: `sweep::input::Sweep` lends slices to be read, with all options, and a struct of these two `&mut` would be built only to be taken apart.
+// Size and slices stay parameters: `network::input::Sweep` lends slices to be read, with all options, and a struct of these two `&mut` would be built only to be taken apart.
 ghost use Rattle.std.specs.Prelude.{◌≡◌};
 ghost use Rattle.std.specs.Result.{result_unwrap_or};
 ghost use Rattle.sweep.specs.Entry.{answer_of};

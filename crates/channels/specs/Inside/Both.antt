@@ -7,7 +7,7 @@ use Rattle.network.specs.Inside.Find.{Finding, regions_by, network_for, Finds, L
 use Rattle.network.specs.declared.options.Options.{Options}
 use Rattle.sweep.specs.Inside.Finish.{WritesFound}
 use Rattle.sweep.specs.Sweep.{Sweep}
-use Rattle.sweep.specs.declared.input.Sweep.{Sweep as Lent}
+use Rattle.network.specs.declared.input.Sweep.{Sweep as Lent}
 use Rattle.sweep.specs.Inside.Planning.{plan_for}
 use Rattle.channels.specs.Call.{shared_range, Channel, TwoMemory, two_memory_of}
 use Rattle.channels.specs.declared.both.Findings.{Findings}

@@ -41,4 +41,4 @@ missed_after_lengths-requires c = let l = long_here c in (l.mask ∙ sym l.vel, 
 
 pub returns : goal.returns
 unfolding asked_velocity
-returns c = c.missed_after_lengths.ensures (long_here (goal.at.returns c).Else-not-lengths_fit).vel ∙ sym (left_2 (goal.at.returns c).Else-not-lengths_fit)
+returns c = c.missed_after_lengths.ensures _ _ (long_here (goal.at.returns c).Else-not-lengths_fit).vel ∙ sym (left_2 (goal.at.returns c).Else-not-lengths_fit)

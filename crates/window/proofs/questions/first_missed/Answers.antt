@@ -31,12 +31,12 @@ returns-in_err-missed_after_lengths c =
     let g = (goal.at.returns-in_err-missed_after_lengths c).In_ok-missed_first in
     let u = counted_in c.args.u in
     let e : c.from_residual-in_err-missed_after_lengths.result ≡ Err c.in_err-missed_after_lengths.field-0.0 = search rules in
-    let a = c.missed_after_lengths.ensures ((sized_here g).vel ∙ gates_are u c.args.w c.args.l) in
+    let a = c.missed_after_lengths.ensures _ _ ((sized_here g).vel ∙ gates_are u c.args.w c.args.l) in
     rw e (sym (missed_after u c.args.w c.args.l (early_yes g) _ (sym a ∙ ap missed_by c.in_err-missed_after_lengths.was)))
 
 -- a yes to those after them
 after_yes : (c : In_ok-missed_after_lengths) → first_no (size_and_lengths (counted_in c.args.u) c.args.w c.args.l) ≡ none → first_no (after_lengths (counted_in c.args.u)) ≡ none
-after_yes c h = sym (c.missed_after_lengths.ensures ((sized _ c.args.w c.args.l h).vel ∙ gates_are (counted_in c.args.u) c.args.w c.args.l)) ∙ ap missed_by c.in_ok-missed_after_lengths.was
+after_yes c h = sym (c.missed_after_lengths.ensures _ _ ((sized _ c.args.w c.args.l h).vel ∙ gates_are (counted_in c.args.u) c.args.w c.args.l)) ∙ ap missed_by c.in_ok-missed_after_lengths.was
 
 pub returns-then-not-same_size : goal.returns-then-not-same_size
 unfolding same_size
