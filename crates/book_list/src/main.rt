@@ -1,7 +1,7 @@
-// Prints for every file of a recorded list a line with `=` and its number, and then what the program `book` prints (printout: `print_list`, `print_book`).
+// Prints for every file of a recorded list a line with `=` and its number, and then what the program `book` prints (printout: `print_list`, `put_book`).
 
 #![tactic(auto)]
 
 fn main() {
-    printout::list::print_list(printout::book::print_book);
+    printout::list::print_list(printout::book::put_book);
 }

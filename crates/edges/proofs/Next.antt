@@ -1,5 +1,5 @@
--- A step of a look stays in the sweep. Assumes nothing.
-use Rattle.std.proofs.Common.{◌≡◌, ℕ, zero, suc, ◌+◌, ◌-◌, ◌*◌, ◌%◌, ◌<◌, Bool, true, false, cond, not, eqb, ltb, leb, refl, ap, ◌∙◌, mod-lt, suc-mul, mul-zero, zero-mul, arith, ltb-true, leb-false}
+-- A step of a look stays in the sweep, and none leaves a ray at its end. Assumes nothing.
+use Rattle.std.proofs.Common.{◌≡◌, ℕ, zero, suc, ◌+◌, ◌-◌, ◌*◌, ◌%◌, ◌<◌, Bool, true, false, cond, not, eqb, ltb, leb, refl, ap, ◌∙◌, mod-lt, suc-mul, mul-zero, zero-mul, arith, ltb-true, eq-eqb, leb-false}
 use native.Mathlib.Nat.{mul-mod_left}
 use mathlib.Core.Option.{none, some, none-ne-some, some-injective}
 use borrow.Author.Tests.{eqb-false}
@@ -17,6 +17,11 @@ holds (suc r) zero g h = absurd (omega (arith, mul-zero (suc r)))
 holds (suc r) (suc k) g h = record { ray = omega arith; gate = omega arith; last = suc-mul r (suc k) ∙ ap (λ (x : ℕ). x * suc k + suc k) (omega arith) }
 
 module _ (s : Shape) (g : ℕ) where
+  -- no step leads on from a ray's last gate
+  pub bottom_none : suc g % s.gates ≡ 0 → next s Bottom g ≡ none
+  unfolding next
+  bottom_none h = rw (eq-eqb (suc g % s.gates) 0 h)
+
   -- the gate reached is in the sweep
   pub next_in : (d : Direction) (h : ℕ) → g < s.rays * s.gates → next s d g ≡ some h → h < s.rays * s.gates
   unfolding next

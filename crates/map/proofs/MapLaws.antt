@@ -1,11 +1,14 @@
 -- The call of the region map by the answer of questions 1 to 8, and over plain memory. Assumes nothing.
-use Prim.Native.Nat.{ℕ, ◌+◌, ◌*◌, ◌≤◌}
+use Prim.Native.Nat.{ℕ, ◌+◌, ◌*◌, ◌≤◌, ◌<◌}
+use native.Mathlib.Omega.{arith}
 use mathlib.Core.Path.{◌≡◌, refl, sym, ap, ◌∙◌}
 use mathlib.Core.List.{List, [], ◌∷◌, ◌++◌}
 use mathlib.Core.Option.{Option, none, some}
 use lib.IntN.{pos}
-use lib.ListN.{length, drop, replicate}
+use lib.ListN.{length, get_or, set, drop, replicate}
 use lib.Ieee.{Float}
+use Rattle.lists.specs.Inside.Seg.{seg, put}
+use Rattle.lists.proofs.SegLaws.{length-put, length-seg, put_snoc, put_nil, seg_snoc, seg_all, seg-put_same}
 use Rattle.memory.specs.Size.{gates_of_largest}
 use Rattle.arithmetic.specs.Rounding.{real}
 use Rattle.arithmetic.specs.Intervals.{limits_of}
@@ -22,6 +25,27 @@ use Rattle.sweep.proofs.PassedLaws.{Passed, passed, two_are}
 use Rattle.sweep.proofs.PlanLaws.{limits_are}
 use Rattle.sweep.proofs.WorkLaws as Work
 use Rattle.map.specs.Map.{MapMemory, MapAnswer, map_answer_by, map_room, map_lent, asked_map, drawn, call_map}
+
+-- ---- the first words of w copied over labels l₀, word by word
+module _ (w l₀ : List ℕ) where
+  pub copy_begin : l₀ ≡ put l₀ 0 (seg w 0 0)
+  unfolding seg
+  copy_begin = sym (put_nil l₀ 0)
+
+  pub copy_on : (l : List ℕ) (g : ℕ) → l ≡ put l₀ 0 (seg w 0 g) → g < length w → set l g (get_or w g 0) ≡ put l₀ 0 (seg w 0 (g + 1))
+  copy_on l g e h =
+      ap (λ (x : List ℕ). set x g (get_or w g 0)) e
+      ∙ ap (λ (j : ℕ). set (put l₀ 0 (seg w 0 g)) j (get_or w g 0)) {x = g} {y = 0 + length (seg w 0 g)} (omega (arith, length-seg w 0 g (omega arith)))
+      ∙ put_snoc l₀ 0 (seg w 0 g) (get_or w g 0)
+      ∙ ap (λ (x : ℕ). put l₀ 0 (seg w 0 g ++ (x ∷ []))) (ap (λ (j : ℕ). get_or w j 0) {x = g} {y = 0 + g} (omega arith))
+      ∙ ap (put l₀ 0) (sym (seg_snoc w 0 g 0 (omega arith)))
+
+  pub copy_all : (l : List ℕ) (g n : ℕ) → l ≡ put l₀ 0 (seg w 0 g) → g ≡ n → length l₀ ≡ n → n ≤ length w → l ≡ seg w 0 n
+  copy_all l g n e q k h =
+      let long : length (seg w 0 n) ≡ n = length-seg w 0 n (omega arith) in
+      e ∙ ap (λ (j : ℕ). put l₀ 0 (seg w 0 j)) q
+      ∙ sym (seg_all (put l₀ 0 (seg w 0 n)) (length (seg w 0 n)) (length-put l₀ 0 (seg w 0 n) ∙ k ∙ sym long))
+      ∙ seg-put_same l₀ 0 (seg w 0 n) (omega arith)
 
 module _ (s : Sweep) (m : MapMemory) where
   -- the call's end by the first no

@@ -1,5 +1,5 @@
 // The call of the region map: questions 1 to 8, then the labels by the sweep's own limits. Labelling knows no wrap.
-ghost use Rattle.std.specs.Prelude.{◌≡◌, [], ◌∷◌, pos, length, replicate};
+ghost use Rattle.std.specs.Prelude.{◌≡◌, ◌≤◌, [], ◌∷◌, pos, length, take, replicate};
 ghost use Rattle.std.proofs.Math.Option.{none};
 ghost use Rattle.arithmetic.specs.Rounding.{real};
 ghost use Rattle.network.specs.Inside.Find.{regions_by, Limited};
@@ -27,6 +27,16 @@ fn room_of(n: usize, labels: usize, regions: usize, words: usize, floats: usize)
     }
 }
 
+// The labels, which lie at the front of the words. By a loop: `copy_from_slice` calls the C library's memmove, which a host need not bring (memory: words `copy`).
+fn copy_labels(w: &[u32], labels: &mut [u32])
+    requires { length labels.old ≤ length w.now }
+    ensures { labels.new ≡ take (length labels.old) w.now }
+{
+    for g in 0..labels.len() {
+        labels[g] = w[g];
+    }
+}
+
 // The labels, which lie at the front of the words, and the number of regions, by the limits of a plan; all work memory lent is zero afterwards.
 fn label_and_clear(
     s: Sweep,
@@ -44,7 +54,7 @@ fn label_and_clear(
     ensures floats_after { floats.new ≡ replicate (length floats.old) (real (pos 0)) }
 {
     let k = network::find::label(s, p, words);
-    labels.copy_from_slice(&words[..labels.len()]);
+    copy_labels(words, labels);
     regions[0] = k;
     sweep::sweep::clear(words, floats);
 }

@@ -8,3 +8,4 @@ pub mod TwoPasses
 pub mod TreeLaws
 pub mod NumberTurn
 pub mod StartsTurn
+pub mod CopyTurn

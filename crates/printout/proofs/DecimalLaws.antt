@@ -1,7 +1,7 @@
--- A number in decimal: what the library writes of an integer is the number's text. Assumes nothing.
-use Rattle.std.proofs.Common.{◌≡◌, ℕ, zero, suc, ◌+◌, ◌/◌, ◌%◌, ◌^◌, ◌≤◌, ◌<◌, List, [], ◌∷◌, ◌++◌, ℤ, pos, negsuc, refl, sym, ap, arith}
+-- A number in decimal: what the library writes of an integer is the number's text, and how long that is. Assumes nothing.
+use Rattle.std.proofs.Common.{◌≡◌, ℕ, zero, suc, ◌+◌, ◌/◌, ◌%◌, ◌^◌, ◌≤◌, ◌<◌, List, [], ◌∷◌, ◌++◌, ℤ, pos, negsuc, length, Fits, w64, refl, sym, ap, le_trans, le_of_eq, arith}
 use Rattle.std.specs.Fmt.{decimal as written, signed_decimal}
-use Rattle.std.proofs.lemmas.Fmt.{AppendsLastDigit, decimal_from_appends, length-decimal-le_succ}
+use Rattle.std.proofs.lemmas.Fmt.{AppendsLastDigit, decimal_from_appends, length-decimal-le_succ, length-decimal-le}
 use mir.Syntax.{w32}
 use mir.Val.{SFits}
 use borrow.Author.Tests.{lt-ltb, le-ltb}
@@ -32,3 +32,16 @@ pub count_same : (z : ℤ) → SFits w32 z → signed_decimal z ≡ count_text z
 unfolding count_text
 count_same (pos n) f = let h : n < 2 ^ 31 = f.sfits in decimal_same n (omega arith)
 count_same (negsuc n) f = let h : n < 2 ^ 31 = f.sfits in ap (λ (t : List ℕ). 45 ∷ t) (decimal_same (suc n) (omega arith))
+
+-- ---- how many bytes a text has
+
+pub decimal_most : (n : ℕ) → Fits w64 n → length (decimal n) ≤ 20
+decimal_most n f = le_trans (le_of_eq (ap length (sym (decimal_same n f.fits)))) (length-decimal-le 20 n (omega arith) (omega (arith, f.fits)) f.fits)
+
+pub decimal_room : (n : ℕ) → n ≤ 2147483648 → length (decimal n) ≤ 10
+decimal_room n h = le_trans (le_of_eq (ap length (sym (decimal_same n (omega arith))))) (length-decimal-le 10 n (omega arith) (omega arith) (omega arith))
+
+pub count_room : (z : ℤ) → SFits w32 z → length (count_text z) ≤ 11
+unfolding count_text
+count_room (pos n) f = let h : n < 2 ^ 31 = f.sfits in le_trans (decimal_room n (omega arith)) (omega arith)
+count_room (negsuc n) f = let h : n < 2 ^ 31 = f.sfits in omega (arith, decimal_room (suc n) (omega arith))

@@ -1,5 +1,5 @@
 // Lines of numbers as text: the numbers of a line in decimal, parted by one space. The caller sees that the text has room.
-ghost use Rattle.std.specs.Prelude.{◌≡◌, ℕ, ◌+◌, ◌*◌, ◌≤◌, List, ◌++◌, length};
+ghost use Rattle.std.specs.Prelude.{◌≡◌, ℕ, ◌+◌, ◌*◌, ◌≤◌, min, List, ◌++◌, length};
 ghost use Rattle.arrayvec.specs.ArrayString.{array_string_len};
 ghost use Rattle.printout.specs.Text.{decimal, count_text, ray_lines};
 ghost use Rattle.printout.specs.Inside.Lines.{line_by};
@@ -15,43 +15,43 @@ pub const MOST_TEXT: usize = 127 * (6 * 12 + 1) + 3 * 21 + 1;
 pub type Text = ArrayString<MOST_TEXT>;
 
 // A number of a line: its text, and how many bytes that has at most.
-pub trait Number: Copy {
+pub trait Number<const CAP: usize>: Copy {
     ghost MOST: { ℕ };
 
     ghost as_text: { Self → List ℕ };
 
-    // Appends the number's text. The bound on its length is for callers, who need not know the number.
-    fn put(self, text: &mut Text)
-        requires { array_string_len text.old + MOST ≤ MOST_TEXT }
+    // Appends the number's text, where there is room for that. A caller who does not know the number finds room for the most bytes.
+    fn put(self, text: &mut ArrayString<CAP>)
+        requires { array_string_len text.old + min (length (as_text self)) MOST ≤ CAP }
         ensures appended { text.new.bytes ≡ text.old.bytes ++ as_text self }
         ensures len { array_string_len text.new ≤ array_string_len text.old + MOST };
 }
 
 // A count. The longest is -2147483648.
-impl Number for i32 {
+impl<const CAP: usize> Number<CAP> for i32 {
     ghost MOST = { 11 };
 
     ghost as_text = { count_text };
 
-    fn put(self, text: &mut Text) {
+    fn put(self, text: &mut ArrayString<CAP>) {
         text.push_str(Buffer::new().format(self));
     }
 }
 
 // A total.
-impl Number for u64 {
+impl<const CAP: usize> Number<CAP> for u64 {
     ghost MOST = { 20 };
 
     ghost as_text = { decimal };
 
-    fn put(self, text: &mut Text) {
+    fn put(self, text: &mut ArrayString<CAP>) {
         text.push_str(Buffer::new().format(self));
     }
 }
 
 // Appends a line.
-pub fn put_line<N: Number>(text: &mut Text, numbers: &[N])
-    requires { array_string_len text.old + (N.MOST + 1) * length numbers.now + 1 ≤ MOST_TEXT }
+pub fn put_line<N: Number<CAP>, const CAP: usize>(text: &mut ArrayString<CAP>, numbers: &[N])
+    requires { array_string_len text.old + (N.MOST + 1) * length numbers.now + 1 ≤ CAP }
     ensures appended { text.new.bytes ≡ text.old.bytes ++ line_by N.as_text numbers.now }
     ensures len { array_string_len text.new ≤ array_string_len text.old + (N.MOST + 1) * length numbers.now + 1 }
 {
@@ -66,9 +66,14 @@ pub fn put_line<N: Number>(text: &mut Text, numbers: &[N])
 }
 
 // Appends a line for each ray. A ray may have no gates, which `chunks` could not take.
-pub fn put_rays(text: &mut Text, counts: &[i32], rays: usize, gates: usize)
+pub fn put_rays<const CAP: usize>(
+    text: &mut ArrayString<CAP>,
+    counts: &[i32],
+    rays: usize,
+    gates: usize,
+)
     requires within { rays * gates ≤ length counts.now }
-    requires room { array_string_len text.old + 12 * (rays * gates) + rays ≤ MOST_TEXT }
+    requires room { array_string_len text.old + 12 * (rays * gates) + rays ≤ CAP }
     ensures appended { text.new.bytes ≡ text.old.bytes ++ ray_lines rays gates counts.now }
     ensures len { array_string_len text.new ≤ array_string_len text.old + 12 * (rays * gates) + rays }
 {

@@ -20,10 +20,10 @@ fn read_file(memory: &mut [u8; LONGEST]) -> Option<&[u8]> {
 }
 
 // Writes a line with `=` and the number of a file, and then its text.
-fn write_answer(answer: Result<Text, Refusal>) {
+fn write_answer(answer: Result<(), Refusal>, text: &Text) {
     io::write_all(1, b"= ");
     match answer {
-        Ok(text) => {
+        Ok(()) => {
             io::write_all(1, b"0\n");
             io::write_all(1, text.as_bytes());
         }
@@ -35,15 +35,17 @@ fn write_answer(answer: Result<Text, Refusal>) {
 }
 
 // Writes an answer to every file of the list.
-pub fn print_list<F: Fn(&[u8]) -> Result<Text, Refusal>>(text_of: F)
-    requires { F.IsAlwaysCallable text_of }
+pub fn print_list<F: Fn(&[u8], &mut Text) -> Result<(), Refusal>>(put_text: F)
+    requires { F.IsAlwaysCallable put_text }
 {
     let mut memory = [0u8; LONGEST];
+    let mut text = Text::new();
     // A loop has to end: no list has as many files.
     for _ in 0..u64::MAX {
         let Some(file) = read_file(&mut memory) else {
             break;
         };
-        write_answer(text_of(file));
+        let answer = put_text(file, &mut text);
+        write_answer(answer, &text);
     }
 }

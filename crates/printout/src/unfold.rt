@@ -1,5 +1,5 @@
 // What the program `unfold` prints for a file, and the steps that `book` shares with it. It assumes nothing of the file.
-ghost use Rattle.std.specs.Prelude.{◌≡◌, ℕ, ◌≤◌, List, ℤ, length, get_or, IfOk, IfErr};
+ghost use Rattle.std.specs.Prelude.{◌≡◌, ℕ, ◌≤◌, List, [], ℤ, length, get_or, IfOk, IfErr, OnErr};
 ghost use Rattle.sweep.specs.Entry.{sweep_in as sweep_of, answer_of};
 ghost use Rattle.sweep.specs.Questions.{refused, outcome};
 ghost use Rattle.sweep.specs.Refusal.{number_of, missed_by};
@@ -8,7 +8,7 @@ ghost use Rattle.files.specs.Questions.{as_sweep};
 ghost use Rattle.printout.specs.Text.{ray_lines};
 ghost use Rattle.printout.specs.Unfold.{file_gates, lent_for, file_outcome, printed_of, printed_with, printed};
 ghost use Rattle.printout.specs.Book.{file_book};
-ghost use Rattle.printout.specs.Inside.Folds.{folds_by, folds_of, Shape, printed_in};
+ghost use Rattle.printout.specs.Inside.Folds.{folds_by, folds_of, Shape, printed_in, put_in};
 ghost use Rattle.printout.specs.Inside.Booked.{booked_by, booked_of};
 
 use crate::lines::{self, Text};
@@ -154,17 +154,50 @@ pub fn print_by<F: FnOnce(&[u8], usize, usize) -> Result<Text, Refusal>>(
     text_of(file, rays, gates)
 }
 
-// The text of a sweep's counts, rays and gates being the file's.
-fn counts_text(file: &[u8], rays: usize, gates: usize) -> Result<Text, Refusal>
-    requires { Shape file.now rays gates }
-    ensures { printed_in result ≡ printed_of (ray_lines (u16_at file.now 3) (u16_at file.now 5)) (file_outcome file.now) }
+// The same in memory lent, which the programs go by: a text is long, and one that is handed back is copied.
+pub fn put_by<F: FnOnce(&[u8], usize, usize, &mut Text) -> Result<(), Refusal>>(
+    file: &[u8],
+    text: &mut Text,
+    put_text: F,
+) -> Result<(), Refusal>
+    ghost form: { List ℤ → List ℕ }
+    requires callable { (rays gates : ℕ) (t : _) → Shape file.now rays gates → t.now.bytes ≡ [] → F.pre put_text file rays gates t }
+    requires prints { (rays gates : ℕ) (t u : _) (r : _) → Shape file.now rays gates → t.now.bytes ≡ [] → F.post put_text file rays gates t r u
+        → put_in r u.now.bytes ≡ printed_of form (file_outcome file.now) }
+    ensures { put_in result text.new.bytes ≡ printed_with form file.now }
+{
+    text.clear();
+    reader::header_fault(file)?;
+    let rays = usize::from(read_u16(file, 3));
+    let gates = usize::from(read_u16(file, 5));
+    if rays * gates > MOST_PRINTED {
+        return Ok(());
+    }
+    put_text(file, rays, gates, text)
+}
+
+// The text of a sweep's counts, rays and gates being the file's, in memory lent. A refusal leaves it empty.
+fn put_counts(file: &[u8], rays: usize, gates: usize, text: &mut Text) -> Result<(), Refusal>
+    requires shape { Shape file.now rays gates }
+    requires empty { text.old.bytes ≡ [] }
+    ensures empty { OnErr result (text.new.bytes ≡ []) }
+    ensures printed { put_in result text.new.bytes ≡ printed_of (ray_lines (u16_at file.now 3) (u16_at file.now 5)) (file_outcome file.now) }
 {
     let mut counts = [0i32; MOST_PRINTED];
     let counts = &mut counts[..rays * gates];
     let mut pair = [0u32; 2];
     unfold_file(file, counts, &mut pair)?;
+    lines::put_rays(text, counts, rays, gates);
+    Ok(())
+}
+
+// The same as a value.
+fn counts_text(file: &[u8], rays: usize, gates: usize) -> Result<Text, Refusal>
+    requires { Shape file.now rays gates }
+    ensures { printed_in result ≡ printed_of (ray_lines (u16_at file.now 3) (u16_at file.now 5)) (file_outcome file.now) }
+{
     let mut text = Text::new();
-    lines::put_rays(&mut text, counts, rays, gates);
+    put_counts(file, rays, gates, &mut text)?;
     Ok(text)
 }
 
@@ -173,4 +206,11 @@ pub fn print_file(file: &[u8]) -> Result<Text, Refusal>
     ensures { printed_in result ≡ printed file.now }
 {
     print_by(file, counts_text)
+}
+
+// The same in memory lent.
+pub fn put_file(file: &[u8], text: &mut Text) -> Result<(), Refusal>
+    ensures { put_in result text.new.bytes ≡ printed file.now }
+{
+    put_by(file, text, put_counts)
 }

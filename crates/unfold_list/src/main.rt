@@ -1,7 +1,7 @@
-// Prints for every file of a recorded list a line with `=` and its number, and then what the program `unfold` prints (printout: `print_list`, `print_file`).
+// Prints for every file of a recorded list a line with `=` and its number, and then what the program `unfold` prints (printout: `print_list`, `put_file`).
 
 #![tactic(auto)]
 
 fn main() {
-    printout::list::print_list(printout::unfold::print_file);
+    printout::list::print_list(printout::unfold::put_file);
 }

@@ -26,6 +26,11 @@ abbrev pub printed_in : Result ArrayString Refusal → Printed
 printed_in (Ok text) = printed_by 0 text.bytes
 printed_in (Err refusal) = printed_by (number_of refusal) []
 
+-- the same of an answer beside the text in memory lent
+abbrev pub put_in : Result Unit Refusal → List ℕ → Printed
+put_in (Ok done) text = printed_by 0 text
+put_in (Err refusal) text = printed_by (number_of refusal) text
+
 -- rays and gates are those of a file's sweep, which has at most 720 rays and 128 gates
 pub record Shape (f : List ℕ) (rays gates : ℕ) : Type 0 where
   pub rays_are : rays ≡ u16_at f 3

@@ -11,7 +11,7 @@ returns c =
     let l = c.label-k in
     let z = c.clear in record {
       found = (
-        c.copy_from_slice.ensures.after ∙ ap (λ (n : ℕ). take n l.new.work) c.requires.long.0 ∙ l.ensures.labelled.labels,
+        c.copy_labels.ensures ∙ ap (λ (n : ℕ). take n l.new.work) c.requires.long.0 ∙ l.ensures.labelled.labels,
         one_set a.regions.now l.result c.requires.long.1 ∙ ap (λ (n : ℕ). n ∷ []) l.ensures.labelled.number,
       );
       words_after = z.ensures.words_after ∙ ap (λ (n : ℕ). replicate n 0) l.auto.work;

@@ -1,11 +1,11 @@
--- `printout::book::rows_text` meets its contract. Assumes nothing.
+-- `printout::book::put_rows` meets its contract. Assumes nothing.
 use Rattle.std.proofs.Common.{rules, ◌≡◌, [], length, get_or, ap, arith}
 use Rattle.printout.specs.Inside.Booked.{column}
 use Rattle.printout.proofs.BookLaws.{no_rows, rows_turn, totals_last}
-use Rattle.printout.proofs.book.rows_text.Goals as goal
+use Rattle.printout.proofs.book.put_rows.Goals as goal
 
 pub loop-row-init : goal.loop-row-init
-loop-row-init c = record { appended = no_rows c.new-text.result.bytes c.new-text.ensures; short = omega (arith, ap length c.new-text.ensures) }
+loop-row-init c = record { appended = no_rows c.args.text.now.bytes c.requires.empty; short = omega (arith, ap length c.requires.empty) }
 
 pub loop-row-preserved : goal.loop-row-preserved
 loop-row-preserved c =
