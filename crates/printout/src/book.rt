@@ -5,7 +5,8 @@ ghost use Rattle.printout.specs.Book.{book_text, file_book, printed_book};
 ghost use Rattle.printout.specs.Inside.Folds.{Shape, printed_in, put_in};
 ghost use Rattle.printout.specs.Inside.Booked.{rows_text};
 
-use crate::lines::{self, Text};
+use crate::lines::Text;
+use crate::numbers;
 use crate::unfold::{self, MOST_PRINTED};
 use memory::layout;
 use sweep::refusal::Refusal;
@@ -25,7 +26,7 @@ fn put_rows(text: &mut Text, rows: &[[i32; layout::ENTRY]])
     ensures { text.new.bytes ≡ rows_text rows.now }
 {
     for row in rows {
-        lines::put_line(text, row);
+        numbers::put_line_into(text, row);
     }
     let weights = rows
         .iter()
@@ -35,7 +36,7 @@ fn put_rows(text: &mut Text, rows: &[[i32; layout::ENTRY]])
         .iter()
         .map(|row| u64::from(row[GATES].unsigned_abs()))
         .sum();
-    lines::put_line(text, &[rows.len() as u64, weights, gates]);
+    numbers::put_line_into(text, &[rows.len() as u64, weights, gates]);
 }
 
 // The text of the merge book of a file's sweep, rays and gates being the file's, in memory lent. A refusal leaves it empty.

@@ -5,4 +5,5 @@ pub mod book;
 pub mod input;
 pub mod lines;
 pub mod list;
+pub mod numbers;
 pub mod unfold;

@@ -1,11 +1,12 @@
-// Lines of numbers as text: the numbers of a line in decimal, parted by one space. The caller sees that the text has room.
-ghost use Rattle.std.specs.Prelude.{◌≡◌, ℕ, ◌+◌, ◌*◌, ◌≤◌, min, List, ◌++◌, length};
+// Lines of numbers as text: the numbers of a line in decimal, parted by one space. The caller sees that the text has room. `Number` and `put_line` are for
+// the text for a file and numbers of any kind; what the programs print goes by those of numbers.rt, for a text of any capacity.
+ghost use Rattle.std.specs.Prelude.{◌≡◌, ℕ, ◌+◌, ◌*◌, ◌≤◌, List, ◌++◌, length};
 ghost use Rattle.arrayvec.specs.ArrayString.{array_string_len};
 ghost use Rattle.printout.specs.Text.{decimal, count_text, ray_lines};
 ghost use Rattle.printout.specs.Inside.Lines.{line_by};
 
+use crate::numbers::{self, NumberIn};
 use arrayvec::ArrayString;
-use itoa::Buffer;
 
 // The longest text is that of 127 entries of six numbers, twelve bytes a number and one a line, and a last line of three numbers of twenty digits, 21 bytes a
 // number and one more. The text of 128 counts on 720 lines has at most 2,256 bytes.
@@ -14,44 +15,45 @@ pub const MOST_TEXT: usize = 127 * (6 * 12 + 1) + 3 * 21 + 1;
 // The text for a file, in memory of its own.
 pub type Text = ArrayString<MOST_TEXT>;
 
-// A number of a line: its text, and how many bytes that has at most.
-pub trait Number<const CAP: usize>: Copy {
+// A number of a line of the text for a file: its text, and how many bytes that has at most. Who implements it may count on room for the most bytes; a
+// `NumberIn` finds room for its own bytes alone.
+pub trait Number: Copy {
     ghost MOST: { ℕ };
 
     ghost as_text: { Self → List ℕ };
 
-    // Appends the number's text, where there is room for that. A caller who does not know the number finds room for the most bytes.
-    fn put(self, text: &mut ArrayString<CAP>)
-        requires { array_string_len text.old + min (length (as_text self)) MOST ≤ CAP }
+    // Appends the number's text. The bound on its length is for callers, who need not know the number.
+    fn put(self, text: &mut Text)
+        requires { array_string_len text.old + MOST ≤ MOST_TEXT }
         ensures appended { text.new.bytes ≡ text.old.bytes ++ as_text self }
         ensures len { array_string_len text.new ≤ array_string_len text.old + MOST };
 }
 
 // A count. The longest is -2147483648.
-impl<const CAP: usize> Number<CAP> for i32 {
+impl Number for i32 {
     ghost MOST = { 11 };
 
     ghost as_text = { count_text };
 
-    fn put(self, text: &mut ArrayString<CAP>) {
-        text.push_str(Buffer::new().format(self));
+    fn put(self, text: &mut Text) {
+        self.put_into(text);
     }
 }
 
 // A total.
-impl<const CAP: usize> Number<CAP> for u64 {
+impl Number for u64 {
     ghost MOST = { 20 };
 
     ghost as_text = { decimal };
 
-    fn put(self, text: &mut ArrayString<CAP>) {
-        text.push_str(Buffer::new().format(self));
+    fn put(self, text: &mut Text) {
+        self.put_into(text);
     }
 }
 
-// Appends a line.
-pub fn put_line<N: Number<CAP>, const CAP: usize>(text: &mut ArrayString<CAP>, numbers: &[N])
-    requires { array_string_len text.old + (N.MOST + 1) * length numbers.now + 1 ≤ CAP }
+// Appends a line. A twin of `put_line_into`, which takes no `Number`: a number there gets along with room for its own bytes.
+pub fn put_line<N: Number>(text: &mut Text, numbers: &[N])
+    requires { array_string_len text.old + (N.MOST + 1) * length numbers.now + 1 ≤ MOST_TEXT }
     ensures appended { text.new.bytes ≡ text.old.bytes ++ line_by N.as_text numbers.now }
     ensures len { array_string_len text.new ≤ array_string_len text.old + (N.MOST + 1) * length numbers.now + 1 }
 {
@@ -79,6 +81,39 @@ pub fn put_rays<const CAP: usize>(
 {
     for r in 0..rays {
         let from = r * gates;
-        put_line(text, &counts[from..from + gates]);
+        numbers::put_line_into(text, &counts[from..from + gates]);
+    }
+}
+
+#[cfg(test)]
+mod tests {
+    use super::*;
+
+    // A number of a caller's own, which asks a byte more than its text may take.
+    #[derive(Clone, Copy)]
+    struct Fold(i32);
+
+    impl Number for Fold {
+        ghost MOST = { 12 };
+
+        ghost as_text = { λ fold. count_text fold.0 };
+
+        fn put(self, text: &mut Text) {
+            self.0.put(text);
+        }
+    }
+
+    #[test]
+    fn puts_numbers(rt: HostRuntime) {
+        let mut text = Text::new();
+        put_line(&mut text, &[0, -2147483648, 2147483647]);
+        put_line(&mut text, &[18446744073709551615u64]);
+        put_line(&mut text, &[Fold(-1), Fold(10)]);
+        7i32.put(&mut text);
+        10u64.put(&mut text);
+        assert_eq!(rt;
+            text.as_str(),
+            "0 -2147483648 2147483647\n18446744073709551615\n-1 10\n710"
+        );
     }
 }

@@ -11,11 +11,11 @@ pub loop-row-preserved : goal.loop-row-preserved
 loop-row-preserved c =
     let l = c.loop-row in
     let six : length (get_or c.args.rows.now l.row-index []) ≡ 6 = search rules in
-    record { appended = rows_turn c.args.rows.now l.row-index c.loop-row-test.true l.text.bytes _ l.invariant.appended c.put_line.ensures.appended; short = omega arith }
+    record { appended = rows_turn c.args.rows.now l.row-index c.loop-row-test.true l.text.bytes _ l.invariant.appended c.put_line_into.ensures.appended; short = omega arith }
 
 pub returns : goal.returns
 returns c =
     let a : c.sum-weights.result ≡ column 2 c.args.rows.now = search rules in
     let g : c.sum-gates.result ≡ column 5 c.args.rows.now = search rules in
     let l = c.loop-row in
-    totals_last c.args.rows.now l.row-index c.loop-row-test.false l.text.bytes _ _ _ l.invariant.appended c.put_line-2.ensures.appended a g
+    totals_last c.args.rows.now l.row-index c.loop-row-test.false l.text.bytes _ _ _ l.invariant.appended c.put_line_into-2.ensures.appended a g

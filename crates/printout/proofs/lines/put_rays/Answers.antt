@@ -8,5 +8,5 @@ loop-r-init g c = let s = c.args in record { appended = no_lines s.text.now.byte
 
 pub loop-r-preserved : goal.loop-r-preserved
 loop-r-preserved g c =
-    let s = c.args in let l = c.loop-r in let e = c.put_line.ensures in
-    record { appended = rays_turn s.text.now.bytes l.text.bytes c.put_line.new.text.bytes l.r s.gates s.counts.now l.invariant.appended e.appended; short = let p = ray_part s.gates l.r s.counts.now in omega arith }
+    let s = c.args in let l = c.loop-r in let e = c.put_line_into.ensures in
+    record { appended = rays_turn s.text.now.bytes l.text.bytes c.put_line_into.new.text.bytes l.r s.gates s.counts.now l.invariant.appended e.appended; short = let p = ray_part s.gates l.r s.counts.now in omega arith }

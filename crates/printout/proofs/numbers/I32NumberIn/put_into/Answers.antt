@@ -1,10 +1,10 @@
--- `put` of a count meets its contract. Assumes nothing.
+-- `put_into` of a count meets its contract. Assumes nothing.
 use Rattle.std.proofs.Common.{◌≡◌, ◌≤◌, length, ap, arith, w32}
 use Rattle.std.proofs.Math.Nat.{min-eq_left}
 use mir.ValLaws.{to_z-of_z}
 use Rattle.printout.specs.Text.{count_text}
 use Rattle.printout.proofs.DecimalLaws.{count_same, count_room}
-use Rattle.printout.proofs.lines.I32Number.put.Goals as goal
+use Rattle.printout.proofs.numbers.I32NumberIn.put_into.Goals as goal
 
 pub push_str-requires : goal.push_str-requires
 push_str-requires g c =

@@ -1,9 +1,9 @@
--- `put` of a total meets its contract. Assumes nothing.
+-- `put_into` of a total meets its contract. Assumes nothing.
 use Rattle.std.proofs.Common.{◌≤◌, length, ap, ◌∙◌, arith}
 use Rattle.std.proofs.Math.Nat.{min-eq_left}
 use Rattle.printout.specs.Text.{decimal}
 use Rattle.printout.proofs.DecimalLaws.{decimal_same, decimal_most}
-use Rattle.printout.proofs.lines.U64Number.put.Goals as goal
+use Rattle.printout.proofs.numbers.U64NumberIn.put_into.Goals as goal
 
 pub push_str-requires : goal.push_str-requires
 push_str-requires g c =
