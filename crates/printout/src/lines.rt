@@ -1,6 +1,6 @@
 // Lines of numbers as text: the numbers of a line in decimal, parted by one space. The caller sees that the text has room. `Number` and `put_line` are for
-// the text for a file and numbers of any kind; what the programs print goes by those of numbers.rt, for a text of any capacity.
-ghost use Rattle.std.specs.Prelude.{◌≡◌, ℕ, ◌+◌, ◌*◌, ◌≤◌, List, ◌++◌, length};
+// the text for a file alone; `put_rays` and the programs go by `NumberIn` and `put_line_into` (numbers.rt), which are for a text of any capacity.
+ghost use Rattle.std.specs.Prelude.{◌≡◌, ℕ, ◌+◌, ◌*◌, ◌≤◌, List, [], ◌∷◌, ◌++◌, length};
 ghost use Rattle.arrayvec.specs.ArrayString.{array_string_len};
 ghost use Rattle.printout.specs.Text.{decimal, count_text, ray_lines};
 ghost use Rattle.printout.specs.Inside.Lines.{line_by};
@@ -15,8 +15,8 @@ pub const MOST_TEXT: usize = 127 * (6 * 12 + 1) + 3 * 21 + 1;
 // The text for a file, in memory of its own.
 pub type Text = ArrayString<MOST_TEXT>;
 
-// A number of a line of the text for a file: its text, and how many bytes that has at most. Who implements it may count on room for the most bytes; a
-// `NumberIn` finds room for its own bytes alone.
+// A number of a line of the text for a file: its text, and how many bytes that has at most. Who implements it is given room for the most bytes; a
+// `NumberIn` is given room for its own bytes alone.
 pub trait Number: Copy {
     ghost MOST: { ℕ };
 
@@ -51,7 +51,7 @@ impl Number for u64 {
     }
 }
 
-// Appends a line. A twin of `put_line_into`, which takes no `Number`: a number there gets along with room for its own bytes.
+// Appends a line. A twin of `put_line_into`, which takes no `Number`: a number there is given room for its own bytes alone.
 pub fn put_line<N: Number>(text: &mut Text, numbers: &[N])
     requires { array_string_len text.old + (N.MOST + 1) * length numbers.now + 1 ≤ MOST_TEXT }
     ensures appended { text.new.bytes ≡ text.old.bytes ++ line_by N.as_text numbers.now }
@@ -89,17 +89,21 @@ pub fn put_rays<const CAP: usize>(
 mod tests {
     use super::*;
 
-    // A number of a caller's own, which asks a byte more than its text may take.
+    // A number of a caller's own that takes more room than its text has bytes: nine digits are put and eight taken off. With room for its own byte alone it
+    // could not be proved.
     #[derive(Clone, Copy)]
-    struct Fold(i32);
+    struct FirstDigit;
 
-    impl Number for Fold {
-        ghost MOST = { 12 };
+    impl Number for FirstDigit {
+        ghost MOST = { 9 };
 
-        ghost as_text = { λ fold. count_text fold.0 };
+        ghost as_text = { λ number. 55 ∷ [] };
 
         fn put(self, text: &mut Text) {
-            self.0.put(text);
+            let end = text.len() + 1;
+            text.push('7');
+            text.push_str("89012345");
+            text.truncate(end);
         }
     }
 
@@ -108,12 +112,12 @@ mod tests {
         let mut text = Text::new();
         put_line(&mut text, &[0, -2147483648, 2147483647]);
         put_line(&mut text, &[18446744073709551615u64]);
-        put_line(&mut text, &[Fold(-1), Fold(10)]);
+        put_line(&mut text, &[FirstDigit, FirstDigit]);
         7i32.put(&mut text);
         10u64.put(&mut text);
         assert_eq!(rt;
             text.as_str(),
-            "0 -2147483648 2147483647\n18446744073709551615\n-1 10\n710"
+            "0 -2147483648 2147483647\n18446744073709551615\n7 7\n710"
         );
     }
 }

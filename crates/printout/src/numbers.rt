@@ -13,7 +13,7 @@ pub trait NumberIn<const CAP: usize>: Copy {
 
     ghost as_text: { Self → List ℕ };
 
-    // Appends the number's text, where there is room for that. A caller who does not know the number finds room for the most bytes.
+    // Appends the number's text, where there is room for that. A caller who does not know the number gives it room for the most bytes.
     fn put_into(self, text: &mut ArrayString<CAP>)
         requires { array_string_len text.old + min (length (as_text self)) MOST ≤ CAP }
         ensures appended { text.new.bytes ≡ text.old.bytes ++ as_text self }
